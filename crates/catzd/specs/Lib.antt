@@ -1,0 +1,5 @@
+pub mod Answering
+pub mod Running
+pub mod Taking
+pub mod Words
+pub mod ZoneLine

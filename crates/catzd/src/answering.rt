@@ -1,0 +1,285 @@
+//! The command `answer`: takes a zone from the first line, and answers each further line as a request.
+
+ghost use Rattle.std.specs.Prelude.{◌≡◌, ◌≤◌, ◌++◌, [], ◌∷◌, Some, None, false, IfOk, IsErrOf, MatchResult, codes};
+ghost use Rattle.std.specs.Option.{ForSome};
+ghost use Rattle.hex.specs.Hex.{encode_lower};
+ghost use Rattle.dz_io.specs.Device.{Gains, GainsPrefix, HasRisen};
+ghost use Rattle.dz_name.specs.Text.{text_of};
+ghost use Rattle.dz_reply.specs.Reply.{reply_of};
+ghost use Rattle.catzd.specs.Answering.{numbered, bad, is_skipped, slot_for, taking_turn, zone_turn, reply_text, request_turn, line_turn, answer_turn, answer_rules, turn_from};
+ghost use Rattle.catzd.specs.Taking.{taking_of};
+ghost use Rattle.catzd.specs.ZoneLine.{octets_in, zone_line};
+
+use crate::taking::{Taking, take_zone};
+use crate::zone_line::{read_octets, read_zone_line};
+use dz_io::{Halt, Script, Sink, put};
+use dz_name::Name;
+use dz_reply::{Transport, Turn, Writer, reply_into};
+use dz_table::{Slot, Table};
+use dz_zone::Version;
+use itoa::Buffer;
+use std::alloc::{AllocError, Global};
+use std::marker::Model;
+use std::sync::Arc;
+
+/// How the input of `answer` ends.
+#[derive(Clone, Copy, Debug, PartialEq, Eq)]
+pub enum End {
+    Done,
+    /// The zone's message isn't a whole transfer of a zone without fault.
+    Unbuilt,
+    BadInput,
+}
+
+/// The table, once the first line was read, and the room for replies.
+#[derive(Drop)]
+pub struct Answering {
+    table: Option<Table>,
+    writer: Writer,
+}
+
+impl Model for Answering {
+    ghost use Rattle.std.specs.Prelude.{List, Option};
+    ghost use Rattle.dz_table.specs.Slots.{SlotOf};
+
+    ghost Value = { Option (List SlotOf) };
+
+    ghost view = { λ a. a.table };
+}
+
+/// A text to be written, and how it ends the input if it does.
+#[derive(Drop)]
+struct Saying {
+    text: Vec<u8>,
+    ending: Option<End>,
+}
+
+impl Answering {
+    pub fn new(writer: Writer) -> Answering
+        ensures { result ≡ None }
+    {
+        Answering {
+            table: None,
+            writer,
+        }
+    }
+
+    #[tactic(auto, unfolding(crate::specs::Answering::answer_turn))]
+    fn take_line(&mut self, alloc: Global, number: u64, line: &[u8]) -> Result<Saying, AllocError>
+        ensures { IfOk result (λ s. answer_turn self.old number line.now ≡ turn_from s.text.items s.ending self.new) }
+    {
+        if is_skipped(line) {
+            return Ok(Saying {
+                text: Vec::new(alloc),
+                ending: None,
+            });
+        }
+        self.take_content(alloc, number, line)
+    }
+
+    #[tactic(auto, unfolding(crate::specs::Answering::line_turn))]
+    fn take_content(
+        &mut self,
+        alloc: Global,
+        number: u64,
+        line: &[u8],
+    ) -> Result<Saying, AllocError>
+        ensures { IfOk result (λ s. line_turn self.old number line.now ≡ turn_from s.text.items s.ending self.new) }
+    {
+        match &self.table {
+            Some(table) => take_request(alloc, number, line, table, &mut self.writer),
+            None => self.take_first(alloc, number, line),
+        }
+    }
+
+    /// Takes the first line.
+    fn take_first(&mut self, alloc: Global, number: u64, line: &[u8]) -> Result<Saying, AllocError>
+        ensures { IfOk result (λ s. zone_turn number (zone_line line.now) ≡ turn_from s.text.items s.ending self.new) }
+    {
+        match read_zone_line(alloc, line)? {
+            None => say_last(alloc, b"bad ", number, End::BadInput),
+            Some((apex, octets)) => self.take_message(alloc, number, &apex, octets.as_slice()),
+        }
+    }
+
+    fn take_message(
+        &mut self,
+        alloc: Global,
+        number: u64,
+        apex: &Name,
+        octets: &[u8],
+    ) -> Result<Saying, AllocError>
+        ensures { IfOk result (λ s. taking_turn apex.now number (taking_of apex.now octets.now) ≡ turn_from s.text.items s.ending self.new) }
+    {
+        match take_zone(alloc, apex, octets)? {
+            Taking::Unbuilt => say_last(alloc, b"unbuilt ", number, End::Unbuilt),
+            Taking::Refused(fault) => {
+                self.table = Some(make_table(alloc, apex, None)?);
+                say(alloc, b"refused message ", u64::from(fault.number()))
+            }
+            Taking::Taken(version) => {
+                let serial = version.soa().serial;
+                self.table = Some(make_table(alloc, apex, Some(version))?);
+                say(alloc, b"taken ", u64::from(serial))
+            }
+        }
+    }
+}
+
+impl Script for Answering {
+    type Ending = End;
+
+    ghost rules = { answer_rules };
+
+    fn turn<K: Sink>(
+        &mut self,
+        alloc: Global,
+        number: u64,
+        line: &[u8],
+        output: &mut K,
+    ) -> Result<Option<End>, Halt> {
+        match self.take_line(alloc, number, line) {
+            Err(_) => Err(Halt::Memory),
+            Ok(saying) => match put(output, saying.text.as_slice()) {
+                Err(halt) => Err(halt),
+                Ok(()) => Ok(saying.ending),
+            },
+        }
+    }
+
+    fn too_long<K: Sink>(
+        &mut self,
+        alloc: Global,
+        number: u64,
+        output: &mut K,
+    ) -> Result<End, Halt> {
+        put_bad(alloc, number, output)
+    }
+
+    #[tactic(auto, unfolding(crate::specs::Answering::answer_finish))]
+    fn finish<K: Sink>(&mut self, alloc: Global, number: u64, output: &mut K) -> Result<End, Halt> {
+        match &self.table {
+            None => put_bad(alloc, number, output),
+            Some(_) => Ok(End::Done),
+        }
+    }
+}
+
+/// Writes `bad` and the number of the line.
+fn put_bad<K: Sink>(alloc: Global, number: u64, output: &mut K) -> Result<End, Halt>
+    ensures done { MatchResult result
+        (λ ending. (ending ≡ End.BadInput) × Gains (bad number) (K.held output.old) (K.held output.new))
+        (λ _. GainsPrefix (bad number) (K.held output.old) (K.held output.new)) }
+    ensures later { K.faults output.old ≤ K.faults output.new }
+    ensures cause { IsErrOf result Halt.Write → HasRisen (K.faults output.old) (K.faults output.new) }
+{
+    match numbered(alloc, b"bad ", number) {
+        Err(_) => Err(Halt::Memory),
+        Ok(text) => match put(output, text.as_slice()) {
+            Err(halt) => Err(halt),
+            Ok(()) => Ok(End::BadInput),
+        },
+    }
+}
+
+/// Takes a line as a request to the table.
+fn take_request(
+    alloc: Global,
+    number: u64,
+    line: &[u8],
+    table: &Table,
+    writer: &mut Writer,
+) -> Result<Saying, AllocError>
+    ensures { IfOk result (λ s. request_turn table.now number (octets_in line.now) ≡ turn_from s.text.items s.ending (Some table.now)) }
+{
+    match read_octets(alloc, line)? {
+        None => say_last(alloc, b"bad ", number, End::BadInput),
+        Some(octets) => Ok(Saying {
+            text: reply_text(alloc, table, octets.as_slice(), writer)?,
+            ending: None,
+        }),
+    }
+}
+
+/// The hex of the reply, `none` or `notify` with a name.
+fn reply_text(
+    alloc: Global,
+    table: &Table,
+    octets: &[u8],
+    writer: &mut Writer,
+) -> Result<Vec<u8>, AllocError>
+    ensures { IfOk result (λ text. text.items ≡ reply_text (reply_of table.now octets.now 0 false)) }
+{
+    match reply_into(table, octets, 0, Transport::Udp, writer) {
+        Turn::Silent => Vec::from_slice(alloc, b"none\n"),
+        Turn::Notify(name) => notify_text(alloc, &name),
+        Turn::Written(_) => hex_text(alloc, writer.written()),
+    }
+}
+
+fn notify_text(alloc: Global, name: &Name) -> Result<Vec<u8>, AllocError>
+    ensures { IfOk result (λ text. text.items ≡ codes "notify " ++ (text_of name.now ++ (10 ∷ []))) }
+{
+    let mut text = Vec::from_slice(alloc, b"notify ")?;
+    text.extend_from_slice(name.print().as_bytes())?;
+    text.push(b'\n')?;
+    Ok(text)
+}
+
+fn hex_text(alloc: Global, octets: &[u8]) -> Result<Vec<u8>, AllocError>
+    ensures { IfOk result (λ text. text.items ≡ encode_lower octets.now ++ (10 ∷ [])) }
+{
+    let mut text = hex::encode(alloc, octets)?.into_bytes();
+    text.push(b'\n')?;
+    Ok(text)
+}
+
+/// The table that holds one zone, refreshed at moment 0.
+#[tactic(auto, unfolding(dz_table::specs::Slots::put))]
+fn make_table(alloc: Global, apex: &Name, version: Option<Version>) -> Result<Table, AllocError>
+    requires { ForSome version (λ v. v.apex ≡ apex.now) }
+    ensures { IfOk result (λ table. table ≡ slot_for apex.now version) }
+{
+    let version = match version {
+        None => None,
+        Some(version) => Some(Arc::new(alloc, version)?),
+    };
+    Table::empty(alloc).with(alloc, Slot::make(*apex, 0, version))
+}
+
+/// Says a word and a number, and goes on.
+fn say(alloc: Global, word: &[u8], number: u64) -> Result<Saying, AllocError>
+    ensures { IfOk result (λ s. (s.text.items ≡ numbered word.now number) × (s.ending ≡ None)) }
+{
+    Ok(Saying {
+        text: numbered(alloc, word, number)?,
+        ending: None,
+    })
+}
+
+/// Says a word and a number, and ends so.
+fn say_last(alloc: Global, word: &[u8], number: u64, ending: End) -> Result<Saying, AllocError>
+    ensures { IfOk result (λ s. (s.text.items ≡ numbered word.now number) × (s.ending ≡ Some ending)) }
+{
+    Ok(Saying {
+        text: numbered(alloc, word, number)?,
+        ending: Some(ending),
+    })
+}
+
+/// A word, a number in decimal, and the end of the line.
+fn numbered(alloc: Global, word: &[u8], number: u64) -> Result<Vec<u8>, AllocError>
+    ensures { IfOk result (λ text. text.items ≡ numbered word.now number) }
+{
+    let mut digits = Buffer::new();
+    let mut text = Vec::from_slice(alloc, word)?;
+    text.extend_from_slice(digits.format(number).as_bytes())?;
+    text.push(b'\n')?;
+    Ok(text)
+}
+
+fn is_skipped(line: &[u8]) -> bool
+    ensures { result ≡ is_skipped line.now }
+{
+    line.is_empty() || line.starts_with(b"#")
+}

@@ -1,0 +1,9 @@
+use Rattle.std.proofs.Common.{◌≡◌, length}
+use Rattle.dz_header.specs.Shape.{behind_owner}
+use Rattle.dz_header.proofs.shape.behind_owner.Given as goal
+
+abbrev pub invariant-labels : goal.invariant-labels
+invariant-labels l = behind_owner 0 l.rest ≡ behind_owner 0 l.octets
+
+abbrev pub decreases-labels : goal.decreases-labels
+decreases-labels l = length l.rest

@@ -1,0 +1,61 @@
+ghost use Rattle.std.specs.Prelude.{◌≡◌, ◌≤◌, length};
+ghost use Rattle.dz_header.specs.Header.{header_of, header_in, header_octets};
+
+use dz_name::numbers::{number_of_two, two};
+
+/// The header of a message (RFC 1035 section 4.1.1): ID, flags with opcode and response code, and the numbers of
+/// questions, answer, authority and additional records.
+#[derive(Clone, Copy, Debug, PartialEq, Eq)]
+pub struct Header {
+    pub id: u16,
+    pub flags: u16,
+    pub counts: [u16; 4],
+}
+
+/// The header in the first twelve octets; none where there are fewer.
+pub fn read_header(message: &[u8]) -> Option<Header>
+    ensures { result ≡ header_of message.now }
+{
+    if message.len() < 12 {
+        None
+    } else {
+        Some(header_in(message))
+    }
+}
+
+#[tactic(auto, unfolding(crate::specs::Header::header_in))]
+fn header_in(message: &[u8]) -> Header
+    requires { 12 ≤ length message.now }
+    ensures { result ≡ header_in message.now }
+{
+    Header {
+        id: number_of_two(message),
+        flags: number_of_two(&message[2..]),
+        counts: [
+            number_of_two(&message[4..]),
+            number_of_two(&message[6..]),
+            number_of_two(&message[8..]),
+            number_of_two(&message[10..]),
+        ],
+    }
+}
+
+/// Writes a header as twelve octets.
+#[tactic(auto, unfolding(crate::specs::Header::header_octets, dz_name::specs::Numbers::two))]
+pub fn write_header(header: &Header, out: &mut [u8; 12])
+    ensures { out.new ≡ header_octets header.now }
+{
+    let [first, second, third, fourth] = header.counts;
+    let [id, flags, first, second, third, fourth] = [
+        two(header.id),
+        two(header.flags),
+        two(first),
+        two(second),
+        two(third),
+        two(fourth),
+    ];
+    *out = [
+        id[0], id[1], flags[0], flags[1], first[0], first[1], second[0], second[1], third[0],
+        third[1], fourth[0], fourth[1],
+    ];
+}

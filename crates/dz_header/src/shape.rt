@@ -1,0 +1,97 @@
+//! Records by their shape alone.
+
+ghost use Rattle.std.specs.Prelude.{◌≡◌, ◌<◌, ◌≤◌, length, take, drop, option_map};
+ghost use Rattle.dz_header.specs.Shape.{behind_owner, behind_fields, shape_of, skipped};
+
+use dz_name::numbers::{number_of_four, number_of_two};
+
+/// What a record shows without its owner and RDATA being read.
+#[derive(Clone, Copy, Debug, PartialEq, Eq)]
+pub struct Shape {
+    /// Whether the owner is the single zero octet, the root.
+    pub root: bool,
+    /// The type's number.
+    pub kind: u16,
+    pub class: u16,
+    pub ttl: u32,
+}
+
+/// The shape of the record at the front of some octets, and what stands behind the record. None where it isn't all
+/// there, or its owner is neither labels and a zero octet nor labels and a pointer.
+#[tactic(auto, unfolding(crate::specs::Shape::shape_of))]
+pub fn read_shape(octets: &[u8]) -> Option<(Shape, &[u8])>
+    ensures { option_map (λ x. (x.0, x.1.now)) result ≡ shape_of octets.now }
+{
+    let rest = behind_owner(octets)?;
+    behind_fields(octets.is_empty() || octets[0] == 0, rest)
+}
+
+/// What stands behind so many records.
+#[tactic(auto, using(crate::proofs::ShapeLemmas::skipped_step, crate::proofs::ShapeLemmas::skipped_done))]
+pub fn skip_records(octets: &[u8], count: u32) -> Option<&[u8]>
+    ensures { option_map (λ rest. rest.now) result ≡ skipped count octets.now }
+{
+    let mut rest = octets;
+    'records: for _ in 0..count {
+        let (_, behind) = read_shape(rest)?;
+        rest = behind;
+    }
+    Some(rest)
+}
+
+/// The fields behind an owner, and what stands behind the record.
+#[tactic(auto, unfolding(crate::specs::Shape::behind_fields))]
+fn behind_fields(root: bool, octets: &[u8]) -> Option<(Shape, &[u8])>
+    ensures { option_map (λ x. (x.0, x.1.now)) result ≡ behind_fields root octets.now }
+{
+    if octets.len() < 10 {
+        return None;
+    }
+    let rest = behind(octets, 10);
+    let size = number_of_two(behind(octets, 8)) as usize;
+    if rest.len() < size {
+        return None;
+    }
+    let shape = Shape {
+        root,
+        kind: number_of_two(octets),
+        class: number_of_two(behind(octets, 2)),
+        ttl: number_of_four(behind(octets, 4)),
+    };
+    Some((shape, behind(rest, size)))
+}
+
+/// What stands behind the owner of a record.
+#[tactic(auto, using(crate::proofs::ShapeLemmas::owner_none, crate::proofs::ShapeLemmas::owner_ends, crate::proofs::ShapeLemmas::owner_label, crate::proofs::ShapeLemmas::owner_cut, crate::proofs::ShapeLemmas::owner_bad, crate::proofs::ShapeLemmas::owner_half, crate::proofs::ShapeLemmas::owner_points))]
+fn behind_owner(octets: &[u8]) -> Option<&[u8]>
+    ensures { option_map (λ rest. rest.now) result ≡ behind_owner 0 octets.now }
+{
+    let mut rest = octets;
+    'labels: while !rest.is_empty() {
+        let size = rest[0] as usize;
+        if size == 0 {
+            return Some(behind(rest, 1));
+        }
+        if size < 64 {
+            if rest.len() <= size {
+                return None;
+            }
+            rest = behind(rest, size + 1);
+        } else if size < 192 {
+            return None;
+        } else if rest.len() == 1 {
+            return None;
+        } else {
+            return Some(behind(rest, 2));
+        }
+    }
+    None
+}
+
+/// What stands behind so many octets.
+fn behind(octets: &[u8], count: usize) -> &[u8]
+    requires { count ≤ length octets.now }
+    ensures { result.now ≡ drop count octets.now }
+{
+    octets.split_at(count).1
+}

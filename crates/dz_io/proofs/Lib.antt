@@ -1,0 +1,5 @@
+pub mod WindowLemmas
+pub mod LineLemmas
+pub mod SplitLemmas
+pub mod ScriptLemmas
+pub mod RunLemmas

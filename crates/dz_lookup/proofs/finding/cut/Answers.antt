@@ -1,0 +1,27 @@
+use Rattle.std.proofs.Common.{arith, ◌∙◌, sym, ap, drop, ◌-◌}
+use Rattle.std.specs.Prelude.{Some}
+use Rattle.dz_lookup.specs.Found.{is_cut, owns}
+use Rattle.dz_lookup.proofs.Walk.{topmost_found, none_above, cut_here, within_long}
+use Rattle.dz_lookup.proofs.finding.cut.Goals as goal
+
+pub labels-init : goal.labels-init
+labels-init c =
+    let long = within_long c.args.name.now c.args.apex.now c.requires.within in
+    record {
+      skip = omega arith;
+      none_above = none_above c.args.apex.now c.args.records.now c.args.name.now _ c.requires.owners (omega arith);
+    }
+
+pub returns-then-owns : goal.returns-then-owns
+returns-then-owns c =
+    let here = cut_here c.args.apex.now c.args.records.now c.args.name.now c.labels.skip c.owns.result c.labels-test.true c.labels.invariant.skip c.labels.invariant.none_above
+    (c.owns.ensures ∙ ap (owns c.args.records.now 2) c.ancestor-above.ensures) in
+    let found = rw c.if-owns.true at here in
+    ap Some c.ancestor-above.ensures
+    ∙ sym (topmost_found (is_cut c.args.apex.now c.args.records.now) c.args.name.now (drop (c.labels.skip - 1) c.args.name.now) (c.labels.skip - 1) (omega arith) found)
+
+pub labels-preserved : goal.labels-preserved
+labels-preserved c =
+    let here = cut_here c.args.apex.now c.args.records.now c.args.name.now c.labels.skip c.owns.result c.labels-test.true c.labels.invariant.skip c.labels.invariant.none_above
+    (c.owns.ensures ∙ ap (owns c.args.records.now 2) c.ancestor-above.ensures) in
+    record { skip = omega arith; none_above = rw c.if-owns.false at here }

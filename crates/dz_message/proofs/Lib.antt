@@ -1,0 +1,5 @@
+pub mod FitLemmas
+pub mod ManyLemmas
+pub mod RdataLemmas
+pub mod SpellingLemmas
+pub mod WritingLemmas

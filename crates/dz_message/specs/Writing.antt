@@ -1,0 +1,27 @@
+-- A message as octets, names without pointers (RFC 1035 section 4.1).
+use Rattle.std.specs.Prelude.{◌≡◌, ℕ, List, [], ◌∷◌, ◌++◌, length, Result, Ok, Err, ◌<◌, ◌≤◌}
+use Rattle.std.specs.List.{flat_map}
+use Rattle.dz_name.specs.Labels.{wire_of}
+use Rattle.dz_name.specs.Numbers.{two}
+use Rattle.dz_header.specs.Header.{header_octets}
+use Rattle.dz_record.specs.Record.{record_octets}
+use Rattle.dz_message.specs.declared.question.Question.{Question}
+use Rattle.dz_message.specs.declared.fault.WriteError.{WriteError}
+use Rattle.dz_message.specs.declared.fault.WriteError.TheVariants as errors
+use Rattle.dz_message.specs.Content.{Content}
+
+unfoldable pub question_octets : Question → List ℕ
+question_octets q = wire_of q.name ++ (two q.kind ++ two q.class)
+
+unfoldable pub message_octets : Content → List ℕ
+message_octets m = header_octets m.header ++ (flat_map question_octets m.questions ++ flat_map record_octets m.answers)
+
+-- the counts are the numbers of questions and answers, and there are no other records
+abbrev pub CountsAgree : Content → Type 0
+CountsAgree m = m.header.counts ≡ length m.questions ∷ length m.answers ∷ 0 ∷ 0 ∷ []
+
+-- a message of at most 65,535 octets is written; TooLong comes for a longer one alone
+abbrev pub IsWritten : Content → Result (List ℕ) WriteError → Type 0
+IsWritten m (Ok octets) = (octets ≡ message_octets m) × (length octets ≤ 65535)
+IsWritten m (Err errors.TooLong) = 65535 < length (message_octets m)
+IsWritten m (Err errors.OutOfMemory) = Unit {0}

@@ -1,0 +1,103 @@
+//! Why octets are no message, and why a message has no octets.
+
+ghost use Rattle.std.specs.Prelude.{◌≡◌};
+ghost use Rattle.dz_message.specs.declared.fault.MessageFault.TheVariants.{Wire};
+ghost use Rattle.dz_message.specs.declared.fault.ReadError.TheVariants as errors;
+ghost use Rattle.dz_message.specs.declared.fault.WriteError.TheVariants as write_errors;
+ghost use Rattle.dz_message.specs.Number.{fault_number};
+
+use dz_name::WireFault;
+use std::alloc::{AllocError, AllocFailed};
+
+/// The first fault from left to right.
+#[derive(Clone, Copy, Debug, PartialEq, Eq)]
+pub enum MessageFault {
+    /// A name has no reading, or octets are missing.
+    Wire,
+    /// There are fewer than twelve octets.
+    ShortHeader,
+    /// RDATA doesn't fit its type, or has more than 65,535 octets in canonical form.
+    BadRdata,
+    /// An answer record is of another class than IN or of a type that no zone holds.
+    BadType,
+    /// Octets stand behind the last record.
+    Trailing,
+}
+
+impl MessageFault {
+    /// The fault's number, 1 to 5 in the order Wire, ShortHeader, BadRdata, BadType, Trailing.
+    pub fn number(self) -> u8
+        ensures { result ≡ fault_number self }
+    {
+        match self {
+            MessageFault::Wire => 1,
+            MessageFault::ShortHeader => 2,
+            MessageFault::BadRdata => 3,
+            MessageFault::BadType => 4,
+            MessageFault::Trailing => 5,
+        }
+    }
+}
+
+/// Why a message was not read.
+#[derive(Clone, Copy, Debug, PartialEq, Eq)]
+pub enum ReadError {
+    Fault(MessageFault),
+    OutOfMemory,
+}
+
+/// Why a message was not written.
+#[derive(Clone, Copy, Debug, PartialEq, Eq)]
+pub enum WriteError {
+    /// The message has more than 65,535 octets.
+    TooLong,
+    OutOfMemory,
+}
+
+impl From<WireFault> for MessageFault {
+    ghost from_gives = { λ _ e. e ≡ Wire };
+
+    fn from(_fault: WireFault) -> MessageFault {
+        MessageFault::Wire
+    }
+}
+
+impl From<WireFault> for ReadError {
+    ghost from_gives = { λ _ e. e ≡ errors.Fault Wire };
+
+    fn from(_fault: WireFault) -> ReadError {
+        ReadError::Fault(MessageFault::Wire)
+    }
+}
+
+impl From<MessageFault> for ReadError {
+    ghost from_gives = { λ f e. e ≡ errors.Fault f };
+
+    fn from(fault: MessageFault) -> ReadError {
+        ReadError::Fault(fault)
+    }
+}
+
+impl From<AllocError> for ReadError {
+    ghost from_gives = { λ _ e. e ≡ errors.OutOfMemory };
+
+    fn from(_error: AllocError) -> ReadError {
+        ReadError::OutOfMemory
+    }
+}
+
+impl<T: Drop> From<AllocFailed<T>> for ReadError {
+    ghost from_gives = { λ _ e. e ≡ errors.OutOfMemory };
+
+    fn from(_error: AllocFailed<T>) -> ReadError {
+        ReadError::OutOfMemory
+    }
+}
+
+impl From<AllocError> for WriteError {
+    ghost from_gives = { λ _ e. e ≡ write_errors.OutOfMemory };
+
+    fn from(_error: AllocError) -> WriteError {
+        WriteError::OutOfMemory
+    }
+}

@@ -1,0 +1,16 @@
+//! Messages both ways (RFC 1035 section 4.1).
+#![tactic(auto)]
+
+mod fault;
+mod message;
+mod question;
+mod reading;
+#[cfg(test)]
+mod tests;
+mod writing;
+
+pub use fault::{MessageFault, ReadError, WriteError};
+pub use message::Message;
+pub use question::Question;
+pub use reading::read_message;
+pub use writing::write_message;

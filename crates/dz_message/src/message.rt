@@ -1,0 +1,59 @@
+ghost use Rattle.std.specs.Prelude.{◌≡◌};
+
+use crate::question::Question;
+use dz_header::Header;
+use dz_record::Rr;
+use std::marker::Model;
+
+/// A message's header, questions and answer records. The records of its authority and additional sections aren't kept.
+#[derive(Debug, Drop)]
+pub struct Message {
+    header: Header,
+    questions: Vec<Question>,
+    answers: Vec<Rr>,
+}
+
+impl Model for Message {
+    ghost use Rattle.dz_message.specs.Content.{Content};
+
+    ghost Value = { Content };
+
+    ghost view = { λ m. record { header = m.header; questions = m.questions.items; answers = m.answers.items } };
+}
+
+impl Message {
+    pub fn new(header: Header, questions: Vec<Question>, answers: Vec<Rr>) -> Message
+        ensures { result ≡ record { header = header; questions = questions.items; answers = answers.items } }
+    {
+        Message {
+            header,
+            questions,
+            answers,
+        }
+    }
+
+    pub fn header(&self) -> Header
+        ensures { result ≡ self.now.header }
+    {
+        self.header
+    }
+
+    pub fn questions(&self) -> &[Question]
+        ensures { result.now ≡ self.now.questions }
+    {
+        self.questions.as_slice()
+    }
+
+    pub fn answers(&self) -> &[Rr]
+        ensures { result.now ≡ self.now.answers }
+    {
+        self.answers.as_slice()
+    }
+
+    /// Gives up the message for its answer records.
+    pub fn into_answers(self) -> Vec<Rr>
+        ensures { result.items ≡ self.answers }
+    {
+        self.answers
+    }
+}

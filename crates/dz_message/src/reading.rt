@@ -1,0 +1,269 @@
+ghost use Rattle.std.specs.Prelude.{◌≡◌, ◌≤◌, ◌+◌, ◌++◌, length, drop, true, false, IfOk, OnOk};
+ghost use Rattle.dz_record.specs.Fields.{is_rdata};
+ghost use Rattle.dz_record.specs.Record.{is_bad_type};
+ghost use Rattle.dz_header.specs.Shape.{skipped};
+ghost use Rattle.dz_message.specs.Content.{Content};
+ghost use Rattle.dz_message.specs.Reading.{Gives, Appends, AppendsOne, EndsWell, question_at, fixed_at, octets_at, name_within, field_at, rdata_at, rdata_of, record_at, many, ended, content_of, message_of};
+ghost use Rattle.dz_message.specs.Spelling.{Spells};
+
+use crate::fault::{MessageFault, ReadError};
+use crate::message::Message;
+use crate::question::Question;
+use dz_header::{Header, read_header, skip_records};
+use dz_name::numbers::{number_of_four, number_of_two};
+use dz_name::{Name, Octets};
+use dz_record::{Field, Rr, fields, is_bad_type};
+use std::alloc::Global;
+
+/// Reads the message that the octets spell (RFC 1035 section 4.1): names with their pointers followed and in lower
+/// case, RDATA in canonical form; the records of the authority and additional sections are skipped by their shape.
+///
+/// # Errors
+///
+/// The first fault from left to right.
+#[tactic(auto, using(crate::proofs::SpellingLemmas::read_spells, crate::proofs::SpellingLemmas::read_once))]
+pub fn read_message(alloc: Global, octets: &[u8]) -> Result<Message, ReadError>
+    ensures reads { Gives (λ m. m) result (message_of octets.now) }
+    ensures spells { IfOk result (λ m. Spells octets.now m) }
+    ensures once { IfOk result (λ m. (other : Content) → Spells octets.now other → other ≡ m) }
+{
+    read_whole(alloc, octets)
+}
+
+/// The header, and what stands behind it.
+#[tactic(auto, unfolding(crate::specs::Reading::message_of))]
+fn read_whole(alloc: Global, octets: &[u8]) -> Result<Message, ReadError>
+    ensures { Gives (λ m. m) result (message_of octets.now) }
+{
+    match read_header(octets) {
+        None => Err(ReadError::Fault(MessageFault::ShortHeader)),
+        Some(header) => read_content(alloc, octets, header),
+    }
+}
+
+#[tactic(auto, unfolding(crate::specs::Reading::content_of))]
+fn read_content(alloc: Global, octets: &[u8], header: Header) -> Result<Message, ReadError>
+    requires { 12 ≤ length octets.now }
+    ensures { Gives (λ m. m) result (content_of octets.now header) }
+{
+    let (questions, at) = read_questions(alloc, octets, header.counts[0], 12)?;
+    let (answers, at) = read_answers(alloc, octets, header.counts[1], at)?;
+    read_end(octets, at, header.counts[2], header.counts[3])?;
+    Ok(Message::new(header, questions, answers))
+}
+
+/// The records that aren't answers are skipped, and then the message ends.
+fn read_end(octets: &[u8], at: usize, authority: u16, additional: u16) -> Result<(), MessageFault>
+    requires { at ≤ length octets.now }
+    ensures { EndsWell result (ended (skipped (authority + additional) (drop at octets.now))) }
+{
+    match skip_records(octets.split_at(at).1, authority as u32 + additional as u32) {
+        None => Err(MessageFault::Wire),
+        Some(rest) if rest.is_empty() => Ok(()),
+        Some(_) => Err(MessageFault::Trailing),
+    }
+}
+
+fn read_questions(
+    alloc: Global,
+    message: &[u8],
+    count: u16,
+    at: usize,
+) -> Result<(Vec<Question>, usize), ReadError>
+    requires { at ≤ length message.now }
+    ensures reads { Gives (λ x. (x.0.items, x.1)) result (many (question_at message.now) count at) }
+    ensures within { IfOk result (λ x. x.1 ≤ length message.now) }
+{
+    let mut questions = Vec::new(alloc);
+    let mut offset = at;
+    'questions: for _ in 0..count {
+        let (question, behind) = read_question(message, offset)?;
+        questions.push(question)?;
+        offset = behind;
+    }
+    Ok((questions, offset))
+}
+
+#[tactic(auto, unfolding(crate::specs::Reading::question_at))]
+fn read_question(message: &[u8], at: usize) -> Result<(Question, usize), MessageFault>
+    ensures reads { result ≡ question_at message.now at }
+    ensures within { IfOk result (λ x. x.1 ≤ length message.now) }
+{
+    let (name, at) = Name::read_at(message, at)?;
+    if message.len() - at < 4 {
+        return Err(MessageFault::Wire);
+    }
+    let kind = number_of_two(message.split_at(at).1);
+    let class = number_of_two(message.split_at(at + 2).1);
+    Ok((Question { name, kind, class }, at + 4))
+}
+
+fn read_answers(
+    alloc: Global,
+    message: &[u8],
+    count: u16,
+    at: usize,
+) -> Result<(Vec<Rr>, usize), ReadError>
+    requires { at ≤ length message.now }
+    ensures reads { Gives (λ x. (x.0.items, x.1)) result (many (record_at message.now) count at) }
+    ensures within { IfOk result (λ x. x.1 ≤ length message.now) }
+{
+    let mut answers = Vec::new(alloc);
+    let mut offset = at;
+    'answers: for _ in 0..count {
+        let (record, behind) = read_record(alloc, message, offset)?;
+        answers.push(record)?;
+        offset = behind;
+    }
+    Ok((answers, offset))
+}
+
+#[tactic(auto, unfolding(crate::specs::Reading::record_at))]
+fn read_record(alloc: Global, message: &[u8], at: usize) -> Result<(Rr, usize), ReadError>
+    ensures reads { Gives (λ x. (x.0, x.1)) result (record_at message.now at) }
+    ensures within { IfOk result (λ x. x.1 ≤ length message.now) }
+{
+    let (owner, at) = Name::read_at(message, at)?;
+    let fixed = read_fixed(message, at)?;
+    let rdata = read_rdata(alloc, message, at + 10, fixed)?;
+    Ok((
+        Rr::from_parts(owner, fixed.kind, fixed.ttl, rdata),
+        at + 10 + fixed.size as usize,
+    ))
+}
+
+/// Type, class, TTL and length of RDATA.
+#[derive(Clone, Copy)]
+struct Fixed {
+    kind: u16,
+    class: u16,
+    ttl: u32,
+    size: u16,
+}
+
+#[tactic(auto, unfolding(crate::specs::Reading::fixed_at))]
+fn read_fixed(message: &[u8], at: usize) -> Result<Fixed, MessageFault>
+    requires { at ≤ length message.now }
+    ensures reads { result ≡ fixed_at message.now at }
+    ensures within { OnOk result (at + 10 ≤ length message.now) }
+{
+    if message.len() - at < 10 {
+        return Err(MessageFault::Wire);
+    }
+    Ok(Fixed {
+        kind: number_of_two(message.split_at(at).1),
+        class: number_of_two(message.split_at(at + 2).1),
+        ttl: number_of_four(message.split_at(at + 4).1),
+        size: number_of_two(message.split_at(at + 8).1),
+    })
+}
+
+/// The RDATA that begins at an offset, in canonical form.
+#[tactic(auto, unfolding(crate::specs::Reading::rdata_of))]
+fn read_rdata(alloc: Global, message: &[u8], at: usize, fixed: Fixed) -> Result<Octets, ReadError>
+    requires { at ≤ length message.now }
+    ensures reads { Gives (λ x. x) result (rdata_of message.now at fixed) }
+    ensures fits { IfOk result (λ x. is_rdata fixed.kind x ≡ true) }
+    ensures kind { OnOk result (is_bad_type fixed.kind ≡ false) }
+    ensures within { OnOk result (at + fixed.size ≤ length message.now) }
+{
+    if fixed.class != 1 || is_bad_type(fixed.kind) {
+        return Err(ReadError::Fault(MessageFault::BadType));
+    }
+    let size = fixed.size as usize;
+    if message.len() - at < size {
+        return Err(ReadError::Fault(MessageFault::Wire));
+    }
+    let mut out = Vec::with_capacity(alloc, size)?;
+    read_fields(message, at, at + size, fields(fixed.kind), &mut out)?;
+    if out.len() > 65_535 {
+        return Err(ReadError::Fault(MessageFault::BadRdata));
+    }
+    Ok(Octets::from_vec(out))
+}
+
+/// Appends the canonical form of the fields that stand between two offsets.
+fn read_fields(
+    message: &[u8],
+    at: usize,
+    end: usize,
+    fields: &[Field],
+    out: &mut Vec<u8>,
+) -> Result<(), ReadError>
+    requires start { at ≤ end }
+    requires end { end ≤ length message.now }
+    ensures { Appends out.old.items out.new.items result (rdata_at message.now at end fields.now) }
+{
+    let mut offset = at;
+    'fields: for field in fields {
+        offset = read_field(message, offset, end, *field, out)?;
+    }
+    if offset == end {
+        Ok(())
+    } else {
+        Err(ReadError::Fault(MessageFault::BadRdata))
+    }
+}
+
+/// Appends the canonical form of one field, and says where it ends.
+fn read_field(
+    message: &[u8],
+    at: usize,
+    end: usize,
+    field: Field,
+    out: &mut Vec<u8>,
+) -> Result<usize, ReadError>
+    requires start { at ≤ end }
+    requires end { end ≤ length message.now }
+    ensures reads { AppendsOne out.old.items out.new.items result (field_at message.now at end field) }
+    ensures within { IfOk result (λ next. next ≤ end) }
+{
+    match field {
+        Field::Octets(count) => read_octets(message, at, end, count as usize, out),
+        Field::DomainName => read_name(message, at, end, out),
+        Field::CharacterString if at < end => read_octets(
+            message,
+            at,
+            end,
+            message[at] as usize + 1,
+            out,
+        ),
+        Field::CharacterString => Err(ReadError::Fault(MessageFault::BadRdata)),
+        Field::Remainder => read_octets(message, at, end, end - at, out),
+    }
+}
+
+#[tactic(auto, unfolding(crate::specs::Reading::octets_at))]
+fn read_octets(
+    message: &[u8],
+    at: usize,
+    end: usize,
+    count: usize,
+    out: &mut Vec<u8>,
+) -> Result<usize, ReadError>
+    requires start { at ≤ end }
+    requires end { end ≤ length message.now }
+    ensures reads { AppendsOne out.old.items out.new.items result (octets_at message.now at end count) }
+    ensures within { IfOk result (λ next. next ≤ end) }
+{
+    if end - at < count {
+        return Err(ReadError::Fault(MessageFault::BadRdata));
+    }
+    out.extend_from_slice(message.split_at(at).1.split_at(count).0)?;
+    Ok(at + count)
+}
+
+#[tactic(auto, unfolding(crate::specs::Reading::name_within))]
+fn read_name(message: &[u8], at: usize, end: usize, out: &mut Vec<u8>) -> Result<usize, ReadError>
+    requires start { at ≤ end }
+    requires end { end ≤ length message.now }
+    ensures reads { AppendsOne out.old.items out.new.items result (name_within message.now at end) }
+    ensures within { IfOk result (λ next. next ≤ end) }
+{
+    let (name, next) = Name::read_at(message, at)?;
+    if end < next {
+        return Err(ReadError::Fault(MessageFault::BadRdata));
+    }
+    out.extend_from_slice(name.wire())?;
+    Ok(next)
+}

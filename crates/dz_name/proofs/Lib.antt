@@ -1,0 +1,9 @@
+pub mod KeptLemmas
+pub mod PartLemmas
+pub mod OrderLemmas
+pub mod NumberLemmas
+pub mod CanonicalLemmas
+pub mod ReadingLemmas
+pub mod RoundTrip
+pub mod TextLemmas
+pub mod LabelLemmas

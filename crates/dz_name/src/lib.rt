@@ -1,0 +1,23 @@
+//! Domain names (RFC 1034 section 3.1, RFC 1035 section 3.1, RFC 4034 section 6.1).
+#![tactic(auto)]
+
+mod label;
+mod name;
+pub mod numbers;
+mod octets;
+mod order;
+mod parts;
+mod reading;
+#[cfg(test)]
+mod tests_parts;
+#[cfg(test)]
+mod tests_reading;
+#[cfg(test)]
+mod tests_text;
+mod text;
+
+pub use label::Label;
+pub use name::Name;
+pub use octets::Octets;
+pub use reading::{WireFault, canonical_name_end};
+pub use text::NameError;

@@ -1,0 +1,138 @@
+ghost use Rattle.std.specs.Prelude.{◌≡◌, ℕ, ◌+◌, ◌-◌, ◌<◌, ◌≤◌, ◌↔◌, List, [], ◌∷◌, ◌++◌, length, take, drop, IsTrue};
+ghost use Rattle.dz_name.specs.Labels.{lower, wire_of, wildcard_of, IsLabel, IsName};
+ghost use Rattle.dz_name.specs.Child.{child_of};
+
+use crate::label::Label;
+use crate::text::NameError;
+use std::marker::Model;
+
+/// A domain name: labels of 1 to 63 octets, kept with ASCII letters in lower case, whose wire form has at most
+/// 255 octets (RFC 1035 section 3.1, RFC 4343 section 2). Contracts see it as the list of its labels, the one of the
+/// host first and without the root's.
+#[derive(Clone, Copy, Debug)]
+pub struct Name {
+    octets: [u8; 255],
+    len: u8,
+}
+
+impl Model for Name {
+    ghost use Rattle.std.specs.Prelude.{List, ℕ, length};
+    ghost use Rattle.dz_name.specs.Labels.{wire_of};
+    ghost use Rattle.dz_name.specs.Kept.{labels_in, padded, IsKept};
+
+    ghost Value = { List (List ℕ) };
+
+    ghost view = { λ n. labels_in n.len n.octets };
+
+    ghost invariant = { λ n. IsKept n.octets n.len };
+
+    ghost inverse = { λ labels. record { octets = padded labels; len = length (wire_of labels) } };
+}
+
+impl Name {
+    /// The name without labels.
+    pub fn root() -> Name
+        ensures { result ≡ [] }
+    {
+        Name {
+            octets: [0; 255],
+            len: 1,
+        }
+    }
+
+    /// The wire form, without pointers: 1 to 255 octets (RFC 1035 section 3.1).
+    pub fn wire(&self) -> &[u8]
+        ensures wire { result.now ≡ wire_of self.now }
+        ensures name { IsName self.now }
+    {
+        &self.octets[..self.len as usize]
+    }
+
+    /// Puts a label behind the last one, with its ASCII letters in lower case.
+    pub fn push_label(&mut self, label: &[u8])
+        requires some { 0 < length label.now }
+        requires short { length label.now < 64 }
+        requires room { length (wire_of self.old) + length label.now < 255 }
+        ensures labels { self.new ≡ self.old ++ lower label.now ∷ [] }
+        ensures wire { length (wire_of self.new) ≡ length (wire_of self.old) + (length label.now + 1) }
+    {
+        let end = self.len as usize - 1;
+        write_label(&mut self.octets, end, label);
+        self.len += label.len() as u8 + 1;
+    }
+
+    /// The name behind the first labels.
+    pub fn ancestor(&self, skip: usize) -> Name
+        requires { skip ≤ length self.now }
+        ensures { result ≡ drop skip self.now }
+    {
+        let wire = self.behind(skip);
+        let mut octets = [0; 255];
+        write_at(&mut octets, 0, wire);
+        Name {
+            octets,
+            len: wire.len() as u8,
+        }
+    }
+
+    /// The name with one more label in front, where there is room for it.
+    fn prepend(&self, label: &[u8]) -> Name
+        requires is { IsLabel label.now }
+        requires room { length (wire_of self.now) + length label.now < 255 }
+        ensures { result ≡ label.now ∷ self.now }
+    {
+        let wire = self.wire();
+        let size = label.len();
+        let mut octets = [0; 255];
+        write_at(&mut octets, 0, &[size as u8]);
+        write_at(&mut octets, 1, label);
+        write_at(&mut octets, size + 1, wire);
+        Name {
+            octets,
+            len: (size + 1 + wire.len()) as u8,
+        }
+    }
+
+    /// The name with one more label in front.
+    ///
+    /// # Errors
+    ///
+    /// `NameTooLong` where the wire form would have more than 255 octets.
+    pub fn child(&self, label: &Label) -> Result<Name, NameError>
+        ensures { result ≡ child_of self.now label.now }
+    {
+        if self.wire().len() + label.octets().len() < 255 {
+            Ok(self.prepend(label.octets()))
+        } else {
+            Err(NameError::NameTooLong)
+        }
+    }
+
+    /// The wildcard below the name (RFC 4592 section 2.1.1).
+    pub fn wildcard(&self) -> Name
+        requires { length (wire_of self.now) < 254 }
+        ensures { result ≡ wildcard_of self.now }
+    {
+        self.prepend(b"*")
+    }
+}
+
+/// Writes a label in lower case behind its length octet.
+fn write_label(octets: &mut [u8; 255], at: usize, label: &[u8])
+    requires short { length label.now < 64 }
+    requires room { at + length label.now + 1 < 255 }
+    ensures { octets.new ≡ take at octets.old ++ length label.now ∷ (lower label.now ++ drop (at + length label.now + 1) octets.old) }
+{
+    octets[at] = label.len() as u8;
+    let part = &mut octets[at + 1..at + 1 + label.len()];
+    part.copy_from_slice(label);
+    part.make_ascii_lowercase();
+}
+
+/// Writes octets at a place.
+fn write_at(octets: &mut [u8; 255], at: usize, part: &[u8])
+    requires { at + length part.now ≤ 255 }
+    ensures { octets.new ≡ take at octets.old ++ (part.now ++ drop (at + length part.now) octets.old) }
+{
+    octets[at..at + part.len()].copy_from_slice(part);
+}

@@ -1,0 +1,111 @@
+//! Parts of names, and names made of parts.
+
+ghost use Rattle.std.specs.Prelude.{◌≡◌, ℕ, ◌+◌, ◌-◌, ◌<◌, ◌≤◌, ◌↔◌, List, [], ◌∷◌, ◌++◌, length, take, drop, IsTrue, slice_index, slice_index_or, slice_range};
+ghost use Rattle.dz_name.specs.Labels.{wire_of, IsLabel, IsName, IsWithin, same_name, is_within, parent_of, first_label};
+
+use crate::label::Label;
+use crate::name::Name;
+
+impl Name {
+    /// How many labels there are, at most 127.
+    pub fn label_count(&self) -> usize
+        ensures { result ≡ length self.now }
+    {
+        let mut rest = self.wire();
+        let mut count = 0;
+        'labels: while rest[0] != 0 {
+            rest = behind_label(rest);
+            count += 1;
+        }
+        count
+    }
+
+    /// The wire form of the name that stands behind the first labels.
+    pub fn behind(&self, skip: usize) -> &[u8]
+        requires { skip ≤ length self.now }
+        ensures wire { result.now ≡ wire_of (drop skip self.now) }
+        ensures name { IsName (drop skip self.now) }
+    {
+        let mut rest = self.wire();
+        'labels: for _ in 0..skip {
+            rest = behind_label(rest);
+        }
+        rest
+    }
+
+    /// A label behind its length octet, as it stands in the wire form; 0 is the first.
+    pub fn piece(&self, number: usize) -> &[u8]
+        requires { number < length self.now }
+        ensures piece { (d : List ℕ) → result.now ≡ length (slice_index_or self.now number d) ∷ slice_index_or self.now number d }
+        ensures label { (d : List ℕ) → IsLabel (slice_index_or self.now number d) }
+    {
+        first_piece(self.behind(number))
+    }
+
+    /// Whether the two names are one.
+    pub fn same(&self, other: &Name) -> bool
+        ensures value { result ≡ same_name self.now other.now }
+        ensures equal { IsTrue result ↔ (self.now ≡ other.now) }
+    {
+        self.wire() == other.wire()
+    }
+
+    /// Whether the name is the other one or stands below it.
+    pub fn is_within(&self, above: &Name) -> bool
+        ensures value { result ≡ is_within self.now above.now }
+        ensures suffix { IsTrue result ↔ IsWithin self.now above.now }
+    {
+        self.is_within_part(above, 0)
+    }
+
+    /// Whether the name is within what stands behind the first labels of the other.
+    pub fn is_within_part(&self, above: &Name, skip: usize) -> bool
+        requires { skip ≤ length above.now }
+        ensures value { result ≡ is_within self.now (drop skip above.now) }
+        ensures suffix { IsTrue result ↔ IsWithin self.now (drop skip above.now) }
+    {
+        let mine = self.label_count();
+        let theirs = above.label_count() - skip;
+        theirs <= mine && self.behind(mine - theirs) == above.behind(skip)
+    }
+
+    /// The label on the left; none for the root alone.
+    pub fn first(&self) -> Option<Label>
+        ensures { result ≡ first_label self.now }
+    {
+        if self.label_count() == 0 {
+            None
+        } else {
+            Label::make(self.piece(0).split_at(1).1)
+        }
+    }
+
+    /// The name one label up; none for the root alone.
+    pub fn parent(&self) -> Option<Name>
+        ensures { result ≡ parent_of self.now }
+    {
+        if self.label_count() == 0 {
+            None
+        } else {
+            Some(self.ancestor(1))
+        }
+    }
+}
+
+/// What stands behind the first label of a wire form.
+fn behind_label(wire: &[u8]) -> &[u8]
+    requires some { 0 < length wire.now }
+    requires whole { slice_index wire.now 0 < length wire.now }
+    ensures { result.now ≡ drop (slice_index wire.now 0 + 1) wire.now }
+{
+    &wire[wire[0] as usize + 1..]
+}
+
+/// The first label of a wire form behind its length octet.
+fn first_piece(wire: &[u8]) -> &[u8]
+    requires some { 0 < length wire.now }
+    requires whole { slice_index wire.now 0 < length wire.now }
+    ensures { result.now ≡ take (slice_index wire.now 0 + 1) wire.now }
+{
+    &wire[..wire[0] as usize + 1]
+}

@@ -1,0 +1,11 @@
+pub mod Code
+pub mod Layout
+pub mod Query
+pub mod Replies
+pub mod Reply
+pub mod Request
+pub mod Rows
+pub mod Sections
+pub mod Shown
+pub mod Transports
+pub mod Writing

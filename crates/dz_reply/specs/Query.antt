@@ -1,0 +1,19 @@
+-- What a reply takes over from a request.
+use Rattle.std.specs.Prelude.{ℕ, ◌+◌, ◌≤◌, List, length, take, drop}
+use Rattle.dz_reply.specs.declared.query.QueryParts.{QueryParts}
+use Rattle.dz_reply.specs.Layout.{Query}
+
+-- the question's octets stand behind the header
+abbrev pub query_in : List ℕ → QueryParts → Query
+query_in request parts = record {
+  id = parts.id;
+  flags = parts.flags;
+  echo = take parts.size (drop 12 request);
+  name = parts.name;
+  edns = parts.edns;
+}
+
+-- the question lies within the request; a name has at most 255 octets, type and class have two each
+pub record IsWhole (request : List ℕ) (size : ℕ) : Type 0 where
+  pub within : 12 + size ≤ length request
+  pub short : size ≤ 259

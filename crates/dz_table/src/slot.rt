@@ -1,0 +1,99 @@
+//! What is held of a zone.
+
+ghost use Rattle.std.specs.Prelude.{◌≡◌, ◌<◌, ◌^◌, IfOk, option_map};
+ghost use Rattle.std.specs.Option.{ForSome};
+ghost use Rattle.std.specs.Arc.{arc_value};
+ghost use Rattle.dz_table.specs.Slots.{SlotOf, IsSlot, is_live};
+
+use dz_name::Name;
+use dz_zone::Version;
+use std::alloc::AllocError;
+use std::marker::Model;
+use std::sync::Arc;
+
+/// What is held of a zone: its name, the moment of its last refresh in seconds, below 2^40, and its version, if there
+/// is one. A version's apex is the zone. Slots may share a version.
+#[derive(Debug, Drop)]
+pub struct Slot {
+    zone: Name,
+    refreshed: u64,
+    version: Option<Arc<Version>>,
+}
+
+impl Model for Slot {
+    ghost use Rattle.std.specs.Prelude.{option_map};
+    ghost use Rattle.std.specs.Arc.{arc_value};
+    ghost use Rattle.dz_table.specs.Slots.{SlotOf, IsSlot};
+
+    ghost Value = { SlotOf };
+
+    ghost view = { λ s. record { zone = s.zone; refreshed = s.refreshed; version = option_map arc_value s.version } };
+
+    ghost invariant = { λ s. IsSlot record { zone = s.zone; refreshed = s.refreshed; version = option_map arc_value s.version } };
+}
+
+impl Slot {
+    /// The slot of these parts.
+    pub fn make(zone: Name, refreshed: u64, version: Option<Arc<Version>>) -> Slot
+        requires moment { refreshed < 2 ^ 40 }
+        requires apex { ForSome version (λ v. v.value.apex ≡ zone) }
+        ensures { result ≡ record { zone = zone; refreshed = refreshed; version = option_map arc_value version } }
+    {
+        Slot {
+            zone,
+            refreshed,
+            version,
+        }
+    }
+
+    /// The name of the zone.
+    pub fn zone(&self) -> &Name
+        ensures { result.now ≡ self.now.zone }
+    {
+        &self.zone
+    }
+
+    /// The moment of the last refresh in seconds, below 2^40.
+    pub fn refreshed(&self) -> u64
+        ensures { result ≡ self.now.refreshed }
+    {
+        self.refreshed
+    }
+
+    /// The version, whose apex is the zone; none where none is held.
+    pub fn version(&self) -> Option<&Version>
+        ensures version { option_map (λ r. r.now) result ≡ self.now.version }
+        ensures valid { IsSlot self.now }
+    {
+        match &self.version {
+            None => None,
+            Some(version) => Some(&**version),
+        }
+    }
+
+    /// Whether the version may answer at a moment in seconds: one is held, and fewer than EXPIRE seconds have passed
+    /// since its last refresh (RFC 1035 section 3.3.13).
+    pub fn is_live(&self, moment: u64) -> bool
+        ensures { result ≡ is_live self.now moment }
+    {
+        match self.version() {
+            None => false,
+            Some(version) => moment < self.refreshed + u64::from(version.soa().expire),
+        }
+    }
+
+    /// The same slot once more. It shares the version, so no record is copied.
+    pub fn share(&self) -> Result<Slot, AllocError>
+        ensures { IfOk result (λ s. s ≡ self.now) }
+    {
+        let version = match &self.version {
+            None => None,
+            Some(version) => Some(Arc::try_clone(version)?),
+        };
+        Ok(Slot {
+            zone: self.zone,
+            refreshed: self.refreshed,
+            version,
+        })
+    }
+}

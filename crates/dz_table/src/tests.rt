@@ -1,0 +1,263 @@
+ghost use Rattle.std.specs.Prelude.{◌≡◌, IfOk};
+
+use super::*;
+use dz_name::{Name, Octets};
+use dz_record::Rr;
+use dz_zone::{Version, check};
+use std::alloc::{AllocError, Global};
+use std::process::Abort;
+use std::sync::Arc;
+use std::test::*;
+
+/// The last moment that a slot may have.
+const MOST: u64 = 1_099_511_627_775;
+
+fn make_name(rt: &impl Abort, text: &str) -> Name {
+    match Name::parse(text.as_bytes()) {
+        Ok(name) => name,
+        Err(error) => panic!(rt; "{error:?} of {text}"),
+    }
+}
+
+fn make_record(
+    rt: &impl Abort,
+    alloc: Global,
+    owner: Name,
+    kind: u16,
+    octets: &[u8],
+) -> Result<Rr, AllocError> {
+    let mut rdata = Vec::new(alloc);
+    rdata.extend_from_slice(octets)?;
+    match Rr::make(owner, kind, 3600, Octets::from_vec(rdata)) {
+        Ok(made) => Ok(made),
+        Err(error) => panic!(rt; "{error:?} of type {kind} with {octets:?}"),
+    }
+}
+
+/// A version that has an SOA of serial 1 with this EXPIRE, and an NS.
+fn make_version(
+    rt: &impl Abort,
+    alloc: Global,
+    zone: Name,
+    expire: u32,
+) -> Result<Arc<Version>, AllocError>
+    ensures { IfOk result (λ v. v.value.apex ≡ zone) }
+{
+    let mut soa = Vec::new(alloc);
+    soa.extend_from_slice(b"\x00\x00\x00\x00\x00\x01\x00\x00\x00\x02\x00\x00\x00\x03")?;
+    soa.extend_from_slice(&expire.to_be_bytes())?;
+    soa.extend_from_slice(b"\x00\x00\x00\x05")?;
+    let mut records = Vec::new(alloc);
+    records.push(make_record(rt, alloc, zone, 6, soa.as_slice())?)?;
+    records.push(make_record(rt, alloc, zone, 2, b"\x02ns\x00")?)?;
+    match check(&zone, records) {
+        Ok(version) => Ok(Arc::new(alloc, version)?),
+        Err(fault) => panic!(rt; "{fault:?}"),
+    }
+}
+
+/// A slot without a version.
+fn make_slot(rt: &impl Abort, zone: &str, refreshed: u64) -> Slot {
+    Slot::make(make_name(rt, zone), refreshed.min(MOST), None)
+}
+
+fn make_live(
+    rt: &impl Abort,
+    alloc: Global,
+    zone: &str,
+    refreshed: u64,
+    expire: u32,
+) -> Result<Slot, AllocError> {
+    let zone = make_name(rt, zone);
+    let version = make_version(rt, alloc, zone, expire)?;
+    Ok(Slot::make(zone, refreshed.min(MOST), Some(version)))
+}
+
+/// A table with a slot for each of these zones, put in this order; a slot's moment is its zone's place.
+fn make_table(rt: &impl Abort, alloc: Global, zones: &[&str]) -> Result<Table, AllocError> {
+    let mut table = Table::empty(alloc);
+    for (moment, zone) in zones.iter().enumerate() {
+        table = table.with(alloc, make_slot(rt, zone, moment as u64))?;
+    }
+    Ok(table)
+}
+
+/// The table has just these zones and moments, in this order.
+fn expect_slots(rt: &impl Abort, table: &Table, want: &[(&str, u64)]) {
+    let slots = table.slots();
+    assert_eq!(rt; slots.len(), want.len());
+    for (slot, (zone, refreshed)) in slots.iter().zip(want) {
+        assert!(rt; slot.zone().same(&make_name(rt, zone)), "not {zone}");
+        assert_eq!(rt; slot.refreshed(), *refreshed, "of {zone}");
+    }
+}
+
+/// The closest zone of a name, and the plain search finds the same.
+fn expect_closest(rt: &impl Abort, table: &Table, name: &str, want: Option<&str>) {
+    let name = make_name(rt, name);
+    for found in [table.closest(&name), plain_closest(table.slots(), &name)] {
+        match (found, want) {
+            (None, None) => {}
+            (Some(slot), Some(zone)) => {
+                assert!(rt;
+                    slot.zone().same(&make_name(rt, zone)),
+                    "{name:?} not in {zone}"
+                );
+            }
+            _ => panic!(rt; "{name:?}: a slot {}, wanted {want:?}", found.is_some()),
+        }
+    }
+}
+
+#[test]
+fn closest_is_the_longest_zone_that_encloses(rt: HostRuntime) -> Result<(), Fail> {
+    let zones = ["example.", "other.", "sub.example.", "deep.er.sub.example."];
+    let table = make_table(&rt, rt.alloc(), &zones)?;
+    let rows = [
+        ("example.", Some("example.")),
+        ("EXAMPLE.", Some("example.")),
+        ("www.example.", Some("example.")),
+        ("sub.example.", Some("sub.example.")),
+        ("a.b.sub.example.", Some("sub.example.")),
+        ("er.sub.example.", Some("sub.example.")),
+        ("deep.er.sub.example.", Some("deep.er.sub.example.")),
+        ("x.deep.er.sub.example.", Some("deep.er.sub.example.")),
+        ("xsub.example.", Some("example.")),
+        ("sub.other.", Some("other.")),
+        ("xexample.", None),
+        ("sub.", None),
+        ("example.sub.", None),
+        ("org.", None),
+        (".", None),
+    ];
+    for (name, want) in rows {
+        expect_closest(&rt, &table, name, want);
+    }
+    Ok(())
+}
+
+#[test]
+fn root_zone_encloses_all_names(rt: HostRuntime) -> Result<(), Fail> {
+    let table = make_table(&rt, rt.alloc(), &["sub.example.", "."])?;
+    for (name, want) in [
+        (".", "."),
+        ("org.", "."),
+        ("example.", "."),
+        ("x.sub.example.", "sub.example."),
+    ] {
+        expect_closest(&rt, &table, name, Some(want));
+    }
+    Ok(())
+}
+
+#[test]
+fn table_without_slots_has_no_closest(rt: HostRuntime) -> Result<(), Fail> {
+    let table = Table::empty(rt.alloc());
+    expect_slots(&rt, &table, &[]);
+    for name in [".", "example.", "www.example."] {
+        expect_closest(&rt, &table, name, None);
+    }
+    Ok(())
+}
+
+#[test]
+fn slots_stand_in_canonical_order(rt: HostRuntime) -> Result<(), Fail> {
+    // The example of RFC 4034 section 6.1, as far as it has letters and digits alone.
+    let zones = [
+        "z.example.",
+        "a.example.",
+        "zabc.a.example.",
+        "example.",
+        "yljkjljk.a.example.",
+        "Z.a.example.",
+    ];
+    let table = make_table(&rt, rt.alloc(), &zones)?;
+    expect_slots(
+        &rt,
+        &table,
+        &[
+            ("example.", 3),
+            ("a.example.", 1),
+            ("yljkjljk.a.example.", 4),
+            ("z.a.example.", 5),
+            ("zabc.a.example.", 2),
+            ("z.example.", 0),
+        ],
+    );
+    Ok(())
+}
+
+#[test]
+fn with_replaces_the_slot_of_its_zone(rt: HostRuntime) -> Result<(), Fail> {
+    let alloc = rt.alloc();
+    let old = make_table(&rt, alloc, &["b.", "a.", "c."])?;
+    let before = [("a.", 1), ("b.", 0), ("c.", 2)];
+    let new = old.with(alloc, make_slot(&rt, "B.", MOST))?;
+    expect_slots(&rt, &new, &[("a.", 1), ("b.", MOST), ("c.", 2)]);
+    expect_slots(&rt, &old, &before);
+    let more = old.with(alloc, make_slot(&rt, "x.b.", 7))?;
+    expect_slots(&rt, &more, &[("a.", 1), ("b.", 0), ("x.b.", 7), ("c.", 2)]);
+    expect_slots(&rt, &old, &before);
+    Ok(())
+}
+
+#[test]
+fn live_until_expire_has_passed(rt: HostRuntime) -> Result<(), Fail> {
+    let alloc = rt.alloc();
+    for (refreshed, expire, moment, want) in [
+        (100, 50, 100, true),
+        (100, 50, 149, true),
+        (100, 50, 150, false),
+        (100, 50, 0, true),
+        (100, 1, 100, true),
+        (100, 1, 101, false),
+        (100, 0, 100, false),
+        (0, 0, 0, false),
+        (MOST, 4_294_967_295, MOST, true),
+        (0, 4_294_967_295, 4_294_967_294, true),
+        (0, 4_294_967_295, 4_294_967_295, false),
+    ] {
+        let slot = make_live(&rt, alloc, "example.", refreshed, expire)?;
+        assert_eq!(rt;
+            slot.is_live(moment),
+            want,
+            "{refreshed} and {expire} at {moment}"
+        );
+        assert_eq!(rt;
+            slot.share()?.is_live(moment),
+            want,
+            "shared: {refreshed} and {expire} at {moment}"
+        );
+    }
+    Ok(())
+}
+
+#[test]
+fn never_live_without_a_version(rt: HostRuntime) {
+    let slot = make_slot(&rt, "example.", 100);
+    assert!(rt; slot.version().is_none());
+    for moment in [0, 99, 100, MOST] {
+        assert!(rt; !slot.is_live(moment), "at {moment}");
+    }
+}
+
+#[test]
+fn tables_share_versions(rt: HostRuntime) -> Result<(), Fail> {
+    let alloc = rt.alloc();
+    let slot = make_live(&rt, alloc, "example.", 5, 10)?;
+    let one = Table::empty(alloc).with(alloc, slot)?;
+    let two = one.with(alloc, make_slot(&rt, "a.example.", 6))?;
+    for table in [&one, &two] {
+        match table.closest(&make_name(&rt, "www.example.")) {
+            Some(slot) => {
+                assert_eq!(rt; slot.refreshed(), 5);
+                match slot.version() {
+                    Some(version) => assert_eq!(rt; version.records().len(), 2),
+                    None => panic!(rt; "no version"),
+                }
+            }
+            None => panic!(rt; "no slot"),
+        }
+    }
+    Ok(())
+}

@@ -1,0 +1,5 @@
+pub mod Ordered
+pub mod Pairs
+pub mod RecordLemmas
+pub mod FaultLemmas
+pub mod WithinLemmas

@@ -1,0 +1,155 @@
+-- The order of records, and what it ties.
+use Rattle.std.proofs.Common.{◌≡◌, ℕ, Bool, true, false, not, ◌&&◌, List, [], ◌∷◌, refl, sym, ◌∙◌, ap, subst, arith, is_lt, is_eq, is_gt, Ordering, Less, Equal, Greater}
+use Rattle.std.specs.Ordering.{ordering_reverse, ordering_then, ordering_index, nat_cmp}
+use Rattle.std.specs.Prelude.{◌==◌}
+use Rattle.std.specs.Bool.{Decides}
+use Rattle.std.specs.List.{dedup, IsAllAdjacentAnswer}
+use Rattle.std.proofs.lemmas.Bool.{or_parts, not-true, not-false, not_from_false}
+use Rattle.dz_zone.specs.Neighbours.{neighbours_from, neighbours}
+use Rattle.dz_zone.proofs.Pairs.{adjacent_answer}
+use Rattle.std.specs.List.Sorted.{IsStrictlySortedBy, IsSortedBy, IsStableBy, ties}
+use Rattle.std.specs.Cmp.{IsTotalOrder, IsStrictWeakOrder, Equal-is, tied_itself}
+use Rattle.std.specs.Cmp.Lexicographic.{slice_cmp}
+use Rattle.std.specs.FinMap.{slice_cmp-IsAntisymmetric, nat_cmp-IsAntisymmetric}
+use Rattle.std.specs.Str.{bytes_eq}
+use Rattle.std.proofs.lemmas.Cmp.{on_total, then_total, nat_cmp_total, nat_list_cmp_total}
+use Rattle.std.proofs.lemmas.List.Sorted.{ranks_by}
+use Rattle.std.proofs.lemmas.Bool.Decides.{nat_tests, same_from_decides}
+use Rattle.std.proofs.lemmas.Slice.Eq.{bytes_eq-Decides}
+use Rattle.dz_name.specs.Labels.{canonical_order}
+use Rattle.dz_name.specs.Order.{canonical_total, same_ties}
+use Rattle.dz_record.specs.Record.{Record, record_order, same_record}
+use Rattle.dz_record.specs.Zone.{distinct, in_order, placed}
+use Rattle.dz_zone.proofs.Ordered.{firsts, put, puts, Ascends, Climbs, each_more, tidied, climbed, climbs_ascends}
+
+pub record_total : IsTotalOrder record_order
+record_total = then_total (then_total (on_total (λ r. r.owner) canonical_total) (on_total (λ r. r.kind) nat_cmp_total)) (on_total (λ r. r.rdata) nat_list_cmp_total)
+
+unfoldable pub before : Record → Record → Bool
+before a b = is_lt (record_order a b)
+
+abbrev pub is_before : Record → Record → Bool
+is_before a b = ordering_index (record_order a b) == 0
+
+pub before_is : IsStrictWeakOrder (λ a b. is_lt (record_order a b))
+before_is = ranks_by record_total (λ r. r)
+
+pub before_ranks : IsStrictWeakOrder before
+unfolding before
+before_ranks = before_is
+
+then_eq : (a b : Ordering) → is_eq (ordering_then a b) ≡ (is_eq a && is_eq b)
+then_eq Less b = refl
+then_eq Equal b = refl
+then_eq Greater b = refl
+
+nat_ties : (a b : ℕ) → (a == b) ≡ is_eq (nat_cmp a b)
+nat_ties a b = grind (arith, nat_tests)
+
+octets_tie : (a b : List ℕ) → bytes_eq a b ≡ is_eq (slice_cmp nat_cmp a b)
+octets_tie a b =
+    let d : Decides (is_eq (slice_cmp nat_cmp a b)) (a ≡ b) = (
+      λ t. slice_cmp-IsAntisymmetric nat_cmp-IsAntisymmetric a b ((Equal-is (slice_cmp nat_cmp a b)).0 t),
+      λ e. (Equal-is (slice_cmp nat_cmp a b)).1 (subst (λ x. slice_cmp nat_cmp a x ≡ Equal) e (tied_itself nat_list_cmp_total a)),
+    ) in
+    same_from_decides (bytes_eq a b) (is_eq (slice_cmp nat_cmp a b)) (bytes_eq-Decides a b) d
+
+and_regroup : (a b c : Bool) → (a && (b && c)) ≡ ((a && b) && c)
+and_regroup true b c = refl
+and_regroup false b c = refl
+
+pub same_order : (a b : Record) → same_record a b ≡ is_eq (record_order a b)
+same_order a b =
+    let x = canonical_order a.owner b.owner in
+    let y = nat_cmp a.kind b.kind in
+    let z = slice_cmp nat_cmp a.rdata b.rdata in
+    ap (λ t. t && (a.kind == b.kind && bytes_eq a.rdata b.rdata)) (same_ties a.owner b.owner)
+    ∙ (ap (λ t. is_eq x && (t && bytes_eq a.rdata b.rdata)) (nat_ties a.kind b.kind)
+    ∙ (ap (λ t. is_eq x && (is_eq y && t)) (octets_tie a.rdata b.rdata)
+    ∙ (and_regroup (is_eq x) (is_eq y) (is_eq z) ∙ sym (then_eq (ordering_then x y) z ∙ ap (λ t. t && is_eq z) (then_eq x y)))))
+
+tie_eq : (o p : Ordering) → p ≡ ordering_reverse o → is_eq p ≡ (not (is_lt p) && not (is_lt o))
+tie_eq Less p e = rw e refl
+tie_eq Equal p e = rw e refl
+tie_eq Greater p e = rw e refl
+
+pub same_before : (a b : Record) → same_record a b ≡ ties before a b
+unfolding before
+same_before a b = same_order a b ∙ tie_eq (record_order b a) (record_order a b) (record_total.antisymm a b)
+
+turn_gt : (o p : Ordering) → p ≡ ordering_reverse o → is_gt p ≡ is_lt o
+turn_gt Less p e = rw e refl
+turn_gt Equal p e = rw e refl
+turn_gt Greater p e = rw e refl
+
+placed_put : (r : Record) (ss : List Record) → placed r ss ≡ put before r ss
+unfolding placed put before
+placed_put r [] = refl
+placed_put r (s ∷ ss) = rw (turn_gt (record_order s r) (record_order r s) (record_total.antisymm r s), placed_put r ss) refl
+
+pub in_order_puts : (rs : List Record) → in_order rs ≡ puts before rs
+unfolding in_order puts
+in_order_puts [] = refl
+in_order_puts (r ∷ rs) = rw (in_order_puts rs) (placed_put r (puts before rs))
+
+distinct_same : (rs : List Record) → distinct rs ≡ firsts same_record rs
+unfolding distinct firsts
+distinct_same [] = refl
+distinct_same (r ∷ rs) = rw (distinct_same rs) refl
+
+distinct_firsts : (rs : List Record) → distinct rs ≡ firsts (ties before) rs
+distinct_firsts rs = distinct_same rs ∙ ap (λ same. firsts same rs) (λ i a b. same_before a b i)
+
+canonical : (rs : List Record) → puts before (firsts (ties before) rs) ≡ in_order (distinct rs)
+canonical rs = sym (in_order_puts (distinct rs) ∙ ap (puts before) (distinct_firsts rs))
+
+climbs : (rs : List Record) → IsStrictlySortedBy record_order rs → Climbs before rs
+unfolding Climbs IsStrictlySortedBy before
+climbs [] h = tt
+climbs (r ∷ rs) h = (each_more (λ s. record_order r s ≡ Less) (λ s. is_lt (record_order r s) ≡ true) (λ s e. ap is_lt e) rs h.0, climbs rs h.1)
+
+pub rising_ascends : (rs : List Record) → IsStrictlySortedBy record_order rs → Ascends before rs
+rising_ascends rs h = climbs_ascends before before_ranks rs (climbs rs h)
+
+pub rising_canonical : (rs : List Record) → IsStrictlySortedBy record_order rs → rs ≡ in_order (distinct rs)
+rising_canonical rs h = climbed before before_ranks rs (climbs rs h) ∙ canonical rs
+
+-- what a stable sort and the removal of those that are the same leave
+pub sorted_canonical : (rs ss : List Record) → IsSortedBy (λ a b. is_lt (record_order a b)) ss → IsStableBy (λ a b. is_lt (record_order a b)) rs ss → dedup same_record ss ≡ in_order (distinct rs)
+unfolding before
+sorted_canonical rs ss up stable =
+    ap (λ same. dedup same ss) (λ i a b. same_before a b i) ∙ (tidied before before_ranks rs ss up stable ∙ canonical rs)
+
+index_less : (o : Ordering) → (ordering_index o == 0) ≡ true → o ≡ Less
+index_less Less h = refl
+index_less Equal h = absurd (cc)
+index_less Greater h = absurd (cc)
+
+-- where each comes before the next, each comes before all behind it
+rise_from : (r : Record) (ss : List Record) → neighbours_from (λ a b. not (is_before a b)) r ss ≡ false → IsStrictlySortedBy record_order (r ∷ ss)
+unfolding neighbours_from IsStrictlySortedBy
+rise_from r [] h = (tt, tt)
+rise_from r (s ∷ ss) h =
+    let parts = or_parts (not (is_before r s)) (neighbours_from (λ a b. not (is_before a b)) s ss) h in
+    let rest = rise_from s ss parts.1 in
+    let first = index_less (record_order r s) (not-false (is_before r s) parts.0) in
+    ((first, each_more (λ t. record_order s t ≡ Less) (λ t. record_order r t ≡ Less) (λ t l. record_total.trans r s t first l) ss rest.0), rest)
+
+risen_from : (r : Record) (ss : List Record) → IsStrictlySortedBy record_order (r ∷ ss) → neighbours_from (λ a b. not (is_before a b)) r ss ≡ false
+unfolding neighbours_from IsStrictlySortedBy
+risen_from r [] h = refl
+risen_from r (s ∷ ss) h = rw h.0.0 (risen_from s ss h.1)
+
+rise_decides : (rs : List Record) → Decides (not (neighbours (λ a b. not (is_before a b)) rs)) (IsStrictlySortedBy record_order rs)
+unfolding IsStrictlySortedBy
+rise_decides [] = (λ t. tt, λ h. refl)
+rise_decides (r ∷ rs) =
+    let n = neighbours_from (λ a b. not (is_before a b)) r rs in
+    (λ t. rise_from r rs (not-true n t), λ h. not_from_false n (risen_from r rs h))
+
+not_turn : (a b : Bool) → not a ≡ b → a ≡ not b
+not_turn true b e = rw (← e) refl
+not_turn false b e = rw (← e) refl
+
+pub rise_walk : (rs : List Record) (r : Bool) → IsAllAdjacentAnswer (λ a b c. c ≡ is_before a b) rs r → Decides r (IsStrictlySortedBy record_order rs)
+rise_walk rs r h = rw (not_turn r _ (adjacent_answer is_before rs r h)) (rise_decides rs)

@@ -1,0 +1,15 @@
+//! Versions of zones: distinct records in canonical order that are valid (RFC 1034 section 3.6.2, RFC 1035
+//! section 5.2, RFC 2181, RFC 4034 section 6).
+#![tactic(auto)]
+
+mod fault;
+mod judging;
+mod plain;
+mod sorting;
+#[cfg(test)]
+mod tests;
+mod version;
+
+pub use fault::{Fault, ZoneFault};
+pub use plain::plain_fault;
+pub use version::{Version, check};
