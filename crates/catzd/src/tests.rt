@@ -168,10 +168,9 @@ fn a_read_that_fails_ends_the_run(rt: HostRuntime) -> Result<(), AllocError> {
     let alloc = rt.alloc();
     'reads: for at in 0..2 {
         let mut reads = Vec::new(alloc);
-        reads.push(at)?;
+        reads.push(at as u64)?;
         let ended = run_on(alloc, &["answer"], &[PLAIN_ZONE], reads, Vec::new(alloc))?;
-        let output: &[&[u8]] = if at == 0 { &[] } else { &[b"taken 2018031900"] };
-        assert!(rt; is_end(alloc, &ended, Status::ReadFault, output)?);
+        assert!(rt; is_end(alloc, &ended, Status::ReadFault, &REPLIES[..at])?);
     }
     Ok(())
 }

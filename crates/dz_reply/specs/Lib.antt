@@ -1,4 +1,5 @@
 pub mod Code
+pub mod Exchanges
 pub mod Layout
 pub mod Query
 pub mod Replies
