@@ -213,9 +213,16 @@ fn shown(rt: &impl Abort, found: Found) -> Seen {
     }
 }
 
+/// What is found by searches and by a look at each record.
 fn expect(rt: &impl Abort, apex: &Name, records: &[Rr], name: &[u8], kind: u16, wanted: Seen) {
-    let found = lookup(rt, apex, records, &named(rt, name), kind);
-    assert_eq!(rt; shown(rt, found), wanted, "of {name:?} {kind}");
+    let name = named(rt, name);
+    let found = shown(rt, lookup(rt, apex, records, &name, kind));
+    assert_eq!(rt; found, wanted, "of {name:?} {kind}");
+    assert_eq!(rt;
+        found,
+        plain_find(rt, apex, records, &name, kind),
+        "of {name:?} {kind}"
+    );
 }
 
 #[test]
