@@ -1,5 +1,5 @@
 -- A run that could not begin.
-use Rattle.std.proofs.Common.{◌≡◌, ℕ, List, [], ◌++◌, Option, Some, None, Result, Err, refl, sym, ap}
+use Rattle.std.proofs.Common.{◌≡◌, ℕ, List, [], Option, Some, None, Result, Err, refl, sym, ap}
 use Rattle.std.proofs.lemmas.List.{append-nil}
 use Rattle.dz_io.specs.Device.{Gains}
 use Rattle.dz_io.specs.Script.{said_of}

@@ -1,5 +1,5 @@
 -- A zone that is taken from one message that holds all of it (RFC 5936 section 2.2).
-use Rattle.std.specs.Prelude.{◌≡◌, ⊤, ℕ, ◌-◌, ◌%◌, ◌==◌, ◌&&◌, not, Bool, true, false, nat_lt, nat_le, List, [], ◌∷◌, length, take, slice_get, Option, Some, None, Result, Ok, Err, if◌then◌else◌}
+use Rattle.std.specs.Prelude.{◌≡◌, ⊤, ℕ, ◌-◌, ◌%◌, ◌==◌, ◌&&◌, not, Bool, false, nat_lt, nat_le, List, [], ◌∷◌, length, take, slice_get, Option, Some, None, Result, Ok, Err, if◌then◌else◌}
 use Rattle.std.specs.List.{list_any}
 use Rattle.std.specs.Str.{bytes_eq}
 use Rattle.dz_name.specs.Labels.{same_name}
@@ -8,7 +8,7 @@ use Rattle.dz_record.specs.Zone.{distinct, in_order}
 use Rattle.dz_zone.specs.declared.fault.Fault.{Fault}
 use Rattle.dz_zone.specs.Valid.{at_apex, fault_of}
 use Rattle.dz_message.specs.declared.fault.MessageFault.{MessageFault}
-use Rattle.dz_message.specs.declared.question.Question.{Question}
+use Rattle.dz_header.specs.declared.question.Question.{Question}
 use Rattle.dz_message.specs.Content.{Content}
 use Rattle.dz_message.specs.Reading.{message_of}
 use Rattle.catzd.specs.declared.taking.Taking.{Taking}

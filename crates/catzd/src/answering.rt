@@ -12,9 +12,10 @@ ghost use Rattle.catzd.specs.ZoneLine.{octets_in, zone_line};
 
 use crate::taking::{Taking, take_zone};
 use crate::zone_line::{read_octets, read_zone_line};
+use dz_header::ReplyBuffer;
 use dz_io::{Halt, Script, Sink, put};
 use dz_name::Name;
-use dz_reply::{Transport, Turn, Writer, reply_into};
+use dz_reply::{Transport, Turn, reply_into};
 use dz_table::{Slot, Table};
 use dz_zone::Version;
 use itoa::Buffer;
@@ -35,7 +36,7 @@ pub enum End {
 #[derive(Drop)]
 pub struct Answering {
     table: Option<Table>,
-    writer: Writer,
+    buffer: ReplyBuffer,
 }
 
 impl Model for Answering {
@@ -55,12 +56,12 @@ struct Saying {
 }
 
 impl Answering {
-    pub fn new(writer: Writer) -> Answering
+    pub fn new(buffer: ReplyBuffer) -> Answering
         ensures { result ≡ None }
     {
         Answering {
             table: None,
-            writer,
+            buffer,
         }
     }
 
@@ -87,7 +88,7 @@ impl Answering {
         ensures { IfOk result (λ s. line_turn self.old number line.now ≡ turn_from s.text.items s.ending self.new) }
     {
         match &self.table {
-            Some(table) => take_request(alloc, number, line, table, &mut self.writer),
+            Some(table) => take_request(alloc, number, line, table, &mut self.buffer),
             None => self.take_first(alloc, number, line),
         }
     }
@@ -188,14 +189,14 @@ fn take_request(
     number: u64,
     line: &[u8],
     table: &Table,
-    writer: &mut Writer,
+    buffer: &mut ReplyBuffer,
 ) -> Result<Saying, AllocError>
     ensures { IfOk result (λ s. request_turn table.now number (octets_in line.now) ≡ turn_from s.text.items s.ending (Some table.now)) }
 {
     match read_octets(alloc, line)? {
         None => say_last(alloc, b"bad ", number, End::BadInput),
         Some(octets) => Ok(Saying {
-            text: reply_text(alloc, table, octets.as_slice(), writer)?,
+            text: reply_text(alloc, table, octets.as_slice(), buffer)?,
             ending: None,
         }),
     }
@@ -206,14 +207,14 @@ fn reply_text(
     alloc: Global,
     table: &Table,
     octets: &[u8],
-    writer: &mut Writer,
+    buffer: &mut ReplyBuffer,
 ) -> Result<Vec<u8>, AllocError>
     ensures { IfOk result (λ text. text.items ≡ reply_text (reply_of table.now octets.now 0 false)) }
 {
-    match reply_into(table, octets, 0, Transport::Udp, writer) {
+    match reply_into(table, octets, 0, Transport::Udp, buffer) {
         Turn::Silent => Vec::from_slice(alloc, b"none\n"),
         Turn::Notify(name) => notify_text(alloc, &name),
-        Turn::Written(_) => hex_text(alloc, writer.written()),
+        Turn::Written(count) => hex_text(alloc, buffer.reply(count)),
     }
 }
 

@@ -13,7 +13,9 @@ mod zone_line;
 use crate::edge::{ReadSource, WriteSink};
 use crate::running::{Status, run};
 use crate::words::Words;
+use std::alloc::AllocError;
 use std::env;
+use std::io::ErrorKind;
 use std::process::ExitCode;
 
 fn main(rt: HostRuntime) -> ExitCode {
@@ -23,6 +25,7 @@ fn main(rt: HostRuntime) -> ExitCode {
             let _program = args.next();
             args.collect(alloc)
         }
+        Err(error) if error.kind() == ErrorKind::OutOfMemory => Err(AllocError),
         // Words that aren't UTF-8 are no command.
         Err(_) => Ok(Vec::new(alloc)),
     };

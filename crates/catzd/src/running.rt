@@ -7,8 +7,8 @@ ghost use Rattle.catzd.specs.Words.{command_of};
 
 use crate::answering::{Answering, End};
 use crate::words::{Command, Words, read_words};
+use dz_header::ReplyBuffer;
 use dz_io::{Fault, Sink, Source, run_script};
-use dz_reply::Writer;
 use std::alloc::Global;
 
 /// How the program ends. The numbers are its exit codes.
@@ -81,10 +81,10 @@ fn answer<S: Source, K: Sink>(alloc: Global, input: &mut S, output: &mut K) -> S
     ensures read_fault { result ≡ Status.ReadFault → HasRisen (S.faults input.old) (S.faults input.new) }
     ensures write_fault { result ≡ Status.WriteFault → HasRisen (K.faults output.old) (K.faults output.new) }
 {
-    match Writer::make(alloc) {
+    match ReplyBuffer::make(alloc) {
         Err(_) => Status::NoMemory,
-        Ok(writer) => {
-            let mut answering = Answering::new(writer);
+        Ok(buffer) => {
+            let mut answering = Answering::new(buffer);
             status_of(run_script(alloc, &mut answering, input, output))
         }
     }

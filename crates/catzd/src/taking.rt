@@ -5,7 +5,8 @@ ghost use Rattle.std.specs.List.{list_any};
 ghost use Rattle.dz_zone.specs.Valid.{at_apex};
 ghost use Rattle.catzd.specs.Taking.{is_good_response, asks_transfer, is_transfer, closes, is_whole, checked, from_records, from_message, taking_of, HasApex};
 
-use dz_message::{Message, MessageFault, Question, ReadError, read_message};
+use dz_header::Question;
+use dz_message::{Message, MessageFault, ReadError, read_message};
 use dz_name::Name;
 use dz_record::Rr;
 use dz_zone::{Version, ZoneFault, check};

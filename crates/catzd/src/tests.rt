@@ -163,26 +163,29 @@ fn no_words_give_the_usage(rt: HostRuntime) -> Result<(), AllocError> {
     Ok(())
 }
 
+/// The input is read at once, and a second read tells its end; each line of the output is one write.
 #[test]
-fn a_read_that_fails_ends_the_run(rt: HostRuntime) -> Result<(), AllocError> {
+fn a_read_or_a_write_that_fails_ends_the_run(rt: HostRuntime) -> Result<(), AllocError> {
     let alloc = rt.alloc();
-    'reads: for at in 0..2 {
-        let mut reads = Vec::new(alloc);
-        reads.push(at as u64)?;
-        let ended = run_on(alloc, &["answer"], &[PLAIN_ZONE], reads, Vec::new(alloc))?;
-        assert!(rt; is_end(alloc, &ended, Status::ReadFault, &REPLIES[..at])?);
-    }
-    Ok(())
-}
-
-#[test]
-fn a_write_that_fails_ends_the_run(rt: HostRuntime) -> Result<(), AllocError> {
-    let alloc = rt.alloc();
-    'writes: for at in 0..4 {
-        let mut writes = Vec::new(alloc);
-        writes.push(at as u64)?;
-        let ended = run_on(alloc, &["answer"], &REQUESTS, Vec::new(alloc), writes)?;
-        assert!(rt; is_end(alloc, &ended, Status::WriteFault, &REPLIES[..at])?);
+    let cases: [(&[u64], &[u64], Status, usize); 8] = [
+        (&[0], &[], Status::ReadFault, 0),
+        (&[1], &[], Status::ReadFault, 4),
+        (&[2], &[], Status::Done, 4),
+        (&[], &[0], Status::WriteFault, 0),
+        (&[], &[1], Status::WriteFault, 1),
+        (&[], &[2], Status::WriteFault, 2),
+        (&[], &[3], Status::WriteFault, 3),
+        (&[], &[4], Status::Done, 4),
+    ];
+    'cases: for (reads, writes, status, count) in cases {
+        let reads = Vec::from_slice(alloc, reads)?;
+        let writes = Vec::from_slice(alloc, writes)?;
+        let ended = run_on(alloc, &["answer"], &REQUESTS, reads, writes)?;
+        assert!(rt; count <= REPLIES.len());
+        assert!(rt;
+            is_end(alloc, &ended, status, &REPLIES[..count])?,
+            "{status:?} after {count} lines"
+        );
     }
     Ok(())
 }

@@ -1,2 +1,3 @@
 pub mod HeaderLemmas
 pub mod ShapeLemmas
+pub mod WriterLemmas

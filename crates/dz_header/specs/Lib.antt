@@ -1,2 +1,5 @@
+pub mod Buffer
+pub mod Code
 pub mod Header
 pub mod Shape
+pub mod Writing

@@ -1,6 +1,6 @@
 -- Records by their shape alone: pointers aren't followed and names aren't judged by their length
 -- (RFC 1035 sections 3.2.1 and 4.1.4).
-use Rattle.std.specs.Prelude.{ℕ, zero, suc, Bool, ◌==◌, nat_lt, nat_le, List, [], ◌∷◌, length, take, drop, slice_index, Option, Some, None, if◌then◌else◌}
+use Rattle.std.specs.Prelude.{ℕ, zero, suc, Bool, ◌==◌, nat_lt, List, [], ◌∷◌, length, drop, slice_index, Option, Some, None, if◌then◌else◌}
 use Rattle.dz_name.specs.Numbers.{number_of_two, number_of_four}
 use Rattle.dz_header.specs.declared.shape.Shape.{Shape}
 

@@ -1,12 +1,21 @@
-//! The header of a message, and records by their shape (RFC 1035 section 4.1).
+//! The parts of a message that stand outside its records (RFC 1035 section 4.1): header, question, and records by their
+//! shape; and the memory in which a request is read and its reply written.
 #![tactic(auto)]
 
+mod buffer;
+mod code;
 mod edns;
 mod header;
+mod question;
 mod shape;
 #[cfg(test)]
 mod tests;
+mod writer;
 
+pub use buffer::ReplyBuffer;
+pub use code::ResponseCode;
 pub use edns::Edns;
 pub use header::{Header, read_header, write_header};
+pub use question::Question;
 pub use shape::{Shape, read_shape, skip_records};
+pub use writer::Writer;

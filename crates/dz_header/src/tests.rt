@@ -1,5 +1,8 @@
-use crate::{Header, Shape, read_header, read_shape, skip_records, write_header};
+use crate::{
+    Header, ReplyBuffer, Shape, Writer, read_header, read_shape, skip_records, write_header,
+};
 use std::process::Abort;
+use std::test::*;
 
 /// An A record of `www` and a pointer, with a TTL of 3600.
 const ADDRESS: &[u8] = b"\x03www\xc0\x0c\0\x01\0\x01\0\0\x0e\x10\0\x04\xc0\0\x02\x01";
@@ -111,4 +114,41 @@ fn so_many_records_are_skipped(rt: HostRuntime) {
     assert!(rt; skip_records(octets, 3).is_none());
     assert!(rt; skip_records(&[], 1).is_none());
     assert!(rt; skip_records(&[], 0).is_some());
+}
+
+fn is_written(writer: &Writer, expected: &[u8]) -> bool {
+    !writer.is_over() && writer.written() == expected
+}
+
+#[test]
+fn once_over_nothing_is_written_until_the_writer_is_emptied(rt: HostRuntime) -> Result<(), Fail> {
+    let mut writer = Writer::make(rt.alloc())?;
+    writer.begin(4);
+    writer.put(b"abc");
+    writer.put(b"d");
+    assert!(rt; is_written(&writer, b"abcd"));
+    writer.put(b"e");
+    assert!(rt; writer.is_over());
+    writer.put(b"");
+    assert!(rt; writer.is_over());
+    writer.begin(65_537);
+    assert!(rt; is_written(&writer, b""));
+    Ok(())
+}
+
+#[test]
+fn a_buffer_has_room_for_a_request_and_its_reply(rt: HostRuntime) -> Result<(), Fail> {
+    let mut buffer = ReplyBuffer::make(rt.alloc())?;
+    let room = buffer.request_mut();
+    assert!(rt; room.len() == 65_537);
+    room[65_536] = 7;
+    assert!(rt; buffer.request_mut()[65_536] == 7);
+    let writer = buffer.writer();
+    writer.begin(5);
+    writer.put(b"reply");
+    assert!(rt; buffer.reply(5) == b"reply".as_slice());
+    assert!(rt; buffer.reply(2) == b"re".as_slice());
+    assert!(rt; buffer.reply(65_537).len() == 65_537);
+    assert!(rt; buffer.request_mut()[65_536] == 7);
+    Ok(())
 }

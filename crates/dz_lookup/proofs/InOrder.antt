@@ -1,9 +1,7 @@
 -- A zone in order: where one can search it, and which records a search gives.
 use Rattle.std.proofs.Common.{◌≡◌, ℕ, ◌+◌, ◌-◌, ◌<◌, ◌≤◌, Bool, true, false, List, [], ◌∷◌, length, take, drop, get_or, refl, sym, ◌∙◌, ap, arith, inl, inr}
 use Rattle.std.specs.Prelude.{filter, ◌==◌, ◌&&◌}
-use Rattle.std.specs.List.{AllByRecursion, IsAllAdjacentAnswer}
-use Rattle.std.specs.Prelude.{IsTrue}
-use Rattle.std.proofs.lemmas.Cmp.{nat_list_cmp_total}
+use Rattle.std.specs.List.{AllByRecursion}
 use Rattle.std.specs.List.Sorted.{IsStrictlySortedBy, IsSortedBy, IsNonDecreasingBy, IsPartitionedBy}
 use Rattle.std.specs.Cmp.{IsTotalOrder, on_total, then_total, nat_cmp_total}
 use Rattle.std.specs.Ordering.{is_lt, is_le, is_eq, is_gt, ordering_index, ordering_then, ordering_reverse, nat_cmp, on, then_cmp}
@@ -12,7 +10,7 @@ use Rattle.std.specs.declared.cmp.Ordering.TheVariants.{Less, Equal, Greater}
 use Rattle.std.proofs.lemmas.List.Sorted.{searchable_from_sorted}
 use Rattle.std.proofs.lemmas.List.Kept.{IsStrictlySortedBy-filter}
 use Rattle.std.proofs.lemmas.List.Elements.{filter_agree}
-use Rattle.std.proofs.lemmas.Map.Keys.{sorted_from_all_adjacent, Less-from_sorted, sorted_head, sorted_tail}
+use Rattle.std.proofs.lemmas.Map.Keys.{Less-from_sorted, sorted_head, sorted_tail}
 use Rattle.std.specs.Cmp.{both_ways}
 use Rattle.std.proofs.lemmas.Bool.{cases_Bool, cases_lt, false_from_ne_true}
 use Rattle.std.proofs.lemmas.List.{get_or_default}
@@ -162,7 +160,7 @@ swapped true false = refl
 swapped false true = refl
 swapped false false = refl
 
-key_test : (name : List (List ℕ)) (kind : ℕ) (r : Record) → is_eq (from_key name kind r) ≡ ((r.kind == kind) && same_name r.owner name)
+pub key_test : (name : List (List ℕ)) (kind : ℕ) (r : Record) → is_eq (from_key name kind r) ≡ ((r.kind == kind) && same_name r.owner name)
 key_test name kind r =
     both_equal (canonical_order r.owner name) r.kind kind ∙ (ap (λ b. b && (r.kind == kind)) (sym (same_ties r.owner name)) ∙ swapped (same_name r.owner name) (r.kind == kind))
 
@@ -191,19 +189,3 @@ owns_none zone name kind i begin past =
     sym (list_any_none (λ r. (r.kind == kind) && same_name r.owner name) zone (λ k d h.
     false_from_ne_true (((get_or zone k d).kind == kind) && same_name (get_or zone k d).owner name) (λ t.
     not_both (from_key name kind (get_or zone k d)) (begin.0 k d (omega arith) (omega arith)) (key_test name kind (get_or zone k d) ∙ t))))
-
--- neighbours that rise: the whole list does
-record_total : IsTotalOrder record_order
-record_total = then_total (then_total (on_total (λ r. r.owner) canonical_total) (on_total (λ r. r.kind) nat_cmp_total)) (on_total (λ r. r.rdata) nat_list_cmp_total)
-
-lt_less : (o : Ordering) → true ≡ is_lt o → o ≡ Less
-lt_less Less h = refl
-lt_less Equal h = absurd (cc)
-lt_less Greater h = absurd (cc)
-
-pub strictly_sorted : (zone : List Record) (r : Bool) → IsAllAdjacentAnswer (λ a b t. t ≡ is_lt (record_order a b)) zone r → IsTrue r → IsStrictlySortedBy record_order zone
-unfolding IsStrictlySortedBy
-strictly_sorted [] r h t = tt
-strictly_sorted (x ∷ zone) false h t = absurd (cc)
-strictly_sorted (x ∷ zone) true h t =
-    sorted_from_all_adjacent record_total (x ∷ zone) x (λ k within. lt_less (record_order (get_or (x ∷ zone) k x) (get_or (x ∷ zone) (k + 1) x)) (h k x within))

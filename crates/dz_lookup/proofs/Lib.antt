@@ -2,6 +2,9 @@ pub mod Follow
 pub mod FoundLemmas
 pub mod InOrder
 pub mod Pairs
+pub mod PlainChains
+pub mod PlainRuns
+pub mod PlainWalk
 pub mod Runs
 pub mod Walk
 pub mod Within

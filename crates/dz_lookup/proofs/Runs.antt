@@ -11,7 +11,7 @@ use Rattle.std.proofs.lemmas.List.{take-append-drop, append-nil, get_or-take, ge
 use Rattle.std.proofs.lemmas.List.Elements.{filter-append, All-head, All-tail}
 
 -- where no element passes, and where each does
-filter_none : {X : Type 0} (p : X → Bool) (xs : List X) → All (λ x. p x ≡ false) xs → filter p xs ≡ []
+pub filter_none : {X : Type 0} (p : X → Bool) (xs : List X) → All (λ x. p x ≡ false) xs → filter p xs ≡ []
 filter_none p [] none = refl
 filter_none p (x ∷ xs) none =
     rw (All-head (λ x. p x ≡ false) x xs none) (filter_none p xs (All-tail (λ x. p x ≡ false) x xs none))
@@ -106,7 +106,7 @@ pub partitioned_le : {X : Type 0} (ord : X → Ordering) (xs : List X) → IsNon
 partitioned_le ord xs up i j d le within h = index_le (ord (get_or xs i d)) (ord (get_or xs j d)) (up i j d le within) h
 
 -- where the search for the begin of a run ends, its first element stands
-less_eq_gt : (o : Ordering) → is_lt o ≡ false → is_eq o ≡ false → ordering_index o ≡ 2
+pub less_eq_gt : (o : Ordering) → is_lt o ≡ false → is_eq o ≡ false → ordering_index o ≡ 2
 less_eq_gt Less h k = absurd (cc)
 less_eq_gt Equal h k = absurd (cc)
 less_eq_gt Greater h k = refl
@@ -123,7 +123,7 @@ all_before ord xs i low within =
     let m : k < i = omega (arith, length-take-le i xs within) in
     rw (get_or-take i xs k d m) (lt_not_eq (ord (get_or xs k d)) (low.0 k d (omega arith) m)))
 
-none_from : {X : Type 0} (ord : X → Ordering) (xs : List X) (i : ℕ) (d : X) → IsNonDecreasingBy (λ y. ordering_index (ord y)) xs → ordering_index (ord (get_or xs i d)) ≡ 2 → i < length xs
+pub none_from : {X : Type 0} (ord : X → Ordering) (xs : List X) (i : ℕ) (d : X) → IsNonDecreasingBy (λ y. ordering_index (ord y)) xs → ordering_index (ord (get_or xs i d)) ≡ 2 → i < length xs
     → filter (λ y. is_eq (ord y)) (drop i xs) ≡ []
 none_from ord xs i d up greater within =
     filter_none (λ y. is_eq (ord y)) (drop i xs) (λ k e h.
@@ -131,7 +131,7 @@ none_from ord xs i d up greater within =
     let there : ordering_index (ord (get_or xs i e)) ≡ 2 = rw (get_or_default xs i e d within) greater in
     rw (get_or-drop i xs k e) (greater_not_eq (ord (get_or xs i e)) (ord (get_or xs (i + k) e)) there (up i (i + k) e (omega arith) len)))
 
-split_filter : {X : Type 0} (p : X → Bool) (xs : List X) (i : ℕ) → filter p (take i xs) ≡ [] → filter p xs ≡ filter p (drop i xs)
+pub split_filter : {X : Type 0} (p : X → Bool) (xs : List X) (i : ℕ) → filter p (take i xs) ≡ [] → filter p xs ≡ filter p (drop i xs)
 split_filter p xs i none =
     ap (filter p) (sym (take-append-drop i xs)) ∙ (filter-append p (take i xs) (drop i xs) ∙ ap (λ ys. ys ++ filter p (drop i xs)) none)
 

@@ -85,7 +85,7 @@ impl<'a> Chain<'a> {
 
 /// Follows CNAME records from name to name (RFC 1034 section 4.3.2): the chain becomes these records, and the answer is
 /// how it ends. The name is within the apex, and so is each record's owner; the records are in order.
-pub fn chase<'a>(
+pub(crate) fn chase<'a>(
     apex: &Name,
     records: &'a [Rr],
     name: &Name,

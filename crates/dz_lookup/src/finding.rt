@@ -41,7 +41,7 @@ impl<'a> Found<'a> {
 /// What a zone says of a name within its apex and a type (RFC 1034 section 4.3.2, RFC 4592); type 255 asks for all
 /// records. The records are in order, and each record's owner is within the apex.
 #[tactic(auto, unfolding(crate::specs::Found::found))]
-pub fn find<'a>(apex: &Name, records: &'a [Rr], name: &Name, kind: u16) -> Found<'a>
+pub(crate) fn find<'a>(apex: &Name, records: &'a [Rr], name: &Name, kind: u16) -> Found<'a>
     requires sorted { IsStrictlySortedBy record_order records.now }
     requires owners { All (λ r. is_within r.owner apex.now ≡ true) records.now }
     requires within { is_within name.now apex.now ≡ true }

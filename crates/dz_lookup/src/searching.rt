@@ -11,7 +11,7 @@ use dz_name::Name;
 use dz_record::Rr;
 
 /// The records of an owner, in order.
-pub fn records_of<'a>(records: &'a [Rr], name: &Name) -> &'a [Rr]
+pub(crate) fn records_of<'a>(records: &'a [Rr], name: &Name) -> &'a [Rr]
     requires { IsStrictlySortedBy record_order records.now }
     ensures { result.now ≡ records_of records.now name.now }
 {
@@ -23,7 +23,7 @@ pub fn records_of<'a>(records: &'a [Rr], name: &Name) -> &'a [Rr]
 }
 
 /// The records of an owner and a type, in order.
-pub fn rrset_of<'a>(records: &'a [Rr], name: &Name, kind: u16) -> &'a [Rr]
+pub(crate) fn rrset_of<'a>(records: &'a [Rr], name: &Name, kind: u16) -> &'a [Rr]
     requires { IsStrictlySortedBy record_order records.now }
     ensures { result.now ≡ of_type kind (records_of records.now name.now) }
 {
@@ -35,7 +35,7 @@ pub fn rrset_of<'a>(records: &'a [Rr], name: &Name, kind: u16) -> &'a [Rr]
 }
 
 /// Whether the name owns records of a type.
-pub fn owns(records: &[Rr], name: &Name, kind: u16) -> bool
+pub(crate) fn owns(records: &[Rr], name: &Name, kind: u16) -> bool
     requires { IsStrictlySortedBy record_order records.now }
     ensures { result ≡ owns records.now kind name.now }
 {
@@ -52,7 +52,7 @@ fn is_of(rr: &Rr, name: &Name, kind: u16) -> bool
 
 /// Whether the name, or a name below it, owns a record (RFC 4592 section 2.2.2). Of the names from this one on, those
 /// within it come first.
-pub fn exists(records: &[Rr], name: &Name) -> bool
+pub(crate) fn exists(records: &[Rr], name: &Name) -> bool
     requires { IsStrictlySortedBy record_order records.now }
     ensures { result ≡ exists records.now name.now }
 {
@@ -79,7 +79,7 @@ fn owner_end(records: &[Rr], name: &Name) -> usize
 }
 
 /// The place of the first record whose owner and type don't come before these.
-pub fn rrset_begin(records: &[Rr], name: &Name, kind: u16) -> usize
+pub(crate) fn rrset_begin(records: &[Rr], name: &Name, kind: u16) -> usize
     requires { IsStrictlySortedBy record_order records.now }
     ensures within { result ≤ length records.now }
     ensures point { IsBegin (from_key name.now kind) records.now result }

@@ -1,13 +1,10 @@
 -- RDATA that was read fits its type.
-use Rattle.std.proofs.Common.{◌≡◌, ℕ, ◌-◌, ◌+◌, ◌≤◌, ◌<◌, List, [], ◌∷◌, ◌++◌, length, take, drop, get_or, Result, Ok, Err, Some, None, refl, sym, ap, ◌∙◌, subst, append_assoc, length-append, arith, Bool, true, false, inl, inr}
-use Rattle.std.specs.Prelude.{nat_le, nat_lt, ◌==◌, ◌&&◌, slice_index, if◌then◌else◌}
-use Rattle.std.specs.Option.{option_map_or}
-use Rattle.std.proofs.lemmas.List.{append-nil, length-take-le, length-drop, get_or-take, get_or-drop, get_or_append_left, get_or-append-add}
-use Rattle.std.proofs.lemmas.Bool.{leb-true}
+use Rattle.std.proofs.Common.{◌≡◌, ℕ, ◌-◌, ◌+◌, ◌≤◌, List, [], ◌∷◌, ◌++◌, length, take, drop, Result, Ok, Err, Some, refl, sym, ap, ◌∙◌, subst, append_assoc, length-append, arith, true, inl, inr}
+use Rattle.std.specs.Prelude.{nat_le, nat_lt, ◌==◌, slice_index, if◌then◌else◌}
+use Rattle.std.proofs.lemmas.List.{length-take-le, length-drop, get_or-take, get_or-drop, get_or_append_left, get_or-append-add}
 use Rattle.std.proofs.lemmas.Bool.Decides.{nat_tests, leb_tells, eqb_tells}
 use Rattle.dz_name.specs.Labels.{wire_of}
-use Rattle.dz_name.specs.Reading.{Reading, name_at, canonical_end}
-use Rattle.dz_name.specs.declared.reading.WireFault.{WireFault}
+use Rattle.dz_name.specs.Reading.{Reading, name_at}
 use Rattle.dz_name.proofs.ReadingLemmas.{name_at_name, name_at_within}
 use Rattle.dz_name.proofs.CanonicalLemmas.{canonical_end_wire}
 use Rattle.dz_record.specs.declared.table.Field.{Field}

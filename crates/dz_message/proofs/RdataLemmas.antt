@@ -1,5 +1,5 @@
 -- RDATA read field by field as a loop does.
-use Rattle.std.proofs.Common.{◌≡◌, ℕ, suc, ◌-◌, ◌+◌, ◌≤◌, ◌<◌, List, [], ◌∷◌, ◌++◌, length, drop, get_or, Result, Ok, Err, refl, sym, ap, ◌∙◌, append_assoc, arith}
+use Rattle.std.proofs.Common.{◌≡◌, ℕ, ◌-◌, ◌+◌, ◌≤◌, ◌<◌, List, [], ◌++◌, length, drop, get_or, Result, Ok, Err, refl, sym, ap, ◌∙◌, append_assoc, arith}
 use Rattle.std.specs.Prelude.{nat_le, ◌==◌, true, false, ◌≢◌}
 use Rattle.std.proofs.lemmas.List.{append-nil, drop_more, drop_all}
 use Rattle.std.proofs.lemmas.Bool.Decides.{nat_tests}
@@ -9,7 +9,7 @@ use Rattle.dz_message.specs.declared.fault.MessageFault.{MessageFault}
 use Rattle.dz_message.specs.declared.fault.MessageFault.TheVariants.{BadRdata}
 use Rattle.dz_message.specs.declared.fault.ReadError.{ReadError}
 use Rattle.dz_message.specs.declared.fault.ReadError.TheVariants as errors
-use Rattle.dz_message.specs.Reading.{◌>>=◌, Fails, Appends, octets_at, field_at, rdata_at}
+use Rattle.dz_message.specs.Reading.{◌>>=◌, Fails, octets_at, field_at, rdata_at}
 
 pub no_octets : (m : List ℕ) (at end count : ℕ) → end ≤ at → octets_at m at end (count + 1) ≡ Err BadRdata
 unfolding octets_at

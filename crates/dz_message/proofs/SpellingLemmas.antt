@@ -15,7 +15,7 @@ use Rattle.dz_record.specs.Record.{Record, is_bad_type, ttl_of}
 use Rattle.dz_message.specs.declared.fault.MessageFault.{MessageFault}
 use Rattle.dz_message.specs.declared.fault.MessageFault.TheVariants.{Wire, ShortHeader, BadRdata, BadType, Trailing}
 use Rattle.dz_message.specs.declared.fault.ReadError.{ReadError}
-use Rattle.dz_message.specs.declared.question.Question.{Question}
+use Rattle.dz_header.specs.declared.question.Question.{Question}
 use Rattle.dz_message.specs.declared.reading.Fixed.{Fixed}
 use Rattle.dz_message.specs.Content.{Content}
 use Rattle.dz_message.specs.Reading.{◌>>=◌, Gives, named, question_at, fixed_at, octets_at, name_within, field_at, rdata_at, rdata_of, record_at, many, ended, count_in, content_of, message_of}

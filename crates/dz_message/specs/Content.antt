@@ -2,7 +2,7 @@
 use Rattle.std.specs.Prelude.{List}
 use Rattle.dz_header.specs.declared.header.Header.{Header}
 use Rattle.dz_record.specs.Record.{Record}
-use Rattle.dz_message.specs.declared.question.Question.{Question}
+use Rattle.dz_header.specs.declared.question.Question.{Question}
 
 pub record Content : Type 0 where
   pub header : Header

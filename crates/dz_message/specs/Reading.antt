@@ -14,7 +14,7 @@ use Rattle.dz_message.specs.declared.fault.MessageFault.{MessageFault}
 use Rattle.dz_message.specs.declared.fault.MessageFault.TheVariants.{Wire, ShortHeader, BadRdata, BadType, Trailing}
 use Rattle.dz_message.specs.declared.fault.ReadError.{ReadError}
 use Rattle.dz_message.specs.declared.fault.ReadError.TheVariants as errors
-use Rattle.dz_message.specs.declared.question.Question.{Question}
+use Rattle.dz_header.specs.declared.question.Question.{Question}
 use Rattle.dz_message.specs.declared.reading.Fixed.{Fixed}
 use Rattle.dz_message.specs.Content.{Content}
 

@@ -9,7 +9,7 @@ use Rattle.dz_record.specs.declared.table.Field.{Field}
 use Rattle.dz_record.specs.declared.table.Field.TheVariants.{Octets, DomainName, CharacterString, Remainder}
 use Rattle.dz_record.specs.Fields.{fields_of}
 use Rattle.dz_record.specs.Record.{Record, is_bad_type, ttl_of}
-use Rattle.dz_message.specs.declared.question.Question.{Question}
+use Rattle.dz_header.specs.declared.question.Question.{Question}
 use Rattle.dz_message.specs.Content.{Content}
 use Rattle.dz_message.specs.Reading.{count_in}
 

@@ -5,7 +5,7 @@ use Rattle.dz_name.specs.Labels.{wire_of}
 use Rattle.dz_name.specs.Numbers.{two}
 use Rattle.dz_header.specs.Header.{header_octets}
 use Rattle.dz_record.specs.Record.{record_octets}
-use Rattle.dz_message.specs.declared.question.Question.{Question}
+use Rattle.dz_header.specs.declared.question.Question.{Question}
 use Rattle.dz_message.specs.declared.fault.WriteError.{WriteError}
 use Rattle.dz_message.specs.declared.fault.WriteError.TheVariants as errors
 use Rattle.dz_message.specs.Content.{Content}

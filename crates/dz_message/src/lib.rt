@@ -3,7 +3,6 @@
 
 mod fault;
 mod message;
-mod question;
 mod reading;
 #[cfg(test)]
 mod tests;
@@ -11,6 +10,5 @@ mod writing;
 
 pub use fault::{MessageFault, ReadError, WriteError};
 pub use message::Message;
-pub use question::Question;
 pub use reading::read_message;
 pub use writing::write_message;

@@ -1,7 +1,6 @@
 ghost use Rattle.std.specs.Prelude.{◌≡◌};
 
-use crate::question::Question;
-use dz_header::Header;
+use dz_header::{Header, Question};
 use dz_record::Rr;
 use std::marker::Model;
 

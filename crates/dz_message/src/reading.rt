@@ -8,8 +8,7 @@ ghost use Rattle.dz_message.specs.Spelling.{Spells};
 
 use crate::fault::{MessageFault, ReadError};
 use crate::message::Message;
-use crate::question::Question;
-use dz_header::{Header, read_header, skip_records};
+use dz_header::{Header, Question, read_header, skip_records};
 use dz_name::numbers::{number_of_four, number_of_two};
 use dz_name::{Name, Octets};
 use dz_record::{Field, Rr, fields, is_bad_type};

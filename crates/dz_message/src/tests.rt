@@ -1,4 +1,4 @@
-use crate::{Message, MessageFault, Question, ReadError, WriteError, read_message, write_message};
+use crate::{Message, MessageFault, ReadError, WriteError, read_message, write_message};
 use dz_header::Header;
 use dz_name::{Name, Octets};
 use dz_record::Rr;

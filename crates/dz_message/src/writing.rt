@@ -5,8 +5,7 @@ ghost use Rattle.dz_message.specs.Writing.{question_octets, message_octets, Coun
 
 use crate::fault::WriteError;
 use crate::message::Message;
-use crate::question::Question;
-use dz_header::write_header;
+use dz_header::{Question, write_header};
 use dz_name::Octets;
 use dz_name::numbers::two;
 use dz_record::Rr;

@@ -1,7 +1,6 @@
 -- The octets of a chain's records, piece by piece.
-use Rattle.std.proofs.Common.{◌≡◌, ℕ, ◌+◌, ◌%◌, ◌/◌, ◌<◌, ◌≤◌, zero, suc, List, [], ◌∷◌, ◌++◌, length, drop, get_or, refl, sym, ◌∙◌, ap, arith, length-append, Option, Some, None, Bool, true, false}
-use Rattle.std.specs.Prelude.{map, slice_get, not, ◌==◌}
-use Rattle.std.specs.List.{flat_map}
+use Rattle.std.proofs.Common.{◌≡◌, ℕ, ◌+◌, ◌%◌, ◌/◌, ◌<◌, ◌≤◌, List, [], ◌∷◌, ◌++◌, length, drop, get_or, refl, sym, ◌∙◌, ap, arith, length-append, Some, None, Bool, false}
+use Rattle.std.specs.Prelude.{slice_get}
 use Rattle.std.proofs.lemmas.Grind.{flat_map-append}
 use Rattle.std.proofs.lemmas.List.{drop_more, drop_all, length-map, append-nil}
 use Rattle.dz_name.specs.Numbers.{two}
@@ -13,8 +12,8 @@ use Rattle.dz_reply.specs.Layout.{Query, Sections, limit_of, head_octets, opt_co
 use Rattle.dz_reply.specs.Shown.{shown, shown_as}
 use Rattle.dz_reply.specs.Replies.{laid_out, negative_ttl}
 use Rattle.dz_reply.specs.Sections.{shown_aliases, shown_own, soa_under, shown_soa, inner_target, addresses_of, glue_of, glue, only_aliases, at_end, of_ending, of_chain, sections_of}
-use Rattle.dz_reply.specs.Writing.{Writing, also, empty}
-use Rattle.dz_reply.proofs.WriterLemmas.{also_append, also_nil}
+use Rattle.dz_header.specs.Writing.{Writing, also, empty}
+use Rattle.dz_header.proofs.WriterLemmas.{also_append, also_nil}
 
 pub all_append : (q : List (List ℕ)) (a b : List Record) → all_octets q (a ++ b) ≡ all_octets q a ++ all_octets q b
 unfolding all_octets

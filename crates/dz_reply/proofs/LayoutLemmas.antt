@@ -1,9 +1,8 @@
 -- The pieces of a reply, one behind another.
-use Rattle.std.proofs.Common.{◌≡◌, ℕ, ◌+◌, ◌-◌, ◌<◌, ◌≤◌, ◌%◌, ◌/◌, List, [], ◌∷◌, ◌++◌, length, take, drop, refl, sym, ◌∙◌, ap, append_assoc, arith, length-append, Option, Some, None, get_or, zero, suc, add-one, if◌then◌else◌, min}
-use Rattle.std.specs.Prelude.{nat_le, nat_lt, true, false, Bool, ◌==◌, ◌≢◌, map, not, is_some}
+use Rattle.std.proofs.Common.{◌≡◌, ℕ, ◌+◌, ◌<◌, ◌≤◌, ◌%◌, ◌/◌, List, [], ◌∷◌, ◌++◌, length, drop, refl, sym, ◌∙◌, ap, arith, Option, Some, None, get_or}
+use Rattle.std.specs.Prelude.{true, false, Bool, ◌==◌, ◌≢◌, not, is_some}
 use Rattle.std.specs.List.{flat_map}
 use Rattle.std.proofs.lemmas.List.{drop_more, drop_all, length-drop}
-use Rattle.std.specs.Int.{to_be_bytes, w16}
 use Rattle.dz_name.specs.Labels.{is_within}
 use Rattle.dz_name.specs.Numbers.{two}
 use Rattle.dz_record.specs.Record.{Record}
@@ -12,8 +11,8 @@ use Rattle.dz_header.specs.declared.edns.Edns.{Edns}
 use Rattle.std.proofs.lemmas.List.Folds.{flat_map-map}
 use Rattle.dz_reply.specs.Shown.{shown, shown_as, shown_ttl, least_ttl}
 use Rattle.std.proofs.lemmas.Bool.Decides.{nat_tests}
-use Rattle.dz_reply.specs.Writing.{Writing, also}
-use Rattle.dz_reply.proofs.WriterLemmas.{also_append, also_nil, also_over}
+use Rattle.dz_header.specs.Writing.{Writing, also}
+use Rattle.dz_header.proofs.WriterLemmas.{also_append, also_nil, also_over}
 
 pointed : (question labels : List (List ℕ)) → 0 < length labels → is_within question labels ≡ true → owner_octets question labels ≡ pointer_to question labels
 unfolding owner_octets

@@ -1,6 +1,10 @@
 pub mod LayoutLemmas
 pub mod ReplyLemmas
-pub mod RequestLemmas
-pub mod WriterLemmas
 pub mod ChainLemmas
 pub mod TurnLemmas
+pub mod ReadBackNames
+pub mod ReadBackRecords
+pub mod ReadBackReplies
+pub mod ReadBackRequests
+pub mod ReadBackSections
+pub mod ReadBack

@@ -1,16 +1,16 @@
 -- Whole replies within their limit.
-use Rattle.std.proofs.Common.{◌≡◌, ℕ, ◌+◌, ◌-◌, ◌<◌, ◌≤◌, List, [], ◌∷◌, ◌++◌, length, take, drop, refl, sym, ◌∙◌, ap, append_assoc, arith, length-append, Option, Some, None, if◌then◌else◌, inl, inr, min, zero-add}
-use Rattle.std.specs.Prelude.{nat_le, true, false, Bool, not, is_some, max}
+use Rattle.std.proofs.Common.{◌≡◌, ℕ, ◌+◌, ◌-◌, ◌≤◌, List, length, refl, ◌∙◌, ap, arith, length-append, Option, Some, None, if◌then◌else◌, inl, inr, zero-add}
+use Rattle.std.specs.Prelude.{nat_le, true, false, Bool, not, is_some}
 use Rattle.std.proofs.lemmas.List.{append-nil, length-map}
 use Rattle.std.proofs.lemmas.Bool.Decides.{nat_tests, leb_tells}
 use Rattle.dz_name.specs.Numbers.{two}
 use Rattle.dz_header.specs.declared.edns.Edns.{Edns}
 use Rattle.dz_record.specs.Record.{Record}
-use Rattle.dz_reply.specs.Layout.{Query, Sections, limit_of, head_octets, opt_octets, opt_count, all_octets, shown_octets, whole_octets, cut_octets, octets_of, bit, reply_flags}
-use Rattle.dz_reply.specs.Shown.{shown, shown_as, shown_ttl}
+use Rattle.dz_reply.specs.Layout.{Query, Sections, limit_of, head_octets, opt_octets, opt_count, all_octets, shown_octets, whole_octets, cut_octets, octets_of}
+use Rattle.dz_reply.specs.Shown.{shown, shown_as}
 use Rattle.dz_reply.specs.Replies.{laid_out, bare, here, negative, negative_ttl}
-use Rattle.dz_reply.specs.Writing.{Writing, also, joined, empty, filled}
-use Rattle.dz_reply.proofs.WriterLemmas.{also_append, also_nil}
+use Rattle.dz_header.specs.Writing.{Writing, also, joined, empty, filled}
+use Rattle.dz_header.proofs.WriterLemmas.{also_append, also_nil}
 
 -- octets that are written alone
 pub alone : (limit : ℕ) (octets : List ℕ) → also (empty limit) octets ≡ record { limit = limit; octets = if nat_le (length octets) limit then Some octets else None }

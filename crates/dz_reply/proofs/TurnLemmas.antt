@@ -1,5 +1,5 @@
 -- What was written, and what a call answers.
-use Rattle.std.proofs.Common.{◌≡◌, ℕ, ◌+◌, ◌-◌, ◌≤◌, List, [], ◌++◌, length, drop, refl, sym, ◌∙◌, ap, arith, Option, Some, None, true, false}
+use Rattle.std.proofs.Common.{◌≡◌, ℕ, ◌-◌, List, [], ◌++◌, length, drop, refl, sym, ◌∙◌, ap, arith, Some, true, false}
 use Rattle.std.specs.Prelude.{nat_le, IsSome}
 use Rattle.std.proofs.lemmas.Bool.Decides.{nat_tests}
 use Rattle.dz_name.specs.Labels.{IsWithin, is_within}
@@ -11,8 +11,8 @@ use Rattle.dz_reply.specs.declared.reply.Turn.{Turn}
 use Rattle.dz_reply.specs.declared.reply.Turn.TheVariants.{Written}
 use Rattle.dz_reply.specs.Layout.{reply_flags}
 use Rattle.dz_reply.specs.Reply.{written, curt_octets, IsReply}
-use Rattle.dz_reply.specs.Writing.{Writing, empty, also, joined}
-use Rattle.dz_reply.proofs.WriterLemmas.{also_append}
+use Rattle.dz_header.specs.Writing.{Writing, empty, also, joined}
+use Rattle.dz_header.proofs.WriterLemmas.{also_append}
 
 pub turned : (w : Writing) (text : List ℕ) (turn : Turn) → w.octets ≡ Some text → ((xs : List ℕ) → w.octets ≡ Some xs → turn ≡ Written (length xs)) → IsReply turn w (written text)
 turned w text turn e h = rw (h text e) (text, e, refl, refl)

@@ -12,7 +12,7 @@ use Rattle.dz_lookup.specs.Found.{found, topmost, upward}
 use Rattle.dz_lookup.specs.Chain.{chain_of, chain_from}
 use Rattle.dz_reply.specs.Layout.{owner_octets, shown_octets, all_octets, opt_octets, head_octets, whole_octets, cut_octets, octets_of}
 use Rattle.dz_reply.specs.Reply.{nothing, written, curt_octets, reply_for, reply_of}
-use Rattle.dz_reply.specs.Request.{name_of, question_of, edns_of, add_shape, opt_in, asked_in, judged, with_header, request}
+use Rattle.dz_request.specs.Request.{name_of, question_of, edns_of, add_shape, opt_in, asked_in, judged, with_header, request}
 use Rattle.dz_reply.specs.Sections.{shown_aliases, shown_own, shown_soa, addresses_of, glue_of, glue, at_end, of_ending, of_chain, sections_of}
 use Rattle.dz_reply.specs.Shown.{shown, shown_as}
 

@@ -1,12 +1,11 @@
-pub mod Code
+pub mod Answering
 pub mod Exchanges
 pub mod Layout
 pub mod Query
+pub mod ReadsBack
 pub mod Replies
 pub mod Reply
-pub mod Request
 pub mod Rows
 pub mod Sections
 pub mod Shown
 pub mod Transports
-pub mod Writing

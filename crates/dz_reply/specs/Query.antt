@@ -1,5 +1,5 @@
 -- What a reply takes over from a request.
-use Rattle.std.specs.Prelude.{ℕ, ◌+◌, ◌≤◌, List, length, take, drop}
+use Rattle.std.specs.Prelude.{ℕ, List, take, drop}
 use Rattle.dz_reply.specs.declared.query.QueryParts.{QueryParts}
 use Rattle.dz_reply.specs.Layout.{Query}
 
@@ -12,8 +12,3 @@ query_in request parts = record {
   name = parts.name;
   edns = parts.edns;
 }
-
--- the question lies within the request; a name has at most 255 octets, type and class have two each
-pub record IsWhole (request : List ℕ) (size : ℕ) : Type 0 where
-  pub within : 12 + size ≤ length request
-  pub short : size ≤ 259

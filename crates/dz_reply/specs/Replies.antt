@@ -4,7 +4,7 @@ use Rattle.std.specs.Option.{option_map_or}
 use Rattle.dz_record.specs.Record.{Record, soa_of}
 use Rattle.dz_reply.specs.Layout.{Query, Sections, limit_of, head_octets, opt_count, all_octets}
 use Rattle.dz_reply.specs.Shown.{shown, shown_as}
-use Rattle.dz_reply.specs.Writing.{Writing, also, empty}
+use Rattle.dz_header.specs.Writing.{Writing, also, empty}
 
 -- no records
 abbrev pub bare : ℕ → Sections

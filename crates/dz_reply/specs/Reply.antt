@@ -1,17 +1,17 @@
 -- The reply to a request (RFC 1034 section 4.3.2, RFC 1035 section 4.1.1, RFC 1996 section 3).
-use Rattle.std.specs.Prelude.{◌≡◌, ℕ, Bool, true, false, List, length, drop, take, ◌++◌, Option, Some, None, if◌then◌else◌}
+use Rattle.std.specs.Prelude.{◌≡◌, ◌≤◌, ⊤, ℕ, Bool, false, List, length, drop, take, ◌++◌, Option, Some, None, if◌then◌else◌}
 use Rattle.dz_name.specs.Numbers.{two, number_of_two}
 use Rattle.dz_zone.specs.Valid.{Zone}
 use Rattle.dz_table.specs.Slots.{SlotOf, is_live, closest}
-use Rattle.dz_reply.specs.Code.{number_of}
+use Rattle.dz_header.specs.Code.{number_of}
 use Rattle.dz_reply.specs.Layout.{Query, Sections, reply_flags, octets_of}
 use Rattle.dz_reply.specs.Replies.{bare}
-use Rattle.dz_reply.specs.Request.{request}
+use Rattle.dz_request.specs.Request.{request}
 use Rattle.dz_reply.specs.Sections.{sections_of}
-use Rattle.dz_reply.specs.Writing.{Writing}
-use Rattle.dz_reply.specs.declared.request.Asked.{Asked}
-use Rattle.dz_reply.specs.declared.request.Request.{Request}
-use Rattle.dz_reply.specs.declared.request.Request.TheVariants.{Silent, Curt, NewerEdns, NotBuilt, Notify, Asks}
+use Rattle.dz_header.specs.Writing.{Writing}
+use Rattle.dz_request.specs.declared.request.Asked.{Asked}
+use Rattle.dz_request.specs.declared.request.Request.{Request}
+use Rattle.dz_request.specs.declared.request.Request.TheVariants.{Silent, Curt, NewerEdns, NotBuilt, Notify, Asks}
 use Rattle.dz_reply.specs.declared.reply.Turn.{Turn}
 use Rattle.dz_reply.specs.declared.reply.Turn.TheVariants as turns
 
@@ -66,3 +66,9 @@ abbrev pub IsReply : Turn → Writing → Reply → Type 0
 IsReply turns.Silent w reply = reply ≡ nothing
 IsReply (turns.Written count) w reply = (text : List ℕ) × (w.octets ≡ Some text) × (count ≡ length text) × (reply ≡ written text)
 IsReply (turns.Notify name) w reply = reply ≡ notify name
+
+-- what was written fits in a buffer of 65,537 octets
+abbrev pub FitsBuffer : Turn → Type 0
+FitsBuffer turns.Silent = ⊤
+FitsBuffer (turns.Written count) = count ≤ 65537
+FitsBuffer (turns.Notify name) = ⊤

@@ -1,14 +1,14 @@
 -- What a reply says of a question (RFC 1034 section 4.3.2, RFC 2308 sections 2 and 3, RFC 6604 section 2).
-use Rattle.std.specs.Prelude.{ℕ, Bool, true, false, ◌==◌, not, min, List, [], ◌∷◌, ◌++◌, map, length, Option, Some, None, if◌then◌else◌}
+use Rattle.std.specs.Prelude.{ℕ, true, ◌==◌, not, List, [], ◌∷◌, ◌++◌, map, length, Option, Some, None, if◌then◌else◌}
 use Rattle.std.specs.List.{flat_map}
 use Rattle.dz_name.specs.Labels.{is_within}
-use Rattle.dz_record.specs.Record.{Record, soa_of, target_of}
+use Rattle.dz_record.specs.Record.{Record, target_of}
 use Rattle.dz_zone.specs.Valid.{Zone, apex_soa}
 use Rattle.dz_lookup.specs.Found.{Found, here, alias, no_data, no_name, referral, of_type, records_of}
 use Rattle.dz_lookup.specs.Chain.{Aliases, Chased, Ending, ended, stopped, chain_of}
 use Rattle.dz_reply.specs.Layout.{Sections}
 use Rattle.dz_reply.specs.Shown.{shown, shown_as}
-use Rattle.dz_reply.specs.Replies.{bare, negative_ttl}
+use Rattle.dz_reply.specs.Replies.{negative_ttl}
 
 -- each CNAME record of a chain under the name that was looked up
 unfoldable pub shown_aliases : Aliases → List Record

@@ -1,5 +1,5 @@
 -- Records as a reply shows them (RFC 2181 section 5.2, RFC 2308 section 3, RFC 4035 section 2.2).
-use Rattle.std.specs.Prelude.{ℕ, ◌==◌, List, [], ◌∷◌, map, filter, fold, min, Option, Some, None, if◌then◌else◌}
+use Rattle.std.specs.Prelude.{ℕ, ◌==◌, List, map, filter, fold, min, if◌then◌else◌}
 use Rattle.dz_record.specs.Record.{Record}
 
 -- the least TTL of the records of a type; a TTL is below 2^31

@@ -1,7 +1,10 @@
 ghost use Rattle.std.specs.Prelude.{◌≡◌};
 
-use crate::{QueryParts, ResponseCode, Writer, negative_ttl};
-use dz_header::Edns;
+use crate::{
+    QueryParts, negative_ttl, put_owner, put_records, put_shown, reply_bare, reply_here,
+    reply_negative,
+};
+use dz_header::{Edns, ResponseCode, Writer};
 use dz_name::{Name, Octets};
 use dz_record::Rr;
 use std::alloc::Global;
@@ -104,7 +107,7 @@ fn owners_point_to_the_longest_suffix_that_the_question_has(rt: HostRuntime) {
     let mut writer = writer(&rt, rt.alloc());
     for (question, owner, expected) in cases {
         writer.begin(512);
-        writer.put_owner(&name(&rt, question), &name(&rt, owner));
+        put_owner(&mut writer, &name(&rt, question), &name(&rt, owner));
         assert!(rt;
             is_written(&writer, expected),
             "{:?} beside {:?}",
@@ -131,30 +134,43 @@ fn records_of_a_type_show_their_least_ttl_and_rrsig_its_own(rt: HostRuntime) {
         b"\xc0\x0c\0\x01\0\x01\0\0\x01\x2c\0\x04\x01\x01\x01\x01\xc0\x0c\0\x01\0\x01\0\0\0\xc8\0\x04\x02\x02\x02\x02";
     let mut writer = writer(&rt, alloc);
     writer.begin(512);
-    writer.put_shown(
+    put_shown(
+        &mut writer,
         &name(&rt, b"a.example."),
         &name(&rt, b"a.example."),
         &records,
     );
     assert!(rt; is_written(&writer, shown));
     writer.begin(512);
-    writer.put_records(&name(&rt, b"example."), &records[..2]);
+    put_records(&mut writer, &name(&rt, b"example."), &records[..2]);
     assert!(rt; is_written(&writer, own));
 }
 
-#[test]
-fn once_over_nothing_is_written_until_the_writer_is_emptied(rt: HostRuntime) {
-    let mut writer = writer(&rt, rt.alloc());
-    writer.begin(4);
-    writer.put(b"abc");
-    writer.put(b"d");
-    assert!(rt; is_written(&writer, b"abcd"));
-    writer.put(b"e");
-    assert!(rt; writer.is_over());
-    writer.put(b"");
-    assert!(rt; writer.is_over());
-    writer.begin(65_537);
-    assert!(rt; is_written(&writer, b""));
+/// An OPT record of a reply, with DO.
+const OPT: &[u8] = b"\0\0\x29\x04\xd0\0\0\x80\0\0\0";
+
+/// A reply has so many octets where they fit; else it is header, question and OPT, with TC.
+fn expect_within(rt: &impl Abort, reply: &[u8], opt: &[u8], length: usize, fits: bool) {
+    let (flags, count) = if fits {
+        (b"\x85\0\0\x01\0\x01".as_slice(), length)
+    } else {
+        (b"\x87\0\0\x01\0\0".as_slice(), opt.len().saturating_add(27))
+    };
+    assert!(rt;
+        reply.len() == count,
+        "{} octets in place of {count} of {length}",
+        reply.len()
+    );
+    assert!(rt; 8 <= reply.len());
+    assert!(rt;
+        &reply[2..8] == flags,
+        "{length} octets, {:?}",
+        &reply[2..8]
+    );
+    assert!(rt;
+        reply.ends_with(opt),
+        "no OPT at the end of {length} octets"
+    );
 }
 
 /// The question `t.example. TXT` has 15 octets, a TXT record there 12 beside its RDATA, an OPT record 11.
@@ -163,49 +179,40 @@ fn a_reply_past_its_limit_is_cut(rt: HostRuntime) {
     let alloc = rt.alloc();
     let request = b"\0\x10\x01\0\0\x01\0\0\0\0\0\0\x01t\x07example\0\0\x10\0\x01";
     let cases = [
-        (None, false, 472, true),
-        (None, false, 473, true),
-        (None, false, 474, false),
-        (edns(0), false, 462, true),
-        (edns(0), false, 463, false),
-        (edns(513), false, 463, true),
-        (edns(513), false, 464, false),
-        (edns(1232), false, 1181, true),
-        (edns(1232), false, 1182, true),
-        (edns(1232), false, 1183, false),
-        (edns(4096), false, 1182, true),
-        (edns(4096), false, 1183, false),
-        (None, true, 65_495, true),
-        (None, true, 65_496, true),
-        (None, true, 65_497, false),
-        (edns(512), true, 65_485, true),
-        (edns(512), true, 65_486, false),
+        (None, false, 512usize),
+        (edns(0), false, 512),
+        (edns(511), false, 512),
+        (edns(512), false, 512),
+        (edns(513), false, 513),
+        (edns(1231), false, 1231),
+        (edns(1232), false, 1232),
+        (edns(1233), false, 1232),
+        (edns(65_535), false, 1232),
+        (None, true, 65_535),
+        (edns(512), true, 65_535),
     ];
     let mut writer = writer(&rt, alloc);
-    for (edns, tcp, size, fits) in cases {
-        let rdata = match Vec::from_elem(alloc, 7u8, size) {
-            Ok(rdata) => rdata,
-            Err(_) => panic!(rt; "no memory"),
-        };
-        let records = [record(&rt, alloc, b"t.example.", 16, 60, &rdata)];
-        let query = query(name(&rt, b"t.example."), 15, edns);
-        writer.reply_here(request, &query, &name(&rt, b"t.example."), &records, tcp);
-        assert!(rt; !writer.is_over());
-        let reply = writer.written();
-        let opt = if edns.is_some() { 11 } else { 0 };
-        let flags = if fits {
-            b"\x85\0\0\x01\0\x01".as_slice()
-        } else {
-            b"\x87\0\0\x01\0\0".as_slice()
-        };
-        let expected = if fits { 39 + size + opt } else { 27 + opt };
-        assert!(rt;
-            reply.len() == expected,
-            "{} octets of RDATA give {}",
-            size,
-            reply.len()
-        );
-        assert!(rt; &reply[2..8] == flags, "{} octets of RDATA", size);
+    for (edns, tcp, limit) in cases {
+        let opt = if edns.is_some() { OPT } else { b"" };
+        for (length, fits) in [
+            (limit.saturating_sub(1), true),
+            (limit, true),
+            (limit.saturating_add(1), false),
+        ] {
+            let rdata = match Vec::from_elem(
+                alloc,
+                7u8,
+                length.saturating_sub(opt.len()).saturating_sub(39),
+            ) {
+                Ok(rdata) => rdata,
+                Err(_) => panic!(rt; "no memory"),
+            };
+            let records = [record(&rt, alloc, b"t.example.", 16, 60, &rdata)];
+            let query = query(name(&rt, b"t.example."), 15, edns);
+            reply_here(&mut writer, request, &query, &query.name, &records, tcp);
+            assert!(rt; !writer.is_over());
+            expect_within(&rt, writer.written(), opt, length, fits);
+        }
     }
 }
 
@@ -222,17 +229,25 @@ fn replies_take_over_the_question_as_it_came(rt: HostRuntime) {
     let mut writer = writer(&rt, alloc);
 
     let address = [record(&rt, alloc, b"ns1.example.", 1, 3600, b"\xcb\0\x71\x3f")];
-    writer.reply_here(request, &plain, &plain.name, &address, false);
+    reply_here(&mut writer, request, &plain, &plain.name, &address, false);
     let here =
         b"\0\x10\x85\0\0\x01\0\x01\0\0\0\0\x03Ns1\x07eXample\0\0\x01\0\x01\xc0\x0c\0\x01\0\x01\0\0\x0e\x10\0\x04\xcb\0\x71\x3f";
     assert!(rt; is_written(&writer, here));
 
-    writer.reply_negative(request, &plain, ResponseCode::NxDomain, &apex, &soa, false);
+    reply_negative(
+        &mut writer,
+        request,
+        &plain,
+        ResponseCode::NxDomain,
+        &apex,
+        &soa,
+        false,
+    );
     let nothing =
         b"\0\x10\x85\x03\0\x01\0\0\0\x01\0\0\x03Ns1\x07eXample\0\0\x01\0\x01\xc0\x10\0\x06\0\x01\0\0\x01\x2c\0\x30\x03ns1\x07example\0\x05admin\x07example\0\x78\x48\xb9\x1c\0\0\x07\x08\0\0\x03\x84\0\x09\x3a\x80\0\0\x01\x2c";
     assert!(rt; is_written(&writer, nothing));
 
-    writer.reply_bare(request, &plain, ResponseCode::Refused, false);
+    reply_bare(&mut writer, request, &plain, ResponseCode::Refused, false);
     assert!(rt;
         is_written(
             &writer,
@@ -240,7 +255,7 @@ fn replies_take_over_the_question_as_it_came(rt: HostRuntime) {
         )
     );
 
-    writer.reply_bare(request, &newer, ResponseCode::BadVers, true);
+    reply_bare(&mut writer, request, &newer, ResponseCode::BadVers, true);
     let bad =
         b"\0\x10\x81\0\0\x01\0\0\0\0\0\x01\x03Ns1\x07eXample\0\0\x01\0\x01\0\0\x29\x04\xd0\x01\0\x80\0\0\0";
     assert!(rt; is_written(&writer, bad));

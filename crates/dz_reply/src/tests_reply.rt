@@ -1,7 +1,7 @@
 ghost use Rattle.std.specs.Prelude.{◌≡◌, IfOk};
 
-use crate::{Asked, Request, ResponseCode, Transport, Turn, Writer, read_request, reply_into};
-use dz_header::Edns;
+use crate::{Transport, Turn, reply_into};
+use dz_header::ReplyBuffer;
 use dz_name::{Name, Octets};
 use dz_record::Rr;
 use dz_table::{Slot, Table};
@@ -101,26 +101,28 @@ fn table(rt: &impl Abort, alloc: Global, rows: &[Row], more: &[Row]) -> Result<T
 }
 
 /// The reply is written and has these octets.
-fn expect(rt: &impl Abort, turn: Turn, writer: &Writer, want: &[u8]) {
+fn expect(rt: &impl Abort, turn: Turn, buffer: &ReplyBuffer, want: &[u8]) {
     match turn {
         Turn::Written(count) => {
-            assert!(rt; !writer.is_over());
-            assert!(rt;
-                writer.written() == want,
-                "{:?} in place of {:?}",
-                writer.written(),
-                want
-            );
-            assert!(rt; count == want.len());
+            assert!(rt; count == want.len(), "{count} octets in place of {want:?}");
+            assert!(rt; count <= 65_537);
+            let reply = buffer.reply(count);
+            assert!(rt; reply == want, "{reply:?} in place of {want:?}");
         }
-        _ => panic!(rt; "{:?} in place of {:?}", turn, want),
+        _ => panic!(rt; "{turn:?} in place of {want:?}"),
     }
 }
 
 /// At moment 1000, over UDP.
-fn expect_reply(rt: &impl Abort, table: &Table, writer: &mut Writer, request: &[u8], want: &[u8]) {
-    let turn = reply_into(table, request, 1000, Transport::Udp, writer);
-    expect(rt, turn, writer, want);
+fn expect_reply(
+    rt: &impl Abort,
+    table: &Table,
+    buffer: &mut ReplyBuffer,
+    request: &[u8],
+    want: &[u8],
+) {
+    let turn = reply_into(table, request, 1000, Transport::Udp, buffer);
+    expect(rt, turn, buffer, want);
 }
 
 /// Header and question, the 32 addresses of `big.example.`, and what stands behind them.
@@ -138,11 +140,11 @@ fn big_reply(alloc: Global, head: &[u8], opt: &[u8]) -> Result<Vec<u8>, AllocErr
 fn an_answer_has_the_records_of_the_name(rt: HostRuntime) -> Result<(), Fail> {
     let alloc = rt.alloc();
     let table = table(&rt, alloc, &SERVERS, &[])?;
-    let mut writer = Writer::make(alloc)?;
+    let mut buffer = ReplyBuffer::make(alloc)?;
     expect_reply(
         &rt,
         &table,
-        &mut writer,
+        &mut buffer,
         b"\0\x10\x01\0\0\x01\0\0\0\0\0\0\x03ns1\x07example\0\0\x01\0\x01",
         b"\0\x10\x85\0\0\x01\0\x01\0\0\0\0\x03ns1\x07example\0\0\x01\0\x01\xc0\x0c\0\x01\0\x01\0\0\x0e\x10\0\x04\xcb\0\x71\x3f",
     );
@@ -155,11 +157,11 @@ fn names_are_found_in_any_case_and_questions_stay_as_they_came(
 ) -> Result<(), Fail> {
     let alloc = rt.alloc();
     let table = table(&rt, alloc, &SERVERS, &[])?;
-    let mut writer = Writer::make(alloc)?;
+    let mut buffer = ReplyBuffer::make(alloc)?;
     expect_reply(
         &rt,
         &table,
-        &mut writer,
+        &mut buffer,
         b"\0\x10\x01\0\0\x01\0\0\0\0\0\0\x03Ns1\x07eXAMPLE\0\0\x01\0\x01",
         b"\0\x10\x85\0\0\x01\0\x01\0\0\0\0\x03Ns1\x07eXAMPLE\0\0\x01\0\x01\xc0\x0c\0\x01\0\x01\0\0\x0e\x10\0\x04\xcb\0\x71\x3f",
     );
@@ -170,25 +172,25 @@ fn names_are_found_in_any_case_and_questions_stay_as_they_came(
 fn no_data_and_no_name_show_the_soa_and_no_zone_is_refused(rt: HostRuntime) -> Result<(), Fail> {
     let alloc = rt.alloc();
     let table = table(&rt, alloc, &SERVERS, &[])?;
-    let mut writer = Writer::make(alloc)?;
+    let mut buffer = ReplyBuffer::make(alloc)?;
     expect_reply(
         &rt,
         &table,
-        &mut writer,
+        &mut buffer,
         b"\0\x11\x01\0\0\x01\0\0\0\0\0\0\x03ns1\x07example\0\0\x1c\0\x01",
         b"\0\x11\x85\0\0\x01\0\0\0\x01\0\0\x03ns1\x07example\0\0\x1c\0\x01\xc0\x10\0\x06\0\x01\0\0\x01\x2c\0\x30\x03ns1\x07example\0\x05admin\x07example\0\x78\x48\xb9\x1c\0\0\x07\x08\0\0\x03\x84\0\x09\x3a\x80\0\0\x01\x2c",
     );
     expect_reply(
         &rt,
         &table,
-        &mut writer,
+        &mut buffer,
         b"\0\x12\0\0\0\x01\0\0\0\0\0\0\x01x\x07example\0\0\x01\0\x01",
         b"\0\x12\x84\x03\0\x01\0\0\0\x01\0\0\x01x\x07example\0\0\x01\0\x01\xc0\x0e\0\x06\0\x01\0\0\x01\x2c\0\x30\x03ns1\x07example\0\x05admin\x07example\0\x78\x48\xb9\x1c\0\0\x07\x08\0\0\x03\x84\0\x09\x3a\x80\0\0\x01\x2c",
     );
     expect_reply(
         &rt,
         &table,
-        &mut writer,
+        &mut buffer,
         b"\0\x13\0\0\0\x01\0\0\0\0\0\0\x03org\0\0\x01\0\x01",
         b"\0\x13\x80\x05\0\x01\0\0\0\0\0\0\x03org\0\0\x01\0\x01",
     );
@@ -207,25 +209,25 @@ fn wildcards_answer_and_names_between_have_no_data(rt: HostRuntime) -> Result<()
             (b"a.b.example.", 1, 3600, b"\xc0\0\x02\x07"),
         ],
     )?;
-    let mut writer = Writer::make(alloc)?;
+    let mut buffer = ReplyBuffer::make(alloc)?;
     expect_reply(
         &rt,
         &table,
-        &mut writer,
+        &mut buffer,
         b"\0\0\0\0\0\x01\0\0\0\0\0\0\x01b\x07example\0\0\x01\0\x01",
         b"\0\0\x84\0\0\x01\0\0\0\x01\0\0\x01b\x07example\0\0\x01\0\x01\xc0\x0e\0\x06\0\x01\0\0\0\x1e\0\x2e\x02ns\x07invalid\0\x04host\x07invalid\0\0\0\0\x05\0\0\0\x64\0\0\0\x3c\0\0\x02\x58\0\0\0\x1e",
     );
     expect_reply(
         &rt,
         &table,
-        &mut writer,
+        &mut buffer,
         b"\0\0\0\0\0\x01\0\0\0\0\0\0\x01c\x07example\0\0\x01\0\x01",
         b"\0\0\x84\0\0\x01\0\x01\0\0\0\0\x01c\x07example\0\0\x01\0\x01\xc0\x0c\0\x01\0\x01\0\0\x0e\x10\0\x04\xc0\0\x02\x09",
     );
     expect_reply(
         &rt,
         &table,
-        &mut writer,
+        &mut buffer,
         b"\0\0\0\0\0\x01\0\0\0\0\0\0\x01x\x01b\x07example\0\0\x01\0\x01",
         b"\0\0\x84\x03\0\x01\0\0\0\x01\0\0\x01x\x01b\x07example\0\0\x01\0\x01\xc0\x10\0\x06\0\x01\0\0\0\x1e\0\x2e\x02ns\x07invalid\0\x04host\x07invalid\0\0\0\0\x05\0\0\0\x64\0\0\0\x3c\0\0\x02\x58\0\0\0\x1e",
     );
@@ -241,11 +243,11 @@ fn an_alias_of_a_wildcard_to_no_name_shows_alias_and_soa(rt: HostRuntime) -> Res
         &APEX,
         &[(b"*.w.example.", 5, 3600, b"\x04nope\x07example\0")],
     )?;
-    let mut writer = Writer::make(alloc)?;
+    let mut buffer = ReplyBuffer::make(alloc)?;
     expect_reply(
         &rt,
         &table,
-        &mut writer,
+        &mut buffer,
         b"\0\0\0\0\0\x01\0\0\0\0\0\0\x01q\x01w\x07example\0\0\x01\0\x01",
         b"\0\0\x84\x03\0\x01\0\x01\0\x01\0\0\x01q\x01w\x07example\0\0\x01\0\x01\xc0\x0c\0\x05\0\x01\0\0\x0e\x10\0\x0e\x04nope\x07example\0\xc0\x10\0\x06\0\x01\0\0\0\x1e\0\x2e\x02ns\x07invalid\0\x04host\x07invalid\0\0\0\0\x05\0\0\0\x64\0\0\0\x3c\0\0\x02\x58\0\0\0\x1e",
     );
@@ -264,11 +266,11 @@ fn a_loop_of_aliases_shows_each_once(rt: HostRuntime) -> Result<(), Fail> {
             (b"b.example.", 5, 3600, b"\x01a\x07example\0"),
         ],
     )?;
-    let mut writer = Writer::make(alloc)?;
+    let mut buffer = ReplyBuffer::make(alloc)?;
     expect_reply(
         &rt,
         &table,
-        &mut writer,
+        &mut buffer,
         b"\0\0\0\0\0\x01\0\0\0\0\0\0\x01a\x07example\0\0\x01\0\x01",
         b"\0\0\x84\0\0\x01\0\x02\0\0\0\0\x01a\x07example\0\0\x01\0\x01\xc0\x0c\0\x05\0\x01\0\0\x0e\x10\0\x0b\x01b\x07example\0\x01b\xc0\x0e\0\x05\0\x01\0\0\x0e\x10\0\x0b\x01a\x07example\0",
     );
@@ -288,11 +290,11 @@ fn a_referral_has_the_glue_that_the_zone_has_and_no_aa(rt: HostRuntime) -> Resul
             (b"ns.sub.example.", 1, 3600, b"\xc0\0\x02\x35"),
         ],
     )?;
-    let mut writer = Writer::make(alloc)?;
+    let mut buffer = ReplyBuffer::make(alloc)?;
     expect_reply(
         &rt,
         &table,
-        &mut writer,
+        &mut buffer,
         b"\0\x20\0\0\0\x01\0\0\0\0\0\0\x03www\x03sub\x07example\0\0\x01\0\x01",
         b"\0\x20\x80\0\0\x01\0\0\0\x02\0\x01\x03www\x03sub\x07example\0\0\x01\0\x01\xc0\x10\0\x02\0\x01\0\0\x0e\x10\0\x10\x02ns\x03sub\x07example\0\xc0\x10\0\x02\0\x01\0\0\x0e\x10\0\x0a\x02ns\x05other\0\x02ns\xc0\x10\0\x01\0\x01\0\0\x0e\x10\0\x04\xc0\0\x02\x35",
     );
@@ -318,7 +320,7 @@ fn a_long_reply_is_cut_over_udp_and_whole_with_room_or_over_tcp(
     let apex = name(&rt, b"example.");
     let version = version_of(&rt, alloc, apex, records)?;
     let table = Table::empty(alloc).with(alloc, Slot::make(apex, 1000, Some(version)))?;
-    let mut writer = Writer::make(alloc)?;
+    let mut buffer = ReplyBuffer::make(alloc)?;
     let plain = b"\0\x21\0\0\0\x01\0\0\0\0\0\0\x03big\x07example\0\0\x01\0\x01".as_slice();
     let newer =
         b"\0\x21\0\0\0\x01\0\0\0\0\0\x01\x03big\x07example\0\0\x01\0\x01\0\0\x29\x04\xd0\0\0\0\0\0\0".as_slice();
@@ -338,13 +340,13 @@ fn a_long_reply_is_cut_over_udp_and_whole_with_room_or_over_tcp(
         b"\0\x21\x84\0\0\x01\0\x20\0\0\0\x01\x03big\x07example\0\0\x01\0\x01",
         opt,
     )?;
-    expect_reply(&rt, &table, &mut writer, plain, cut);
-    expect_reply(&rt, &table, &mut writer, least, cut_with_opt);
-    expect_reply(&rt, &table, &mut writer, newer, &whole_with_opt);
-    let turn = reply_into(&table, plain, 1000, Transport::Tcp, &mut writer);
-    expect(&rt, turn, &writer, &whole);
-    let turn = reply_into(&table, least, 1000, Transport::Tcp, &mut writer);
-    expect(&rt, turn, &writer, &whole_with_opt);
+    expect_reply(&rt, &table, &mut buffer, plain, cut);
+    expect_reply(&rt, &table, &mut buffer, least, cut_with_opt);
+    expect_reply(&rt, &table, &mut buffer, newer, &whole_with_opt);
+    let turn = reply_into(&table, plain, 1000, Transport::Tcp, &mut buffer);
+    expect(&rt, turn, &buffer, &whole);
+    let turn = reply_into(&table, least, 1000, Transport::Tcp, &mut buffer);
+    expect(&rt, turn, &buffer, &whole_with_opt);
     Ok(())
 }
 
@@ -357,20 +359,20 @@ fn an_expired_zone_fails(rt: HostRuntime) -> Result<(), Fail> {
         &APEX,
         &[(b"www.example.", 1, 3600, b"\xc0\0\x02\x50")],
     )?;
-    let mut writer = Writer::make(alloc)?;
+    let mut buffer = ReplyBuffer::make(alloc)?;
     let request = b"\0\0\0\0\0\x01\0\0\0\0\0\0\x03www\x07example\0\0\x01\0\x01".as_slice();
-    let turn = reply_into(&table, request, 1599, Transport::Udp, &mut writer);
+    let turn = reply_into(&table, request, 1599, Transport::Udp, &mut buffer);
     expect(
         &rt,
         turn,
-        &writer,
+        &buffer,
         b"\0\0\x84\0\0\x01\0\x01\0\0\0\0\x03www\x07example\0\0\x01\0\x01\xc0\x0c\0\x01\0\x01\0\0\x0e\x10\0\x04\xc0\0\x02\x50",
     );
-    let turn = reply_into(&table, request, 1600, Transport::Udp, &mut writer);
+    let turn = reply_into(&table, request, 1600, Transport::Udp, &mut buffer);
     expect(
         &rt,
         turn,
-        &writer,
+        &buffer,
         b"\0\0\x80\x02\0\x01\0\0\0\0\0\0\x03www\x07example\0\0\x01\0\x01",
     );
     Ok(())
@@ -380,11 +382,11 @@ fn an_expired_zone_fails(rt: HostRuntime) -> Result<(), Fail> {
 fn a_zone_that_was_never_held_fails(rt: HostRuntime) -> Result<(), Fail> {
     let alloc = rt.alloc();
     let table = Table::empty(alloc).with(alloc, Slot::make(name(&rt, b"example."), 1000, None))?;
-    let mut writer = Writer::make(alloc)?;
+    let mut buffer = ReplyBuffer::make(alloc)?;
     expect_reply(
         &rt,
         &table,
-        &mut writer,
+        &mut buffer,
         b"\0\0\0\0\0\x01\0\0\0\0\0\0\x03www\x07example\0\0\x01\0\x01",
         b"\0\0\x80\x02\0\x01\0\0\0\0\0\0\x03www\x07example\0\0\x01\0\x01",
     );
@@ -395,7 +397,7 @@ fn a_zone_that_was_never_held_fails(rt: HostRuntime) -> Result<(), Fail> {
 fn a_notify_is_handed_on_with_its_name(rt: HostRuntime) -> Result<(), Fail> {
     let alloc = rt.alloc();
     let table = table(&rt, alloc, &APEX, &[])?;
-    let mut writer = Writer::make(alloc)?;
+    let mut buffer = ReplyBuffer::make(alloc)?;
     for (request, zone) in [
         (
             b"\0\x50\x24\0\0\x01\0\0\0\0\0\0\x07example\0\0\x06\0\x01".as_slice(),
@@ -406,7 +408,7 @@ fn a_notify_is_handed_on_with_its_name(rt: HostRuntime) -> Result<(), Fail> {
             b"other.".as_slice(),
         ),
     ] {
-        match reply_into(&table, request, 1000, Transport::Udp, &mut writer) {
+        match reply_into(&table, request, 1000, Transport::Udp, &mut buffer) {
             Turn::Notify(of) => assert!(rt; of.same(&name(&rt, zone)), "{:?}", zone),
             _ => panic!(rt; "no NOTIFY of {:?}", zone),
         }
@@ -418,7 +420,7 @@ fn a_notify_is_handed_on_with_its_name(rt: HostRuntime) -> Result<(), Fail> {
 fn what_is_short_or_a_response_gets_no_reply(rt: HostRuntime) -> Result<(), Fail> {
     let alloc = rt.alloc();
     let table = table(&rt, alloc, &SERVERS, &[])?;
-    let mut writer = Writer::make(alloc)?;
+    let mut buffer = ReplyBuffer::make(alloc)?;
     for request in [
         b"".as_slice(),
         b"\0\x70\0\0\0\x01\0\0\0\0\0".as_slice(),
@@ -426,7 +428,7 @@ fn what_is_short_or_a_response_gets_no_reply(rt: HostRuntime) -> Result<(), Fail
         b"\0\x70\x84\0\0\x01\0\0\0\0\0\0\x07example\0\0\x06\0\x01".as_slice(),
         b"\0\x70\xa8\x04\0\0\0\0\0\0\0\0".as_slice(),
     ] {
-        let turn = reply_into(&table, request, 1000, Transport::Tcp, &mut writer);
+        let turn = reply_into(&table, request, 1000, Transport::Tcp, &mut buffer);
         assert!(rt; matches!(turn, Turn::Silent), "{:?}", request);
     }
     Ok(())
@@ -436,308 +438,41 @@ fn what_is_short_or_a_response_gets_no_reply(rt: HostRuntime) -> Result<(), Fail
 fn what_is_not_built_or_cannot_be_read_gets_its_code(rt: HostRuntime) -> Result<(), Fail> {
     let alloc = rt.alloc();
     let table = table(&rt, alloc, &SERVERS, &[])?;
-    let mut writer = Writer::make(alloc)?;
+    let mut buffer = ReplyBuffer::make(alloc)?;
     expect_reply(
         &rt,
         &table,
-        &mut writer,
+        &mut buffer,
         b"\0\x70\x28\0\0\x01\0\0\0\0\0\0",
         b"\0\x70\xa8\x04\0\0\0\0\0\0\0\0",
     );
     expect_reply(
         &rt,
         &table,
-        &mut writer,
+        &mut buffer,
         b"\0\x70\x29\x10\0\0\0\0\0\0\0\0",
         b"\0\x70\xa9\x04\0\0\0\0\0\0\0\0",
     );
     expect_reply(
         &rt,
         &table,
-        &mut writer,
+        &mut buffer,
         b"\0\x71\0\0\0\0\0\0\0\0\0\0",
         b"\0\x71\x80\x01\0\0\0\0\0\0\0\0",
     );
     expect_reply(
         &rt,
         &table,
-        &mut writer,
+        &mut buffer,
         b"\0\x72\0\0\0\x01\0\0\0\0\0\x01\x07example\0\0\x06\0\x01\0\0\x29\x10\0\0\x01\0\0\0\0",
         b"\0\x72\x80\0\0\x01\0\0\0\0\0\x01\x07example\0\0\x06\0\x01\0\0\x29\x04\xd0\x01\0\0\0\0\0",
     );
     expect_reply(
         &rt,
         &table,
-        &mut writer,
+        &mut buffer,
         b"\0\x73\0\0\0\x01\0\0\0\0\0\0\x07example\0\0\xfc\0\x01",
         b"\0\x73\x80\x04\0\x01\0\0\0\0\0\0\x07example\0\0\xfc\0\x01",
     );
-    Ok(())
-}
-
-fn kind_of(octets: &[u8]) -> &'static str {
-    match read_request(octets) {
-        Request::Silent => "silent",
-        Request::Curt(ResponseCode::NotImp) => "curt NOTIMP",
-        Request::Curt(ResponseCode::FormErr) => "curt FORMERR",
-        Request::Curt(_) => "curt",
-        Request::NewerEdns(_) => "newer",
-        Request::NotBuilt(_) => "not built",
-        Request::Notify(_) => "notify",
-        Request::Asks(_) => "asks",
-    }
-}
-
-#[test]
-fn what_cannot_be_read_is_a_format_error(rt: HostRuntime) {
-    for (octets, what) in [
-        (
-            b"\0\x74\0\0\0\x02\0\0\0\0\0\0\x07example\0\0\x06\0\x01\x07example\0\0\x06\0\x01".as_slice(),
-            "two questions",
-        ),
-        (
-            b"\0\x74\0\0\0\x01\0\0\0\0\0\0\x07example\0\0\x06\0".as_slice(),
-            "a class of one octet",
-        ),
-        (
-            b"\0\x74\0\0\0\x01\0\0\0\0\0\0\x03www\xc0\x0c\0\x06\0\x01".as_slice(),
-            "a pointer in the question",
-        ),
-        (
-            b"\0\x74\0\0\0\x01\0\0\0\0\0\0\x03\x77".as_slice(),
-            "a label that is cut",
-        ),
-        (b"\0\x74\0\0\0\x01\0\0\0\0\0\0".as_slice(), "no question"),
-        (
-            b"\0\x74\0\0\0\x01\0\0\0\0\0\0\x40aaaaaaaaaaaaaaaaaaaaaaaaaaaaaaaaaaaaaaaaaaaaaaaaaaaaaaaaaaaaaaaa\0\0\x06\0\x01".as_slice(),
-            "a label of 64 octets",
-        ),
-        (
-            b"\0\x74\0\0\0\x01\0\x01\0\0\0\0\x07example\0\0\x06\0\x01".as_slice(),
-            "no answer record",
-        ),
-        (
-            b"\0\x74\0\0\0\x01\0\0\0\x01\0\0\x07example\0\0\x06\0\x01".as_slice(),
-            "no authority record",
-        ),
-        (
-            b"\0\x74\0\0\0\x01\0\0\0\0\0\x01\x07example\0\0\x06\0\x01".as_slice(),
-            "no additional record",
-        ),
-        (
-            b"\0\x74\0\0\0\x01\0\0\0\0\0\x01\x07example\0\0\x06\0\x01\0\0\x29\x04\xd0\0\0\0\0\0".as_slice(),
-            "an OPT that is cut",
-        ),
-        (
-            b"\0\x74\0\0\0\x01\0\0\0\0\0\x02\x07example\0\0\x06\0\x01\0\0\x29\x04\xd0\0\0\0\0\0\0\0\0\x29\x04\xd0\0\0\0\0\0\0".as_slice(),
-            "two OPT records",
-        ),
-        (
-            b"\0\x74\0\0\0\x01\0\0\0\0\0\x02\x07example\0\0\x06\0\x01\0\0\x29\x10\0\0\x01\0\0\0\0\0\0\x29\x10\0\0\x01\0\0\0\0".as_slice(),
-            "two OPT records of version 1",
-        ),
-        (
-            b"\0\x74\0\0\0\x01\0\0\0\0\0\x01\x07example\0\0\x06\0\x01\x01a\0\0\x29\x04\xd0\0\0\0\0\0\0".as_slice(),
-            "an OPT below the root",
-        ),
-    ] {
-        assert!(rt; kind_of(octets) == "curt FORMERR", "{what}");
-    }
-}
-
-/// Responses come first, then other opcodes, what can't be read, the version of EDNS, and class and type.
-#[test]
-fn requests_are_judged_in_order(rt: HostRuntime) {
-    for (octets, kind) in [
-        (
-            b"\0\x75\x01\0\0\x01\0\0\0\0\0\0\x07example\0\0\x01\0\x01".as_slice(),
-            "asks",
-        ),
-        (
-            b"\0\x75\x01\0\0\x01\0\0\0\0\0\0\x07example\0\0\x06\0\x01".as_slice(),
-            "asks",
-        ),
-        (
-            b"\0\x75\x01\0\0\x01\0\0\0\0\0\0\x07example\0\0\x28\0\x01".as_slice(),
-            "asks",
-        ),
-        (
-            b"\0\x75\x01\0\0\x01\0\0\0\0\0\0\x07example\0\0\x2a\0\x01".as_slice(),
-            "asks",
-        ),
-        (
-            b"\0\x75\x01\0\0\x01\0\0\0\0\0\0\x07example\0\0\xf8\0\x01".as_slice(),
-            "asks",
-        ),
-        (
-            b"\0\x75\x01\0\0\x01\0\0\0\0\0\0\x07example\0\0\xff\0\x01".as_slice(),
-            "asks",
-        ),
-        (
-            b"\0\x75\x01\0\0\x01\0\0\0\0\0\0\x07example\0\x01\x01\0\x01".as_slice(),
-            "asks",
-        ),
-        (
-            b"\0\x75\x01\0\0\x01\0\0\0\0\0\0\x07example\0\xff\0\0\x01".as_slice(),
-            "asks",
-        ),
-        (
-            b"\0\x75\x01\0\0\x01\0\0\0\0\0\0\x07example\0\0\x29\0\x01".as_slice(),
-            "not built",
-        ),
-        (
-            b"\0\x75\x01\0\0\x01\0\0\0\0\0\0\x07example\0\0\xf9\0\x01".as_slice(),
-            "not built",
-        ),
-        (
-            b"\0\x75\x01\0\0\x01\0\0\0\0\0\0\x07example\0\0\xfa\0\x01".as_slice(),
-            "not built",
-        ),
-        (
-            b"\0\x75\x01\0\0\x01\0\0\0\0\0\0\x07example\0\0\xfb\0\x01".as_slice(),
-            "not built",
-        ),
-        (
-            b"\0\x75\x01\0\0\x01\0\0\0\0\0\0\x07example\0\0\xfc\0\x01".as_slice(),
-            "not built",
-        ),
-        (
-            b"\0\x75\x01\0\0\x01\0\0\0\0\0\0\x07example\0\0\xfd\0\x01".as_slice(),
-            "not built",
-        ),
-        (
-            b"\0\x75\x01\0\0\x01\0\0\0\0\0\0\x07example\0\0\xfe\0\x01".as_slice(),
-            "not built",
-        ),
-        (
-            b"\0\x75\0\0\0\x01\0\0\0\0\0\0\x07example\0\0\x06\0\0".as_slice(),
-            "not built",
-        ),
-        (
-            b"\0\x75\0\0\0\x01\0\0\0\0\0\0\x07example\0\0\x06\0\x03".as_slice(),
-            "not built",
-        ),
-        (
-            b"\0\x75\0\0\0\x01\0\0\0\0\0\0\x07example\0\0\x06\0\xfe".as_slice(),
-            "not built",
-        ),
-        (
-            b"\0\x75\0\0\0\x01\0\0\0\0\0\0\x07example\0\0\x06\0\xff".as_slice(),
-            "not built",
-        ),
-        (
-            b"\0\x75\x20\0\0\x01\0\0\0\0\0\0\x07example\0\0\x06\0\x01".as_slice(),
-            "notify",
-        ),
-        (
-            b"\0\x75\x24\0\0\x01\0\0\0\0\0\0\x07example\0\0\x06\0\x01".as_slice(),
-            "notify",
-        ),
-        (
-            b"\0\x75\x24\0\0\x01\0\0\0\0\0\0\x07example\0\0\x02\0\x01".as_slice(),
-            "not built",
-        ),
-        (
-            b"\0\x75\x24\0\0\x01\0\0\0\0\0\0\x07example\0\0\x06\0\x03".as_slice(),
-            "not built",
-        ),
-        (
-            b"\0\x75\x08\0\0\x01\0\0\0\0\0\0\x07example\0\0\x06\0\x01".as_slice(),
-            "curt NOTIMP",
-        ),
-        (
-            b"\0\x75\x10\0\0\x01\0\0\0\0\0\0\x07example\0\0\x06\0\x01".as_slice(),
-            "curt NOTIMP",
-        ),
-        (
-            b"\0\x75\x18\0\0\x01\0\0\0\0\0\0\x07example\0\0\x06\0\x01".as_slice(),
-            "curt NOTIMP",
-        ),
-        (
-            b"\0\x75\x28\0\0\x01\0\0\0\0\0\0\x07example\0\0\x06\0\x01".as_slice(),
-            "curt NOTIMP",
-        ),
-        (
-            b"\0\x75\x78\0\0\x01\0\0\0\0\0\0\x07example\0\0\x06\0\x01".as_slice(),
-            "curt NOTIMP",
-        ),
-        (
-            b"\0\x75\x28\0\0\0\xff\xff\0\0\0\0".as_slice(),
-            "curt NOTIMP",
-        ),
-        (b"\0\x75\xa8\0\0\0\0\0\0\0\0\0".as_slice(), "silent"),
-        (
-            b"\0\x75\0\0\0\x01\0\0\0\0\0\x01\x07example\0\0\x06\0\x03\0\0\x29\x04\xd0\0\x01\0\0\0\0".as_slice(),
-            "newer",
-        ),
-        (
-            b"\0\x75\x24\0\0\x01\0\0\0\0\0\x01\x07example\0\0\x06\0\x01\0\0\x29\x04\xd0\0\x01\0\0\0\0".as_slice(),
-            "newer",
-        ),
-        (
-            b"\0\x75\0\0\0\x01\0\0\0\0\0\x01\x07example\0\0\xfc\0\x01\0\0\x29\x04\xd0\0\x01\0\0\0\0".as_slice(),
-            "newer",
-        ),
-        (
-            b"\0\x75\0\0\0\x01\0\0\0\0\0\x01\x07example\0\0\x06\0\x01\0\0\x29\x02\0\xff\0\0\0\0\0".as_slice(),
-            "asks",
-        ),
-    ] {
-        assert!(rt;
-            kind_of(octets) == kind,
-            "{:?} is {}",
-            octets,
-            kind_of(octets)
-        );
-    }
-}
-
-fn asked(rt: &impl Abort, octets: &[u8]) -> Asked {
-    match read_request(octets) {
-        Request::Asks(asked) => asked,
-        _ => panic!(rt; "{:?}", octets),
-    }
-}
-
-#[test]
-fn a_query_has_its_question_and_what_its_opt_says(rt: HostRuntime) {
-    let plain = asked(
-        &rt,
-        b"\0\x76\x01\0\0\x01\0\0\0\0\0\0\x03wiW\x07eXample\0\0\x1c\0\x01",
-    );
-    assert!(rt; plain.question.name.same(&name(&rt, b"wiw.example.")));
-    assert!(rt; plain.question.kind == 28 && plain.question.class == 1);
-    assert!(rt; plain.size == 17);
-    assert!(rt; plain.edns.is_none());
-    let root = asked(&rt, b"\0\x76\x01\0\0\x01\0\0\0\0\0\0\0\0\x02\0\x01");
-    assert!(rt; root.question.name.same(&Name::root()));
-    assert!(rt; root.size == 5);
-    let opt = Edns {
-        size: 4096,
-        version: 0,
-        dnssec_ok: true,
-    };
-    let behind_others = asked(
-        &rt,
-        b"\0\x76\x01\0\0\x01\0\x01\0\0\0\x03\0\0\x02\0\x01\0\0\x01\0\x01\0\0\0\0\0\x04\xc0\0\x02\x01\xc0\x0c\0\x01\0\x01\0\0\0\0\0\x04\x7f\0\0\x01\0\0\x29\x10\0\0\0\x80\0\0\x04\0\x03\0\0\x01a\0\0\x10\0\x01\0\0\0\0\0\x02\x01x",
-    );
-    assert!(rt; behind_others.edns == Some(opt));
-}
-
-/// The longest name has 255 octets.
-#[test]
-fn names_of_255_octets_are_read_and_longer_ones_not(rt: HostRuntime) -> Result<(), Fail> {
-    let alloc = rt.alloc();
-    for (last, kind) in [(61, "asks"), (62, "curt FORMERR")] {
-        let mut octets = Vec::from_slice(alloc, b"\0\x77\0\0\0\x01\0\0\0\0\0\0")?;
-        for size in [63, 63, 63, last] {
-            octets.push(size)?;
-            for _ in 0..size {
-                octets.push(b'a')?;
-            }
-        }
-        octets.extend_from_slice(b"\0\0\x01\0\x01")?;
-        assert!(rt; kind_of(&octets) == kind, "{last}");
-    }
     Ok(())
 }

@@ -1,126 +1,129 @@
 //! Whole replies.
 
 ghost use Rattle.std.specs.Prelude.{◌≡◌, ◌+◌, ◌≤◌, length, false};
-ghost use Rattle.dz_reply.specs.Code.{number_of};
+ghost use Rattle.dz_header.specs.Code.{number_of};
 ghost use Rattle.dz_reply.specs.Layout.{Sections, head_octets, opt_count, octets_of, limit_of};
-ghost use Rattle.dz_reply.specs.Query.{query_in, IsWhole};
+ghost use Rattle.dz_reply.specs.Query.{query_in};
+ghost use Rattle.dz_request.specs.Request.{IsWhole};
 ghost use Rattle.dz_reply.specs.Replies.{laid_out, bare, here, negative, negative_ttl};
-ghost use Rattle.dz_reply.specs.Writing.{also, empty, filled};
+ghost use Rattle.dz_header.specs.Writing.{also, empty, filled};
 
-use crate::code::ResponseCode;
-use crate::layout::Heading;
+use crate::layout::{Heading, put_head, put_opt, put_record, put_shown};
 use crate::query::QueryParts;
-use crate::writer::Writer;
-use dz_header::Edns;
+use dz_header::{Edns, ResponseCode, Writer};
 use dz_name::Name;
 use dz_record::Rr;
 
-impl Writer {
-    /// Begins a reply: empties the writer, sets the limit of the transport, and writes header and question.
-    pub fn start(&mut self, request: &[u8], query: &QueryParts, heading: &Heading, tcp: bool)
-        requires { IsWhole request.now query.now.size }
-        ensures { self.new ≡ also (empty (limit_of tcp query.now.edns)) (head_octets (query_in request.now query.now) (number_of heading.now.code) heading.now.authoritative heading.now.truncated heading.now.answer heading.now.authority (heading.now.additional + opt_count query.now.edns)) }
-    {
-        self.begin(limit_of(tcp, query.edns));
-        self.put_head(request, query, heading);
-    }
+/// Begins a reply: empties the writer, sets the limit of the transport, and writes header and question.
+pub fn start(writer: &mut Writer, request: &[u8], query: &QueryParts, heading: &Heading, tcp: bool)
+    requires { IsWhole request.now query.now.size }
+    ensures { writer.new ≡ also (empty (limit_of tcp query.now.edns)) (head_octets (query_in request.now query.now) (number_of heading.now.code) heading.now.authoritative heading.now.truncated heading.now.answer heading.now.authority (heading.now.additional + opt_count query.now.edns)) }
+{
+    writer.begin(limit_of(tcp, query.edns));
+    put_head(writer, request, query, heading);
+}
 
-    /// Ends a reply: writes the OPT record, where the request has one. A reply that is past its limit becomes header,
-    /// question and OPT record with TC set, response code and AA as they were (RFC 2181 section 9).
-    pub fn finish(
-        &mut self,
-        request: &[u8],
-        query: &QueryParts,
-        code: ResponseCode,
-        authoritative: bool,
-        tcp: bool,
-    )
-        requires { IsWhole request.now query.now.size }
-        ensures { (s : Sections) → s.code ≡ number_of code → s.authoritative ≡ authoritative → self.old ≡ laid_out tcp (query_in request.now query.now) s → self.new ≡ filled (limit_of tcp query.now.edns) (octets_of tcp (query_in request.now query.now) s) }
-    {
-        self.put_opt(code, query.edns);
-        if self.is_over() {
-            let cut = Heading {
-                code,
-                authoritative,
-                truncated: true,
-                answer: 0,
-                authority: 0,
-                additional: 0,
-            };
-            self.start(request, query, &cut, tcp);
-            self.put_opt(code, query.edns);
-        }
-    }
-
-    /// Writes the reply that has no records and isn't authoritative.
-    pub fn reply_bare(&mut self, request: &[u8], query: &QueryParts, code: ResponseCode, tcp: bool)
-        requires { IsWhole request.now query.now.size }
-        ensures { self.new ≡ filled (limit_of tcp query.now.edns) (octets_of tcp (query_in request.now query.now) (bare (number_of code))) }
-    {
-        let heading = Heading {
+/// Ends a reply: writes the OPT record, where the request has one. A reply that is past its limit becomes header,
+/// question and OPT record with TC set, response code and AA as they were (RFC 2181 section 9).
+pub fn finish(
+    writer: &mut Writer,
+    request: &[u8],
+    query: &QueryParts,
+    code: ResponseCode,
+    authoritative: bool,
+    tcp: bool,
+)
+    requires { IsWhole request.now query.now.size }
+    ensures { (s : Sections) → s.code ≡ number_of code → s.authoritative ≡ authoritative → writer.old ≡ laid_out tcp (query_in request.now query.now) s → writer.new ≡ filled (limit_of tcp query.now.edns) (octets_of tcp (query_in request.now query.now) s) }
+{
+    put_opt(writer, code, query.edns);
+    if writer.is_over() {
+        let cut = Heading {
             code,
-            authoritative: false,
-            truncated: false,
+            authoritative,
+            truncated: true,
             answer: 0,
             authority: 0,
             additional: 0,
         };
-        self.start(request, query, &heading, tcp);
-        self.finish(request, query, code, false, tcp);
+        start(writer, request, query, &cut, tcp);
+        put_opt(writer, code, query.edns);
     }
+}
 
-    /// Writes the authoritative reply that answers with records under an owner: an RRset, or all records of a name.
-    pub fn reply_here(
-        &mut self,
-        request: &[u8],
-        query: &QueryParts,
-        owner: &Name,
-        records: &[Rr],
-        tcp: bool,
-    )
-        requires { IsWhole request.now query.now.size }
-        ensures { self.new ≡ filled (limit_of tcp query.now.edns) (octets_of tcp (query_in request.now query.now) (here owner.now records.now)) }
-    {
-        let heading = Heading {
-            code: ResponseCode::NoError,
-            authoritative: true,
-            truncated: false,
-            answer: records.len(),
-            authority: 0,
-            additional: 0,
-        };
-        self.start(request, query, &heading, tcp);
-        self.put_shown(&query.name, owner, records);
-        self.finish(request, query, ResponseCode::NoError, true, tcp);
-    }
+/// Writes the reply that has no records and isn't authoritative.
+pub fn reply_bare(
+    writer: &mut Writer,
+    request: &[u8],
+    query: &QueryParts,
+    code: ResponseCode,
+    tcp: bool,
+)
+    requires { IsWhole request.now query.now.size }
+    ensures { writer.new ≡ filled (limit_of tcp query.now.edns) (octets_of tcp (query_in request.now query.now) (bare (number_of code))) }
+{
+    let heading = Heading {
+        code,
+        authoritative: false,
+        truncated: false,
+        answer: 0,
+        authority: 0,
+        additional: 0,
+    };
+    start(writer, request, query, &heading, tcp);
+    finish(writer, request, query, code, false, tcp);
+}
 
-    /// Writes the authoritative reply that there is no such data (`NoError`) or no such name (`NxDomain`), with the SOA
-    /// of the zone in the authority section (RFC 2308 section 2).
-    pub fn reply_negative(
-        &mut self,
-        request: &[u8],
-        query: &QueryParts,
-        code: ResponseCode,
-        apex: &Name,
-        soa: &Rr,
-        tcp: bool,
-    )
-        requires { IsWhole request.now query.now.size }
-        ensures { self.new ≡ filled (limit_of tcp query.now.edns) (octets_of tcp (query_in request.now query.now) (negative (number_of code) apex.now soa.now)) }
-    {
-        let heading = Heading {
-            code,
-            authoritative: true,
-            truncated: false,
-            answer: 0,
-            authority: 1,
-            additional: 0,
-        };
-        self.start(request, query, &heading, tcp);
-        self.put_record(&query.name, apex, negative_ttl(soa), soa);
-        self.finish(request, query, code, true, tcp);
-    }
+/// Writes the authoritative reply that answers with records under an owner: an RRset, or all records of a name.
+pub fn reply_here(
+    writer: &mut Writer,
+    request: &[u8],
+    query: &QueryParts,
+    owner: &Name,
+    records: &[Rr],
+    tcp: bool,
+)
+    requires { IsWhole request.now query.now.size }
+    ensures { writer.new ≡ filled (limit_of tcp query.now.edns) (octets_of tcp (query_in request.now query.now) (here owner.now records.now)) }
+{
+    let heading = Heading {
+        code: ResponseCode::NoError,
+        authoritative: true,
+        truncated: false,
+        answer: records.len(),
+        authority: 0,
+        additional: 0,
+    };
+    start(writer, request, query, &heading, tcp);
+    put_shown(writer, &query.name, owner, records);
+    finish(writer, request, query, ResponseCode::NoError, true, tcp);
+}
+
+/// Writes the authoritative reply that there is no such data (`NoError`) or no such name (`NxDomain`), with the SOA
+/// of the zone in the authority section (RFC 2308 section 2).
+pub fn reply_negative(
+    writer: &mut Writer,
+    request: &[u8],
+    query: &QueryParts,
+    code: ResponseCode,
+    apex: &Name,
+    soa: &Rr,
+    tcp: bool,
+)
+    requires { IsWhole request.now query.now.size }
+    ensures { writer.new ≡ filled (limit_of tcp query.now.edns) (octets_of tcp (query_in request.now query.now) (negative (number_of code) apex.now soa.now)) }
+{
+    let heading = Heading {
+        code,
+        authoritative: true,
+        truncated: false,
+        answer: 0,
+        authority: 1,
+        additional: 0,
+    };
+    start(writer, request, query, &heading, tcp);
+    put_record(writer, &query.name, apex, negative_ttl(soa), soa);
+    finish(writer, request, query, code, true, tcp);
 }
 
 /// How many octets a reply may have (RFC 1035 section 4.2.1, RFC 6891 section 6.2.5).

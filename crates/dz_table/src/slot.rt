@@ -3,6 +3,8 @@
 ghost use Rattle.std.specs.Prelude.{◌≡◌, ◌<◌, ◌^◌, IfOk, option_map};
 ghost use Rattle.std.specs.Option.{ForSome};
 ghost use Rattle.std.specs.Arc.{arc_value};
+ghost use Rattle.std.specs.List.{All};
+ghost use Rattle.dz_zone.specs.Held.{IsHeld};
 ghost use Rattle.dz_table.specs.Slots.{SlotOf, IsSlot, is_live};
 
 use dz_name::Name;
@@ -64,10 +66,14 @@ impl Slot {
     pub fn version(&self) -> Option<&Version>
         ensures version { option_map (λ r. r.now) result ≡ self.now.version }
         ensures valid { IsSlot self.now }
+        ensures held { ForSome self.now.version (λ v. All IsHeld v.records) }
     {
         match &self.version {
             None => None,
-            Some(version) => Some(&**version),
+            Some(version) => {
+                version.records();
+                Some(&**version)
+            }
         }
     }
 

@@ -4,6 +4,7 @@ ghost use Rattle.std.specs.Prelude.{◌≡◌, Some, All, true};
 ghost use Rattle.dz_name.specs.Labels.{is_within};
 ghost use Rattle.std.specs.Option.{option_and_then};
 ghost use Rattle.dz_record.specs.Record.{soa_of};
+ghost use Rattle.dz_zone.specs.Held.{IsHeld, IsVersion};
 ghost use Rattle.dz_zone.specs.Valid.{IsValid, IsChecked, apex_soa};
 
 use crate::fault::ZoneFault;
@@ -21,13 +22,14 @@ pub struct Version {
 }
 
 impl Model for Version {
-    ghost use Rattle.dz_zone.specs.Valid.{Zone, IsValid};
+    ghost use Rattle.dz_zone.specs.Held.{IsVersion};
+    ghost use Rattle.dz_zone.specs.Valid.{Zone};
 
     ghost Value = { Zone };
 
     ghost view = { λ v. record { apex = v.apex; records = v.records.items } };
 
-    ghost invariant = { λ v. IsValid record { apex = v.apex; records = v.records.items } };
+    ghost invariant = { λ v. IsVersion record { apex = v.apex; records = v.records.items } };
 }
 
 impl Version {
@@ -43,6 +45,7 @@ impl Version {
         ensures records { result.now ≡ self.now.records }
         ensures valid { IsValid self.now }
         ensures within { All (λ r. is_within r.owner self.now.apex ≡ true) self.now.records }
+        ensures held { All IsHeld self.now.records }
     {
         self.records.as_slice()
     }
@@ -76,9 +79,30 @@ pub fn check(apex: &Name, mut records: Vec<Rr>) -> Result<Version, ZoneFault>
     tidy(&mut records)?;
     match fault_of(apex, records.as_slice()) {
         Some(fault) => Err(ZoneFault::Fault(fault)),
-        None => Ok(Version {
-            apex: *apex,
-            records,
-        }),
+        None => {
+            look_at_all(records.as_slice());
+            Ok(Version {
+                apex: *apex,
+                records,
+            })
+        }
     }
+}
+
+/// Looks at each record, so that what is known of a record is known of all.
+fn look_at_all(records: &[Rr])
+    ensures { All IsHeld records.now }
+{
+    'records: for rr in records {
+        look_at(rr);
+    }
+}
+
+/// What is known of a record: its owner is a name, its type a number of 16 bits, its RDATA that of its type.
+fn look_at(rr: &Rr)
+    ensures { IsHeld rr.now }
+{
+    rr.owner().wire();
+    rr.kind();
+    rr.rdata();
 }

@@ -1,6 +1,5 @@
-use Rattle.std.proofs.Common.{◌≡◌, ◌++◌, ◌∷◌, []}
 use Rattle.std.proofs.lemmas.Result.{err_from_is_err_and}
-use Rattle.dz_message.specs.Reading.{many, record_at}
+use Rattle.dz_message.specs.Reading.{record_at}
 use Rattle.dz_message.proofs.ManyLemmas.{one_more, one_fails, no_more}
 use Rattle.dz_message.proofs.reading.read_answers.Goals as goal
 

@@ -1,7 +1,7 @@
-use Rattle.std.proofs.Common.{◌≡◌, ◌++◌, ◌∷◌, [], sym}
+use Rattle.std.proofs.Common.{sym}
 use Rattle.std.proofs.lemmas.Result.{err_from_is_err_and}
 use Rattle.dz_message.specs.declared.fault.ReadError.TheVariants as errors
-use Rattle.dz_message.specs.Reading.{many, question_at}
+use Rattle.dz_message.specs.Reading.{question_at}
 use Rattle.dz_message.proofs.ManyLemmas.{one_more, one_fails, no_more}
 use Rattle.dz_message.proofs.reading.read_questions.Goals as goal
 

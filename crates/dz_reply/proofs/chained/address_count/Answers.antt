@@ -1,5 +1,3 @@
-use Rattle.std.proofs.Common.{◌∙◌, ◌≡◌}
-use Rattle.dz_lookup.specs.Found.{of_type, records_of}
 use Rattle.dz_reply.proofs.ChainLemmas.{no_address_count, address_counted}
 use Rattle.dz_reply.proofs.chained.address_count.Goals as goal
 
@@ -9,4 +7,4 @@ returns-in-None-clause-value c = no_address_count c.args.version.now c.args.serv
 pub returns-in-Some-clause-value : goal.returns-in-Some-clause-value
 returns-in-Some-clause-value c =
     address_counted c.args.version.now c.args.server.now c.in-Some.name _ _ c.in-Some.ensures
-    (rw c.records.ensures.records at c.rrset_of-four.ensures) (rw c.records-in-Some.ensures.records at c.rrset_of-six.ensures)
+    c.rrset_of-four.ensures c.rrset_of-six.ensures

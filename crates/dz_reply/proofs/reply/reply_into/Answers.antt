@@ -1,6 +1,17 @@
+use Rattle.std.proofs.Common.{arith}
+use Rattle.dz_request.specs.Request.{request}
+use Rattle.dz_reply.specs.Answering.{AnswersHeldFor}
 use Rattle.dz_reply.specs.Reply.{reply_of}
+use Rattle.dz_reply.specs.Transports.{is_tcp}
+use Rattle.dz_reply.proofs.ReadBack.{reads_back}
 use Rattle.dz_reply.proofs.reply.reply_into.Goals as goal
 
-pub returns : goal.returns
+pub returns-clause-reply : goal.returns-clause-reply
 unfolding reply_of
-returns c = rw (← c.is_tcp.ensures, ← c.read_request-request.ensures.reads) c.reply_request.ensures
+returns-clause-reply c = rw (← c.is_tcp.ensures, ← c.read_request-request.ensures.reads) c.reply_request.ensures.reply
+
+pub returns-clause-reads_back : goal.returns-clause-reads_back
+returns-clause-reads_back c = λ text some e.
+    let held : AnswersHeldFor c.args.table.now c.args.moment (request c.args.octets.now) = rw c.read_request-request.ensures.reads at c.reply_request.ensures.held in
+    reads_back c.args.table.now c.args.octets.now c.args.moment (is_tcp c.args.transport) c.reply_request.result c.reply_request.new.writer text
+    (λ i. omega (arith, c.type_inv.octets i)) held (returns-clause-reply c) some e

@@ -1,0 +1,29 @@
+//! NOTIFY requests.
+
+ghost use Rattle.std.specs.Prelude.{◌≡◌};
+ghost use Rattle.dz_notify.specs.Notify.{notified_in};
+
+use dz_name::Name;
+use dz_request::{Request, read_request};
+
+/// How a NOTIFY is heard (RFC 1996 section 3).
+#[derive(Clone, Copy, Debug, PartialEq, Eq)]
+pub enum Heard {
+    /// It came from one of the zone's primaries: the zone is looked at soon.
+    Taken,
+    /// It came from somebody else, and gets no reply.
+    Stranger,
+    /// No such zone is served.
+    NotOurs,
+}
+
+/// The zone that a NOTIFY request tells of: the name of its question. None where the request isn't a NOTIFY of class IN
+/// and type SOA that can be read (RFC 1996 section 3.7).
+pub fn read_notify(request: &[u8]) -> Option<Name>
+    ensures { result ≡ notified_in request.now }
+{
+    match read_request(request) {
+        Request::Notify(asked) => Some(asked.question.name),
+        _ => None,
+    }
+}
