@@ -92,14 +92,6 @@ pub all_shown : (question owner : List (List ℕ)) (rs : List Record)
 unfolding all_octets shown
 all_shown question owner rs = flat_map-map (shown_octets question) (λ r. shown_as owner (shown_ttl rs r) r) rs
 
-pub all_are : (question : List (List ℕ)) (rs : List Record) → all_octets question rs ≡ flat_map (shown_octets question) rs
-unfolding all_octets
-all_are question rs = refl
-
-pub shown_itself : (r : Record) → shown_as r.owner r.ttl r ≡ r
-unfolding shown_as
-shown_itself r = refl
-
 pub opt_written : (code : ℕ) (edns : Edns) (w w1 w2 w3 w4 w5 w6 : Writing) → w1 ≡ also w (0 ∷ []) → w2 ≡ also w1 (two 41) → w3 ≡ also w2 (two 1232)
     → w4 ≡ also w3 (code / 16 ∷ 0 ∷ []) → w5 ≡ also w4 (two (bit edns.dnssec_ok 32768)) → w6 ≡ also w5 (two 0) → w6 ≡ also w (opt_octets code (Some edns))
 unfolding opt_octets

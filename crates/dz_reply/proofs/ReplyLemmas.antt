@@ -1,14 +1,11 @@
 -- Whole replies within their limit.
 use Rattle.std.proofs.Common.{◌≡◌, ℕ, ◌+◌, ◌-◌, ◌≤◌, List, length, refl, ◌∙◌, ap, arith, length-append, Option, Some, None, if◌then◌else◌, inl, inr, zero-add}
 use Rattle.std.specs.Prelude.{nat_le, true, false, Bool, not, is_some}
-use Rattle.std.proofs.lemmas.List.{append-nil, length-map}
 use Rattle.std.proofs.lemmas.Bool.Decides.{nat_tests, leb_tells}
 use Rattle.dz_name.specs.Numbers.{two}
 use Rattle.dz_header.specs.declared.edns.Edns.{Edns}
-use Rattle.dz_record.specs.Record.{Record}
-use Rattle.dz_reply.specs.Layout.{Query, Sections, limit_of, head_octets, opt_octets, opt_count, all_octets, shown_octets, whole_octets, cut_octets, octets_of}
-use Rattle.dz_reply.specs.Shown.{shown, shown_as}
-use Rattle.dz_reply.specs.Replies.{laid_out, bare, here, negative, negative_ttl}
+use Rattle.dz_reply.specs.Layout.{Query, Sections, limit_of, head_octets, opt_octets, opt_count, all_octets, whole_octets, cut_octets, octets_of}
+use Rattle.dz_reply.specs.Replies.{laid_out, bare}
 use Rattle.dz_header.specs.Writing.{Writing, also, joined, empty, filled}
 use Rattle.dz_header.proofs.WriterLemmas.{also_append, also_nil}
 
@@ -86,15 +83,3 @@ pub laid_bare : (tcp : Bool) (query : Query) (code : ℕ)
     → also (empty (limit_of tcp query.edns)) (head_octets query code false false 0 0 (0 + opt_count query.edns)) ≡ laid_out tcp query (bare code)
 unfolding laid_out all_octets
 laid_bare tcp query code = rw (also_nil, also_nil, also_nil) refl
-
-pub laid_here : (tcp : Bool) (query : Query) (owner : List (List ℕ)) (rs : List Record)
-    → also (also (empty (limit_of tcp query.edns)) (head_octets query 0 true false (length rs) 0 (0 + opt_count query.edns))) (all_octets query.name (shown owner rs))
-    ≡ laid_out tcp query (here owner rs)
-unfolding laid_out all_octets shown
-laid_here tcp query owner rs = rw (also_nil, also_nil, length-map) refl
-
-pub laid_negative : (tcp : Bool) (query : Query) (code : ℕ) (apex : List (List ℕ)) (soa : Record)
-    → also (also (empty (limit_of tcp query.edns)) (head_octets query code true false 0 1 (0 + opt_count query.edns))) (shown_octets query.name (shown_as apex (negative_ttl soa) soa))
-    ≡ laid_out tcp query (negative code apex soa)
-unfolding laid_out all_octets
-laid_negative tcp query code apex soa = rw (also_nil, also_nil, append-nil) refl

@@ -1,26 +1,17 @@
 -- Replies by what they say.
-use Rattle.std.specs.Prelude.{ℕ, ◌+◌, min, length, Bool, true, false, List, [], ◌∷◌}
+use Rattle.std.specs.Prelude.{ℕ, ◌+◌, min, length, Bool, false, []}
 use Rattle.std.specs.Option.{option_map_or}
 use Rattle.dz_record.specs.Record.{Record, soa_of}
 use Rattle.dz_reply.specs.Layout.{Query, Sections, limit_of, head_octets, opt_count, all_octets}
-use Rattle.dz_reply.specs.Shown.{shown, shown_as}
 use Rattle.dz_header.specs.Writing.{Writing, also, empty}
 
 -- no records
 abbrev pub bare : ℕ → Sections
 bare code = record { code = code; authoritative = false; answer = []; authority = []; additional = [] }
 
--- the records of a name
-abbrev pub here : List (List ℕ) → List Record → Sections
-here owner rs = record { code = 0; authoritative = true; answer = shown owner rs; authority = []; additional = [] }
-
 -- the SOA of a negative answer has the lesser of its TTL and MINIMUM (RFC 2308 section 3)
 abbrev pub negative_ttl : Record → ℕ
 negative_ttl r = option_map_or (λ soa. min r.ttl soa.minimum) (soa_of r) r.ttl
-
-abbrev pub negative : ℕ → List (List ℕ) → Record → Sections
-negative code apex soa =
-    record { code = code; authoritative = true; answer = []; authority = shown_as apex (negative_ttl soa) soa ∷ []; additional = [] }
 
 -- a reply that is written but for its OPT record, section by section
 unfoldable pub laid_out : Bool → Query → Sections → Writing

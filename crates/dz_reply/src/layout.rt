@@ -88,15 +88,6 @@ pub fn put_shown(writer: &mut Writer, question: &Name, owner: &Name, records: &[
     }
 }
 
-/// Writes records under their own owners and with their own TTLs.
-pub fn put_records(writer: &mut Writer, question: &Name, records: &[Rr])
-    ensures { writer.new ≡ also writer.old (all_octets question.now records.now) }
-{
-    'records: for rr in records {
-        put_record(writer, question, rr.owner(), rr.ttl(), rr);
-    }
-}
-
 /// Writes the header, and the question as it stands in the request.
 pub fn put_head(writer: &mut Writer, request: &[u8], query: &QueryParts, heading: &Heading)
     requires { IsWhole request.now query.now.size }

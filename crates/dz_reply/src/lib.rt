@@ -1,4 +1,5 @@
-//! Replies to requests: what a zone says of a question, and the octets of the reply within a limit, with nothing allocated (RFC 1035 section 4.1, RFC 1034 section 4.3.2, RFC 6891).
+//! Replies to requests: what a zone says of a question, and the octets of the reply within a limit, with nothing
+//! allocated (RFC 1035 section 4.1, RFC 1034 section 4.3.2, RFC 6891).
 #![tactic(auto)]
 
 mod chained;
@@ -11,7 +12,4 @@ mod tests;
 mod tests_reply;
 mod whole;
 
-pub use layout::{Heading, put_head, put_opt, put_owner, put_record, put_records, put_shown};
-pub use query::QueryParts;
 pub use reply::{Transport, Turn, reply_into};
-pub use whole::{finish, negative_ttl, reply_bare, reply_here, reply_negative, start};

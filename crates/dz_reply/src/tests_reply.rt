@@ -476,3 +476,120 @@ fn what_is_not_built_or_cannot_be_read_gets_its_code(rt: HostRuntime) -> Result<
     );
     Ok(())
 }
+
+/// A query for the TXT records of `t.example.`, with an OPT record of this size, or none.
+fn query_for_text(alloc: Global, size: Option<u16>) -> Result<Vec<u8>, AllocError> {
+    let mut octets = Vec::from_slice(alloc, b"\0\x10\x01\0\0\x01\0\0\0\0\0")?;
+    octets.push(u8::from(size.is_some()))?;
+    octets.extend_from_slice(b"\x01t\x07example\0\0\x10\0\x01")?;
+    if let Some(size) = size {
+        octets.extend_from_slice(b"\0\0\x29")?;
+        octets.extend_from_slice(&size.to_be_bytes())?;
+        octets.extend_from_slice(b"\0\0\x80\0\0\0")?;
+    }
+    Ok(octets)
+}
+
+/// The reply to it, where the record has RDATA of so many octets of 7; header, question and OPT with TC where it has no
+/// room.
+fn text_reply(alloc: Global, opt: bool, text: Option<u16>) -> Result<Vec<u8>, AllocError> {
+    let mut octets = Vec::from_slice(alloc, b"\0\x10")?;
+    octets.extend_from_slice(if text.is_some() {
+        b"\x85\0\0\x01\0\x01\0\0\0".as_slice()
+    } else {
+        b"\x87\0\0\x01\0\0\0\0\0".as_slice()
+    })?;
+    octets.push(u8::from(opt))?;
+    octets.extend_from_slice(b"\x01t\x07example\0\0\x10\0\x01")?;
+    if let Some(size) = text {
+        octets.extend_from_slice(b"\xc0\x0c\0\x10\0\x01\0\0\0\x3c")?;
+        octets.extend_from_slice(&size.to_be_bytes())?;
+        for _ in 0..size {
+            octets.push(7)?;
+        }
+    }
+    if opt {
+        octets.extend_from_slice(b"\0\0\x29\x04\xd0\0\0\x80\0\0\0")?;
+    }
+    Ok(octets)
+}
+
+/// The zone of one TXT record, whose RDATA has so many octets of 7.
+fn text_table(rt: &impl Abort, alloc: Global, size: u16) -> Result<Table, AllocError> {
+    let rdata = Vec::from_elem(alloc, 7u8, usize::from(size))?;
+    let mut records = Vec::new(alloc);
+    records.push(record(rt, alloc, APEX[0])?)?;
+    records.push(record(rt, alloc, APEX[1])?)?;
+    match Rr::make(name(rt, b"t.example."), 16, 60, Octets::from_vec(rdata)) {
+        Ok(record) => records.push(record)?,
+        Err(error) => panic!(rt; "{error:?}"),
+    }
+    let apex = name(rt, b"example.");
+    let version = version_of(rt, alloc, apex, records)?;
+    Table::empty(alloc).with(alloc, Slot::make(apex, 1000, Some(version)))
+}
+
+/// A query with an OPT record of this size, or none, has replies of so many octets and no more.
+fn expect_limit(
+    rt: &impl Abort,
+    alloc: Global,
+    size: Option<u16>,
+    transport: Transport,
+    limit: u16,
+) -> Result<(), AllocError> {
+    let query = query_for_text(alloc, size)?;
+    let opt = size.is_some();
+    // header, question and the record without its RDATA have 39 octets, an OPT record 11
+    let most = limit.saturating_sub(if opt { 50 } else { 39 });
+    let mut buffer = ReplyBuffer::make(alloc)?;
+    for (text, fits) in [
+        (most.saturating_sub(1), true),
+        (most, true),
+        (most.saturating_add(1), false),
+    ] {
+        let table = text_table(rt, alloc, text)?;
+        let turn = reply_into(&table, query.as_slice(), 1000, transport, &mut buffer);
+        let shown = if fits { Some(text) } else { None };
+        expect(rt, turn, &buffer, text_reply(alloc, opt, shown)?.as_slice());
+    }
+    Ok(())
+}
+
+#[test]
+fn a_reply_past_its_limit_is_cut(rt: HostRuntime) -> Result<(), Fail> {
+    let alloc = rt.alloc();
+    for (size, transport, limit) in [
+        (None, Transport::Udp, 512),
+        (Some(0), Transport::Udp, 512),
+        (Some(511), Transport::Udp, 512),
+        (Some(512), Transport::Udp, 512),
+        (Some(513), Transport::Udp, 513),
+        (Some(1231), Transport::Udp, 1231),
+        (Some(1232), Transport::Udp, 1232),
+        (Some(1233), Transport::Udp, 1232),
+        (Some(65_535), Transport::Udp, 1232),
+        (None, Transport::Tcp, 65_535),
+        (Some(512), Transport::Tcp, 65_535),
+    ] {
+        expect_limit(&rt, alloc, size, transport, limit)?;
+    }
+    Ok(())
+}
+
+#[test]
+fn a_negative_answer_has_the_lesser_ttl_of_the_soa(rt: HostRuntime) -> Result<(), Fail> {
+    let alloc = rt.alloc();
+    let mut buffer = ReplyBuffer::make(alloc)?;
+    let request = b"\0\x10\0\0\0\x01\0\0\0\0\0\0\x01x\x07example\0\0\x01\0\x01".as_slice();
+    let head =
+        b"\0\x10\x84\x03\0\x01\0\0\0\x01\0\0\x01x\x07example\0\0\x01\0\x01\xc0\x0e\0\x06\0\x01\0\0\0".as_slice();
+    let (owner, kind, _, rdata) = APEX[0];
+    for (ttl, shown) in [(29, 29), (30, 30), (31, 30)] {
+        let table = table(&rt, alloc, &[(owner, kind, ttl, rdata), APEX[1]], &[])?;
+        let mut want = Vec::from_slice(alloc, head)?;
+        want.extend_from_slice(&[shown, 0, 46])?;
+        want.extend_from_slice(rdata)?;
+        expect_reply(&rt, &table, &mut buffer, request, want.as_slice());
+    }
+    Ok(())
+}

@@ -5,13 +5,12 @@ ghost use Rattle.dz_header.specs.Code.{number_of};
 ghost use Rattle.dz_reply.specs.Layout.{Sections, head_octets, opt_count, octets_of, limit_of};
 ghost use Rattle.dz_reply.specs.Query.{query_in};
 ghost use Rattle.dz_request.specs.Request.{IsWhole};
-ghost use Rattle.dz_reply.specs.Replies.{laid_out, bare, here, negative, negative_ttl};
+ghost use Rattle.dz_reply.specs.Replies.{laid_out, bare, negative_ttl};
 ghost use Rattle.dz_header.specs.Writing.{also, empty, filled};
 
-use crate::layout::{Heading, put_head, put_opt, put_record, put_shown};
+use crate::layout::{Heading, put_head, put_opt};
 use crate::query::QueryParts;
 use dz_header::{Edns, ResponseCode, Writer};
-use dz_name::Name;
 use dz_record::Rr;
 
 /// Begins a reply: empties the writer, sets the limit of the transport, and writes header and question.
@@ -72,58 +71,6 @@ pub fn reply_bare(
     };
     start(writer, request, query, &heading, tcp);
     finish(writer, request, query, code, false, tcp);
-}
-
-/// Writes the authoritative reply that answers with records under an owner: an RRset, or all records of a name.
-pub fn reply_here(
-    writer: &mut Writer,
-    request: &[u8],
-    query: &QueryParts,
-    owner: &Name,
-    records: &[Rr],
-    tcp: bool,
-)
-    requires { IsWhole request.now query.now.size }
-    ensures { writer.new ≡ filled (limit_of tcp query.now.edns) (octets_of tcp (query_in request.now query.now) (here owner.now records.now)) }
-{
-    let heading = Heading {
-        code: ResponseCode::NoError,
-        authoritative: true,
-        truncated: false,
-        answer: records.len(),
-        authority: 0,
-        additional: 0,
-    };
-    start(writer, request, query, &heading, tcp);
-    put_shown(writer, &query.name, owner, records);
-    finish(writer, request, query, ResponseCode::NoError, true, tcp);
-}
-
-/// Writes the authoritative reply that there is no such data (`NoError`) or no such name (`NxDomain`), with the SOA
-/// of the zone in the authority section (RFC 2308 section 2).
-pub fn reply_negative(
-    writer: &mut Writer,
-    request: &[u8],
-    query: &QueryParts,
-    code: ResponseCode,
-    apex: &Name,
-    soa: &Rr,
-    tcp: bool,
-)
-    requires { IsWhole request.now query.now.size }
-    ensures { writer.new ≡ filled (limit_of tcp query.now.edns) (octets_of tcp (query_in request.now query.now) (negative (number_of code) apex.now soa.now)) }
-{
-    let heading = Heading {
-        code,
-        authoritative: true,
-        truncated: false,
-        answer: 0,
-        authority: 1,
-        additional: 0,
-    };
-    start(writer, request, query, &heading, tcp);
-    put_record(writer, &query.name, apex, negative_ttl(soa), soa);
-    finish(writer, request, query, code, true, tcp);
 }
 
 /// How many octets a reply may have (RFC 1035 section 4.2.1, RFC 6891 section 6.2.5).

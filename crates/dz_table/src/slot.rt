@@ -71,6 +71,7 @@ impl Slot {
         match &self.version {
             None => None,
             Some(version) => {
+                // what is known of the records of a version is known of the slot's
                 version.records();
                 Some(&**version)
             }
