@@ -1,6 +1,6 @@
 -- Octets spell a message just where reading them gives it.
 use Rattle.std.proofs.Common.{◌≡◌, ℕ, zero, suc, ◌-◌, ◌+◌, ◌≤◌, List, [], ◌∷◌, ◌++◌, length, drop, Option, Some, None, Result, Ok, Err, refl, sym, ap, ◌∙◌, subst, arith, Bool, true, false}
-use Rattle.std.specs.Prelude.{nat_le, nat_lt, ◌==◌, ◌||◌, not, slice_index, if◌then◌else◌, IfOk}
+use Rattle.std.specs.Prelude.{nat_le, nat_lt, ◌==◌, ◌||◌, not, slice_index, if◌then◌else◌, IfOk, IfErr}
 use Rattle.std.proofs.lemmas.Bool.Decides.{nat_tests}
 use Rattle.dz_name.specs.Numbers.{number_of_two, number_of_four}
 use Rattle.dz_name.specs.Reading.{Reads, name_at}
@@ -15,11 +15,13 @@ use Rattle.dz_record.specs.Record.{Record, is_bad_type, ttl_of}
 use Rattle.dz_message.specs.declared.fault.MessageFault.{MessageFault}
 use Rattle.dz_message.specs.declared.fault.MessageFault.TheVariants.{Wire, ShortHeader, BadRdata, BadType, Trailing}
 use Rattle.dz_message.specs.declared.fault.ReadError.{ReadError}
+use Rattle.dz_message.specs.declared.fault.ReadError.TheVariants.{OutOfMemory}
+use Rattle.dz_message.specs.declared.fault.ReadError.TheVariants as errors
 use Rattle.dz_header.specs.declared.question.Question.{Question}
 use Rattle.dz_message.specs.declared.reading.Fixed.{Fixed}
 use Rattle.dz_message.specs.Content.{Content}
 use Rattle.dz_message.specs.Reading.{◌>>=◌, Gives, named, question_at, fixed_at, octets_at, name_within, field_at, rdata_at, rdata_of, record_at, many, ended, count_in, content_of, message_of}
-use Rattle.dz_message.specs.Spelling.{IsNameAt, IsQuestion, AreOctets, IsNameWithin, IsField, AreFields, no_field, one_field, IsRecordAt, Each, no_one, one_first, Spells}
+use Rattle.dz_message.specs.Spelling.{IsNameAt, IsQuestion, AreOctets, IsNameWithin, IsField, AreFields, no_field, one_field, IsRecordAt, Each, no_one, one_first, Spells, SpellsNone}
 use Rattle.dz_message.proofs.FitLemmas.{then_ok, ok_is, taken, named_ok, name_read}
 
 -- what a test leaves where the whole is an Ok
@@ -275,3 +277,8 @@ read_spells octets (Err e) gives = tt
 pub read_once : (octets : List ℕ) (result : Result Content ReadError) → Gives (λ m. m) result (message_of octets) → IfOk result (λ m. (other : Content) → Spells octets other → other ≡ m)
 read_once octets (Ok m) gives = λ other is. spells_once octets m other (spelled octets m gives) is
 read_once octets (Err e) gives = tt
+
+pub read_none : (octets : List ℕ) (result : Result Content ReadError) → Gives (λ m. m) result (message_of octets) → IfErr result (λ e. SpellsNone octets e)
+read_none octets (Ok m) gives = tt
+read_none octets (Err OutOfMemory) gives = tt
+read_none octets (Err (errors.Fault fault)) gives = λ m is. let read = spells_is octets m is in absurd (cc)

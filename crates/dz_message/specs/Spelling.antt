@@ -10,6 +10,9 @@ use Rattle.dz_record.specs.declared.table.Field.TheVariants.{Octets, DomainName,
 use Rattle.dz_record.specs.Fields.{fields_of}
 use Rattle.dz_record.specs.Record.{Record, is_bad_type, ttl_of}
 use Rattle.dz_header.specs.declared.question.Question.{Question}
+use Rattle.dz_message.specs.declared.fault.ReadError.{ReadError}
+use Rattle.dz_message.specs.declared.fault.ReadError.TheVariants.{OutOfMemory}
+use Rattle.dz_message.specs.declared.fault.ReadError.TheVariants as errors
 use Rattle.dz_message.specs.Content.{Content}
 use Rattle.dz_message.specs.Reading.{count_in}
 
@@ -83,3 +86,8 @@ pub record Spells (octets : List ℕ) (m : Content) : Type 0 where
   pub answer_count : length m.answers ≡ count_in m.header 1
   pub answers : Each (IsRecordAt octets) answers_at m.answers others_at
   pub others : skipped (count_in m.header 2 + count_in m.header 3) (drop others_at octets) ≡ Some []
+
+-- a fault is told where the octets spell no message; want of memory tells nothing
+abbrev pub SpellsNone : List ℕ → ReadError → Type 0
+SpellsNone octets OutOfMemory = Unit {0}
+SpellsNone octets (errors.Fault fault) = (m : Content) → ¬ (Spells octets m)

@@ -1,10 +1,10 @@
-ghost use Rattle.std.specs.Prelude.{◌≡◌, ◌≤◌, ◌+◌, ◌++◌, length, drop, true, false, IfOk, OnOk};
+ghost use Rattle.std.specs.Prelude.{◌≡◌, ◌≤◌, ◌+◌, ◌++◌, length, drop, true, false, IfOk, IfErr, OnOk};
 ghost use Rattle.dz_record.specs.Fields.{is_rdata};
 ghost use Rattle.dz_record.specs.Record.{is_bad_type};
 ghost use Rattle.dz_header.specs.Shape.{skipped};
 ghost use Rattle.dz_message.specs.Content.{Content};
 ghost use Rattle.dz_message.specs.Reading.{Gives, Appends, AppendsOne, EndsWell, question_at, fixed_at, octets_at, name_within, field_at, rdata_at, rdata_of, record_at, many, ended, content_of, message_of};
-ghost use Rattle.dz_message.specs.Spelling.{Spells};
+ghost use Rattle.dz_message.specs.Spelling.{Spells, SpellsNone};
 
 use crate::fault::{MessageFault, ReadError};
 use crate::message::Message;
@@ -20,11 +20,12 @@ use std::alloc::Global;
 /// # Errors
 ///
 /// The first fault from left to right.
-#[tactic(auto, using(crate::proofs::SpellingLemmas::read_spells, crate::proofs::SpellingLemmas::read_once))]
+#[tactic(auto, using(crate::proofs::SpellingLemmas::read_spells, crate::proofs::SpellingLemmas::read_once, crate::proofs::SpellingLemmas::read_none))]
 pub fn read_message(alloc: Global, octets: &[u8]) -> Result<Message, ReadError>
     ensures reads { Gives (λ m. m) result (message_of octets.now) }
     ensures spells { IfOk result (λ m. Spells octets.now m) }
     ensures once { IfOk result (λ m. (other : Content) → Spells octets.now other → other ≡ m) }
+    ensures none { IfErr result (λ e. SpellsNone octets.now e) }
 {
     read_whole(alloc, octets)
 }
