@@ -3,3 +3,5 @@ pub mod ManyLemmas
 pub mod RdataLemmas
 pub mod SpellingLemmas
 pub mod WritingLemmas
+pub mod PlaceLemmas
+pub mod WrittenLemmas

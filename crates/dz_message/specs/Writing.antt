@@ -1,10 +1,11 @@
 -- A message as octets, names without pointers (RFC 1035 section 4.1).
-use Rattle.std.specs.Prelude.{◌≡◌, ℕ, List, [], ◌∷◌, ◌++◌, length, Result, Ok, Err, ◌<◌, ◌≤◌}
-use Rattle.std.specs.List.{flat_map}
-use Rattle.dz_name.specs.Labels.{wire_of}
+use Rattle.std.specs.Prelude.{◌≡◌, ℕ, List, [], ◌∷◌, ◌++◌, length, Result, Ok, Err, ◌<◌, ◌≤◌, ◌^◌}
+use Rattle.std.specs.List.{flat_map, All, AllByRecursion}
+use Rattle.dz_name.specs.Labels.{wire_of, IsName}
 use Rattle.dz_name.specs.Numbers.{two}
+use Rattle.dz_header.specs.declared.header.Header.{Header}
 use Rattle.dz_header.specs.Header.{header_octets}
-use Rattle.dz_record.specs.Record.{record_octets}
+use Rattle.dz_record.specs.Record.{Record, IsRecord, record_octets}
 use Rattle.dz_header.specs.declared.question.Question.{Question}
 use Rattle.dz_message.specs.declared.fault.WriteError.{WriteError}
 use Rattle.dz_message.specs.declared.fault.WriteError.TheVariants as errors
@@ -25,3 +26,27 @@ abbrev pub IsWritten : Content → Result (List ℕ) WriteError → Type 0
 IsWritten m (Ok octets) = (octets ≡ message_octets m) × (length octets ≤ 65535)
 IsWritten m (Err errors.TooLong) = 65535 < length (message_octets m)
 IsWritten m (Err errors.OutOfMemory) = Unit {0}
+
+-- a question in memory: a name, and two numbers of two octets
+pub record IsAsking (q : Question) : Type 0 where
+  pub name : IsName q.name
+  pub kind : q.kind < 2 ^ 16
+  pub class : q.class < 2 ^ 16
+
+-- an answer record in memory: its owner is a name, its type a number of two octets
+pub record IsAnswer (r : Record) : Type 0 where
+  pub owner : IsName r.owner
+  pub kind : r.kind < 2 ^ 16
+  pub is : IsRecord r
+
+-- the six numbers of a header have two octets each
+pub record IsHeader (header : Header) : Type 0 where
+  pub id : header.id < 2 ^ 16
+  pub flags : header.flags < 2 ^ 16
+  pub counts : AllByRecursion (λ n. n < 2 ^ 16) header.counts
+
+-- what a message in memory holds
+pub record IsHeldMessage (m : Content) : Type 0 where
+  pub header : IsHeader m.header
+  pub questions : All IsAsking m.questions
+  pub answers : All IsAnswer m.answers

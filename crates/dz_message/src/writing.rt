@@ -1,11 +1,13 @@
-ghost use Rattle.std.specs.Prelude.{◌≡◌, ◌++◌, OnOk, Ok, Err};
-ghost use Rattle.std.specs.List.{flat_map};
+ghost use Rattle.std.specs.Prelude.{◌≡◌, ◌++◌, IfOk, OnOk, Ok, Err};
+ghost use Rattle.std.specs.List.{flat_map, All};
+ghost use Rattle.dz_header.specs.Header.{header_octets};
 ghost use Rattle.dz_record.specs.Record.{record_octets};
-ghost use Rattle.dz_message.specs.Writing.{question_octets, message_octets, CountsAgree, IsWritten};
+ghost use Rattle.dz_message.specs.Spelling.{Spells};
+ghost use Rattle.dz_message.specs.Writing.{question_octets, message_octets, CountsAgree, IsAnswer, IsAsking, IsHeader, IsHeldMessage, IsWritten};
 
 use crate::fault::WriteError;
 use crate::message::Message;
-use dz_header::{Question, write_header};
+use dz_header::{Header, Question, write_header};
 use dz_name::Octets;
 use dz_name::numbers::two;
 use dz_record::Rr;
@@ -18,7 +20,8 @@ use std::alloc::{AllocError, Global};
 /// `TooLong` where the message has more than 65,535 octets.
 pub fn write_message(alloc: Global, message: &Message) -> Result<Octets, WriteError>
     requires { CountsAgree message.now }
-    ensures { IsWritten message.now result }
+    ensures octets { IsWritten message.now result }
+    ensures spells { IfOk result (λ octets. Spells octets message.now) }
 {
     let mut out = Vec::new(alloc);
     write_all(message, &mut out)?;
@@ -30,18 +33,34 @@ pub fn write_message(alloc: Global, message: &Message) -> Result<Octets, WriteEr
 
 #[tactic(auto, unfolding(crate::specs::Writing::message_octets))]
 fn write_all(message: &Message, out: &mut Vec<u8>) -> Result<(), AllocError>
-    ensures { OnOk result (out.new.items ≡ out.old.items ++ message_octets message.now) }
+    ensures octets { OnOk result (out.new.items ≡ out.old.items ++ message_octets message.now) }
+    ensures held { OnOk result (IsHeldMessage message.now) }
 {
-    let mut header = [0; 12];
-    write_header(&message.header(), &mut header);
-    out.extend_from_slice(&header)?;
+    write_head(message.header(), out)?;
     write_questions(message.questions(), out)?;
     write_answers(message.answers(), out)?;
     Ok(())
 }
 
+fn write_head(header: Header, out: &mut Vec<u8>) -> Result<(), AllocError>
+    ensures octets { OnOk result (out.new.items ≡ out.old.items ++ header_octets header) }
+    ensures held { OnOk result (IsHeader header) }
+{
+    let Header { id, flags, counts } = header;
+    prove!(id <= 65_535);
+    prove!(flags <= 65_535);
+    prove!(counts[0] <= 65_535);
+    prove!(counts[1] <= 65_535);
+    prove!(counts[2] <= 65_535);
+    prove!(counts[3] <= 65_535);
+    let mut octets = [0; 12];
+    write_header(&header, &mut octets);
+    out.extend_from_slice(&octets)
+}
+
 fn write_questions(questions: &[Question], out: &mut Vec<u8>) -> Result<(), AllocError>
-    ensures { OnOk result (out.new.items ≡ out.old.items ++ flat_map question_octets questions.now) }
+    ensures octets { OnOk result (out.new.items ≡ out.old.items ++ flat_map question_octets questions.now) }
+    ensures held { OnOk result (All IsAsking questions.now) }
 {
     'questions: for question in questions {
         write_question(question, out)?;
@@ -50,17 +69,28 @@ fn write_questions(questions: &[Question], out: &mut Vec<u8>) -> Result<(), Allo
 }
 
 fn write_answers(answers: &[Rr], out: &mut Vec<u8>) -> Result<(), AllocError>
-    ensures { OnOk result (out.new.items ≡ out.old.items ++ flat_map record_octets answers.now) }
+    ensures octets { OnOk result (out.new.items ≡ out.old.items ++ flat_map record_octets answers.now) }
+    ensures held { OnOk result (All IsAnswer answers.now) }
 {
     'answers: for answer in answers {
-        answer.encode(out)?;
+        write_answer(answer, out)?;
     }
     Ok(())
 }
 
+fn write_answer(answer: &Rr, out: &mut Vec<u8>) -> Result<(), AllocError>
+    ensures octets { OnOk result (out.new.items ≡ out.old.items ++ record_octets answer.now) }
+    ensures held { OnOk result (IsAnswer answer.now) }
+{
+    prove!(answer.owner().wire().len() <= 255);
+    prove!(answer.kind() <= 65_535 && answer.rdata().len() <= 65_535);
+    answer.encode(out)
+}
+
 #[tactic(auto, unfolding(crate::specs::Writing::question_octets))]
 fn write_question(question: &Question, out: &mut Vec<u8>) -> Result<(), AllocError>
-    ensures { OnOk result (out.new.items ≡ out.old.items ++ question_octets question.now) }
+    ensures octets { OnOk result (out.new.items ≡ out.old.items ++ question_octets question.now) }
+    ensures held { OnOk result (IsAsking question.now) }
 {
     out.extend_from_slice(question.name.wire())?;
     out.extend_from_slice(&two(question.kind))?;

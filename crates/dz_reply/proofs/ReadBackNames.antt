@@ -1,8 +1,8 @@
 -- Names of a reply read back: the question's name in the letters of its request, and owners that point into it.
-use Rattle.std.proofs.Common.{inl, inr, ◌≡◌, ℕ, zero, suc, ◌+◌, ◌-◌, ◌/◌, ◌%◌, ◌<◌, ◌≤◌, Bool, true, false, List, [], ◌∷◌, ◌++◌, length, take, drop, refl, sym, ◌∙◌, ap, subst, arith, append_assoc, length-append, length-drop, length-take-le, get_or, get_or-drop, Option, Some, None, Ok}
+use Rattle.std.proofs.Common.{inl, inr, ◌≡◌, ℕ, zero, suc, ◌+◌, ◌-◌, ◌/◌, ◌%◌, ◌<◌, ◌≤◌, Bool, true, false, List, [], ◌∷◌, ◌++◌, length, take, drop, refl, sym, ◌∙◌, ap, subst, arith, append_assoc, length-append, length-take-le, get_or, get_or-drop, Option, Some, None, Ok}
 use Rattle.std.specs.Prelude.{map, slice_index, slice_range, nat_lt, nat_le, ◌&&◌}
 use Rattle.std.specs.List.{AllByRecursion}
-use Rattle.std.proofs.lemmas.List.{take_at, drop_at, drop-drop, take-append-drop, drop-map}
+use Rattle.std.proofs.lemmas.List.{take_at, drop_at, take-append-drop, drop-map}
 use Rattle.std.proofs.lemmas.Bool.{cases_Bool}
 use Rattle.std.proofs.lemmas.Bool.Decides.{nat_tests, eqb_tells}
 use Rattle.dz_name.specs.Labels.{lower, wire_of, is_within, IsLabel}
@@ -11,6 +11,7 @@ use Rattle.dz_name.specs.Reading.{Reads, at_root, at_label, at_pointer, label_en
 use Rattle.dz_name.proofs.KeptLemmas.{wire_some, length-lower}
 use Rattle.dz_name.proofs.NumberLemmas.{length_two}
 use Rattle.dz_name.proofs.PartLemmas.{within_suffix, wire_drop_le}
+use Rattle.dz_message.proofs.PlaceLemmas.{length_there, drop_there}
 use Rattle.dz_reply.specs.Layout.{owner_octets}
 use Rattle.dz_request.specs.Request.{name_of, with_label}
 
@@ -20,14 +21,6 @@ index_there m at first rest is =
     let e : get_or (drop at m) 0 0 ≡ slice_index m (at + 0) = get_or-drop at m 0 0 in
     let z : at + 0 ≡ at = omega arith in
     sym (rw z at e) ∙ ap (λ xs. get_or xs 0 0) is
-
--- how many octets a part and the rest have
-pub length_there : (m : List ℕ) (at : ℕ) (part rest : List ℕ) → drop at m ≡ part ++ rest → length m - at ≡ length part + length rest
-length_there m at part rest is = sym (length-drop at m) ∙ (ap length is ∙ length-append part rest)
-
--- what stands behind a part
-pub drop_there : (m : List ℕ) (at n : ℕ) (part rest : List ℕ) → drop at m ≡ part ++ rest → length part ≡ n → drop (at + n) m ≡ rest
-drop_there m at n part rest is count = sym (drop-drop n at m) ∙ (ap (drop n) is ∙ drop_at part rest n count)
 
 -- the octets of a part
 range_there : (m : List ℕ) (at end : ℕ) (part rest : List ℕ) → drop at m ≡ part ++ rest → at + length part ≡ end → slice_range m at end ≡ part

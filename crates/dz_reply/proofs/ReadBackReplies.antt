@@ -16,8 +16,9 @@ use Rattle.dz_zone.specs.Held.{IsHeld}
 use Rattle.dz_reply.specs.Layout.{Query, Sections, reply_flags, opt_count, head_octets, all_octets, opt_octets, whole_octets, cut_octets, octets_of, limit_of}
 use Rattle.dz_reply.specs.Reply.{curt_octets}
 use Rattle.dz_reply.specs.ReadsBack.{SpellsSections, SpellsReply, SpellsCurt}
-use Rattle.dz_reply.proofs.ReadBackNames.{IsRaw, StandsAsked, length_there, drop_there, reads_raw}
-use Rattle.dz_reply.proofs.ReadBackRecords.{two_there, each_there, few_records}
+use Rattle.dz_message.proofs.PlaceLemmas.{length_there, drop_there, two_there}
+use Rattle.dz_reply.proofs.ReadBackNames.{IsRaw, StandsAsked, reads_raw}
+use Rattle.dz_reply.proofs.ReadBackRecords.{all_there, few_records}
 
 -- the octets of a question: a name in the letters of the request, and four octets of type and class
 pub record IsEcho (echo : List ℕ) (q : Question) : Type 0 where
@@ -144,9 +145,9 @@ spells m query q code aa tc a b c id_small echo same held_a held_b held_c small_
         long = head.long;
         counts = head.counts;
         asked = question.3;
-        answers = each_there m name question.0 stood a _ p0 held_a (omega arith) d0;
-        authorities = each_there m name question.0 stood b _ p1 held_b (omega arith) d1;
-        additionals = each_there m name question.0 stood c _ p2 held_c (omega arith) d2;
+        answers = all_there m name question.0 stood a _ p0 held_a (omega arith) d0;
+        authorities = all_there m name question.0 stood b _ p1 held_b (omega arith) d1;
+        additionals = all_there m name question.0 stood c _ p2 held_c (omega arith) d2;
         opt = d3;
       },
     )
