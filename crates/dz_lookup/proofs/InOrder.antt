@@ -22,7 +22,7 @@ use Rattle.dz_record.specs.Record.{Record, record_order}
 use Rattle.dz_record.specs.Zone.{placed, in_order}
 use Rattle.dz_lookup.specs.Found.{of_type, records_of, owns}
 use Rattle.dz_lookup.specs.Searching.{from_owner, from_key, IsBegin, IsEnd}
-use Rattle.dz_lookup.proofs.Runs.{run_is, run_begins, partitioned_lt, partitioned_le}
+use Rattle.dz_lookup.proofs.Runs.{filter_none, run_is, run_begins, partitioned_lt, partitioned_le}
 
 -- owner and type of a record, and their order
 abbrev key : Record → List (List ℕ) × ℕ
@@ -189,3 +189,12 @@ owns_none zone name kind i begin past =
     sym (list_any_none (λ r. (r.kind == kind) && same_name r.owner name) zone (λ k d h.
     false_from_ne_true (((get_or zone k d).kind == kind) && same_name (get_or zone k d).owner name) (λ t.
     not_both (from_key name kind (get_or zone k d)) (begin.0 k d (omega arith) (omega arith)) (key_test name kind (get_or zone k d) ∙ t))))
+
+-- a name that owns no records of a type has none to show
+pub no_run : (zone : List Record) (name : List (List ℕ)) (kind : ℕ) → IsStrictlySortedBy record_order zone → owns zone kind name ≡ false → [] ≡ of_type kind (records_of zone name)
+no_run zone name kind up none =
+    sym (filter_none (λ r. is_eq (from_key name kind r)) zone (λ k d h.
+    false_from_ne_true (is_eq (from_key name kind (get_or zone k d))) (λ t.
+    let found : owns zone kind name ≡ true = list_any_at (λ r. (r.kind == kind) && same_name r.owner name) zone k d h (sym (key_test name kind (get_or zone k d)) ∙ t) in
+    cc)))
+    ∙ key_filter zone name kind up

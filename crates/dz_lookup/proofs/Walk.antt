@@ -9,7 +9,8 @@ use Rattle.dz_name.proofs.PartLemmas.{within_suffix}
 use Rattle.dz_record.specs.Record.{Record}
 use Rattle.dz_lookup.specs.Found.{exists, upward, encloser, wildcard_under, source, topmost, is_cut, owns, cut}
 use Rattle.std.proofs.lemmas.Bool.{cases_Bool, false_from_ne_true}
-use Rattle.std.proofs.lemmas.List.Folds.{Any-from_list_any}
+use Rattle.std.proofs.lemmas.List.Folds.{list_any_at, Any-from_list_any}
+use Rattle.dz_lookup.proofs.Within.{drop_within}
 
 -- the closest encloser: names that don't exist are passed over
 pub encloser_step : (zone : List Record) (name : List (List ℕ)) (k : ℕ) → k < length name → exists zone (drop k name) ≡ false → encloser zone (drop (k + 1) name) ≡ encloser zone (drop k name)
@@ -109,3 +110,30 @@ cut_here apex zone name skip r some short none is =
     let long : length apex < length (drop (skip - 1) name) = omega (arith, length-drop (skip - 1) name) in
     rw (is, ← long_cut apex zone (drop (skip - 1) name) long)
     (topmost_step (is_cut apex zone) name (skip - 1) (omega arith) (rw e none))
+
+-- below a name that doesn't exist no name owns records
+none_owned : (zone : List Record) (kind : ℕ) (name above : List (List ℕ)) → is_within name above ≡ true → exists zone above ≡ false → owns zone kind name ≡ false
+none_owned zone kind name above within none =
+    false_from_ne_true (owns zone kind name) (λ t.
+    let some = Any-from_list_any (λ r. r.kind == kind && same_name r.owner name) zone t in
+    let same : same_name some.1.owner name ≡ true = second (some.1.kind == kind) (same_name some.1.owner name) some.4 in
+    let e : some.1.owner ≡ name = (same_decides some.1.owner name).0 same in
+    let found = list_any_at (λ r. is_within r.owner above) zone some.0 some.1 some.2 (rw (some.3, e) within) in
+    absurd (cc))
+
+topmost_below : (test : List (List ℕ) → Bool) (name : List (List ℕ)) (k : ℕ) → k ≤ length name → topmost test (drop k name) ≡ None
+    → ((j : ℕ) → j < k → test (drop j name) ≡ false) → topmost test name ≡ None
+topmost_below test name zero le none each = none
+topmost_below test name (suc k) le none each =
+    let e : k + 1 ≡ suc k = omega arith in
+    let step = topmost_step test name k (omega arith) (rw e none) in
+    let no = each k (omega arith) in
+    topmost_below test name k (omega arith) (rw no at step) (λ j lt. each j (omega arith))
+
+-- no name below one that doesn't exist is a cut
+pub no_cut_below : (apex : List (List ℕ)) (zone : List Record) (name : List (List ℕ)) (skip : ℕ) → 0 < skip → skip + length apex ≤ length name → cut apex zone (drop skip name) ≡ None
+    → exists zone (drop (skip - 1) name) ≡ false → cut apex zone name ≡ None
+no_cut_below apex zone name skip some short none missing =
+    topmost_below (is_cut apex zone) name skip (omega arith) none (λ j lt.
+    let owned : owns zone 2 (drop j name) ≡ false = none_owned zone 2 (drop j name) (drop (skip - 1) name) (drop_within name j (skip - 1) (omega arith)) missing in
+    long_cut apex zone (drop j name) (omega (arith, length-drop j name)) ∙ owned)

@@ -1,5 +1,8 @@
 -- In canonical order the names within a name follow it, and nothing stands between them.
-use Rattle.std.proofs.Common.{◌≡◌, ℕ, ◌<◌, ◌≤◌, true, false, List, [], ◌∷◌, ◌++◌, length, get_or, reverse, refl, sym, ◌∙◌, ap, arith, inl, inr}
+use Rattle.std.specs.Prelude.{nat_lt, ◌&&◌, Bool}
+use Rattle.std.proofs.lemmas.Bool.Decides.{nat_tests}
+use Rattle.dz_lookup.specs.Links.{no_record}
+use Rattle.std.proofs.Common.{◌≡◌, ℕ, ◌<◌, ◌≤◌, true, false, List, [], ◌∷◌, ◌++◌, length, get_or, reverse, take, drop, ◌-◌, ◌+◌, refl, sym, ◌∙◌, ap, arith, inl, inr}
 use Rattle.std.specs.List.Sorted.{IsStrictlySortedBy}
 use Rattle.std.specs.Cmp.Lexicographic.{slice_cmp}
 use Rattle.std.specs.Cmp.{both_ways, tied_itself}
@@ -8,8 +11,8 @@ use Rattle.std.specs.FinMap.{slice_cmp-IsAntisymmetric, nat_cmp-IsAntisymmetric}
 use Rattle.std.specs.Ordering.{is_lt, is_gt, ordering_then, ordering_reverse, nat_cmp}
 use Rattle.std.specs.declared.cmp.Ordering.{Ordering}
 use Rattle.std.specs.declared.cmp.Ordering.TheVariants.{Less, Equal, Greater}
-use Rattle.std.proofs.lemmas.Bool.{cases_lt, false_from_ne_true}
-use Rattle.std.proofs.lemmas.List.{get_or_default, reverse-append, reverse-reverse}
+use Rattle.std.proofs.lemmas.Bool.{cases_Bool, cases_lt, false_from_ne_true}
+use Rattle.std.proofs.lemmas.List.{append-nil, get_or_default, reverse-append, reverse-reverse, take-append-drop, drop-drop}
 use Rattle.std.proofs.lemmas.List.Folds.{list_any_none, list_any_at, Any-from_list_any}
 use Rattle.dz_name.specs.Labels.{canonical_order, is_within}
 use Rattle.dz_name.proofs.PartLemmas.{within_suffix}
@@ -23,19 +26,23 @@ use Rattle.dz_lookup.proofs.InOrder.{owners_rise}
 cons_same : (x y : List ℕ) (a p t : List (List ℕ)) → x ≡ y → a ≡ p ++ t → x ∷ a ≡ (y ∷ p) ++ t
 cons_same x y a p t e f = rw (e, f) refl
 
--- a list that doesn't come before p, nor after a list that begins with p, begins with p
-prefix_between : (a p s : List (List ℕ)) → is_lt (slice_cmp (slice_cmp nat_cmp) a p) ≡ false → is_gt (slice_cmp (slice_cmp nat_cmp) a (p ++ s)) ≡ false → (t : List (List ℕ)) × (a ≡ p ++ t)
-prefix_between a [] s low high = (a, refl)
-prefix_between [] (y ∷ p) s low high = absurd (cc)
-prefix_between (x ∷ a) (y ∷ p) s low high =
-    elim (slice_cmp nat_cmp x y) as (λ o. slice_cmp nat_cmp x y ≡ o → is_lt (ordering_then o (slice_cmp (slice_cmp nat_cmp) a p)) ≡ false → is_gt (ordering_then o (slice_cmp (slice_cmp nat_cmp) a (p ++ s))) ≡ false → (t : List (List ℕ)) × (x ∷ a ≡ (y ∷ p) ++ t)) [
+-- what comes neither before a list that begins with p nor after another such list begins with p
+prefix_both : (a p s t : List (List ℕ)) → is_lt (slice_cmp (slice_cmp nat_cmp) a (p ++ s)) ≡ false → is_gt (slice_cmp (slice_cmp nat_cmp) a (p ++ t)) ≡ false → (u : List (List ℕ)) × (a ≡ p ++ u)
+prefix_both a [] s t low high = (a, refl)
+prefix_both [] (y ∷ p) s t low high = absurd (cc)
+prefix_both (x ∷ a) (y ∷ p) s t low high =
+    elim (slice_cmp nat_cmp x y) as (λ o. slice_cmp nat_cmp x y ≡ o → is_lt (ordering_then o (slice_cmp (slice_cmp nat_cmp) a (p ++ s))) ≡ false → is_gt (ordering_then o (slice_cmp (slice_cmp nat_cmp) a (p ++ t))) ≡ false → (u : List (List ℕ)) × (x ∷ a ≡ (y ∷ p) ++ u)) [
       | Less ↦ λ e l h. absurd (cc)
       | Greater ↦ λ e l h. absurd (cc)
       | Equal ↦ λ e l h.
           let same : x ≡ y = slice_cmp-IsAntisymmetric nat_cmp-IsAntisymmetric x y e in
-          let rest = prefix_between a p s l h in
+          let rest = prefix_both a p s t l h in
           (rest.0, cons_same x y a p rest.0 same rest.1)
     ] refl low high
+
+-- a list that doesn't come before p, nor after a list that begins with p, begins with p
+prefix_between : (a p s : List (List ℕ)) → is_lt (slice_cmp (slice_cmp nat_cmp) a p) ≡ false → is_gt (slice_cmp (slice_cmp nat_cmp) a (p ++ s)) ≡ false → (t : List (List ℕ)) × (a ≡ p ++ t)
+prefix_between a p s low high = prefix_both a p [] s (rw (append-nil p) low) high
 
 prefix_least : (p s : List (List ℕ)) → is_lt (slice_cmp (slice_cmp nat_cmp) (p ++ s) p) ≡ false
 prefix_least [] [] = refl
@@ -97,3 +104,98 @@ exists_none zone name i begin past =
     let a : is_lt (from_owner name (get_or zone k d)) ≡ true = begin.0 k d (omega arith) (omega arith) in
     let b = within_not_less (get_or zone k d).owner name t in
     cc)))
+
+-- what stands between two names within a name is within it
+both_within : (first last middle above : List (List ℕ)) → is_within first above ≡ true → is_within last above ≡ true
+    → is_lt (canonical_order middle first) ≡ false → is_gt (canonical_order middle last) ≡ false → is_within middle above ≡ true
+both_within first last middle above f l low high =
+    let v = (within_suffix first above).0 f in
+    let w = (within_suffix last above).0 l in
+    let d : reverse first ≡ reverse above ++ reverse v.0 = ap (λ xs. reverse xs) v.1 ∙ reverse-append v.0 above in
+    let e : reverse last ≡ reverse above ++ reverse w.0 = ap (λ xs. reverse xs) w.1 ∙ reverse-append w.0 above in
+    let rest = prefix_both (reverse middle) (reverse above) (reverse v.0) (reverse w.0) (rw d at low) (rw e at high) in
+    let g : middle ≡ reverse rest.0 ++ above =
+    sym (reverse-reverse middle) ∙ (ap (λ xs. reverse xs) rest.1 ∙ (reverse-append (reverse above) rest.0 ∙ ap (λ xs. reverse rest.0 ++ xs) (reverse-reverse above))) in
+    (within_suffix middle above).1 (reverse rest.0, g)
+
+less_not_gt : (o : Ordering) → is_lt o ≡ true → is_gt o ≡ false
+less_not_gt Less h = refl
+less_not_gt Equal h = absurd (cc)
+less_not_gt Greater h = absurd (cc)
+
+-- a name is within a name that exists just where one of the two records beside the name's place is within it
+pub none_beside : (zone : List Record) (name above : List (List ℕ)) (i : ℕ) → IsStrictlySortedBy record_order zone → IsBegin (from_owner name) zone i → i ≤ length zone
+    → is_within name above ≡ true → ((d : Record) → i < length zone → is_within (get_or zone i d).owner above ≡ false)
+    → ((d : Record) → 0 < i → is_within (get_or zone (i - 1) d).owner above ≡ false) → exists zone above ≡ false
+none_beside zone name above i up begin room inner from_here before_here =
+    false_from_ne_true (exists zone above) (λ t.
+    let some = Any-from_list_any (λ r. is_within r.owner above) zone t in
+    let k = some.0 in
+    let r = some.1 in
+    let rise = owners_rise zone up in
+    let ranks = ranks_by canonical_total (λ (r : Record). r.owner) in
+    let one : get_or zone k r ≡ r = some.3 in
+    elim (cases_lt k i) [
+      | inl before ↦
+          let last : Record = get_or zone (i - 1) r in
+          let low : is_lt (canonical_order last.owner (get_or zone k r).owner) ≡ false =
+          sorted_far (λ (a b : Record). is_lt (canonical_order a.owner b.owner)) ranks zone rise k (i - 1) r (omega arith) (omega arith) in
+          let high = less_not_gt (from_owner name last) (begin.0 (i - 1) r (omega arith) (omega arith)) in
+          let is = both_within r.owner name last.owner above some.4 inner (rw one at low) high in
+          let no = before_here r (omega arith) in
+          absurd (cc)
+      | inr from ↦
+          let first : Record = get_or zone i r in
+          let lt : i < length zone = omega (arith, some.2) in
+          let a : is_lt (canonical_order (get_or zone k r).owner first.owner) ≡ false =
+          sorted_far (λ (a b : Record). is_lt (canonical_order a.owner b.owner)) ranks zone rise i k r from some.2 in
+          let high : is_gt (canonical_order first.owner (get_or zone k r).owner) ≡ false =
+          not_gt (canonical_order first.owner (get_or zone k r).owner) (canonical_order (get_or zone k r).owner first.owner) (canonical_total.antisymm first.owner (get_or zone k r).owner) a in
+          let low = begin.1 i r (omega arith) lt in
+          let is = both_within name r.owner first.owner above inner some.4 low (rw one at high) in
+          let no = from_here r lt in
+          absurd (cc)
+    ])
+
+first_fact : (s t : Bool) → true ≡ (s && t) → (s ≡ true) × (t ≡ true)
+first_fact true t e = (refl, sym e)
+first_fact false t e = absurd (cc)
+
+-- a look at a record, and what it shows
+abbrev pub IsLook : List Record → List (List ℕ) → ℕ → Bool → Type 0
+IsLook zone above i look = (d : Record) → look ≡ (nat_lt i (length zone) && is_within (get_or zone i d).owner above)
+
+pub look_shows : (zone : List Record) (above : List (List ℕ)) (i : ℕ) (look : Bool) → IsLook zone above i look → look ≡ true → true ≡ exists zone above
+look_shows zone above i look is seen =
+    let both = first_fact (nat_lt i (length zone)) (is_within (get_or zone i no_record).owner above) (sym seen ∙ is no_record) in
+    let within : i < length zone = grind (arith, nat_tests, both.0) in
+    sym (list_any_at (λ r. is_within r.owner above) zone i no_record within both.1)
+
+look_fails : (zone : List Record) (above : List (List ℕ)) (i : ℕ) (look : Bool) → IsLook zone above i look → look ≡ false
+    → (d : Record) → i < length zone → is_within (get_or zone i d).owner above ≡ false
+look_fails zone above i look is unseen d within =
+    let lt : nat_lt i (length zone) ≡ true = grind (arith, nat_tests) in
+    let e : false ≡ (true && is_within (get_or zone i d).owner above) = rw (unseen, lt) at is d in
+    sym e
+
+-- the looks at the records beside a name's place tell whether a name above it exists
+pub looks_tell : (zone : List Record) (name above : List (List ℕ)) (i : ℕ) (here before : Bool) → IsStrictlySortedBy record_order zone → IsBegin (from_owner name) zone i → i ≤ length zone
+    → is_within name above ≡ true → IsLook zone above i here → here ≡ false → IsLook zone above (i - 1) before → before ≡ exists zone above
+looks_tell zone name above i here before up begin room inner here_is unseen before_is = elim (cases_Bool before) [
+  | inl seen ↦ seen ∙ look_shows zone above (i - 1) before before_is seen
+  | inr none ↦
+      none ∙ sym (none_beside zone name above i up begin room inner (look_fails zone above i here here_is unseen)
+      (λ d some. look_fails zone above (i - 1) before before_is none d (omega arith)))
+]
+
+pub look_alone : (zone : List Record) (name above : List (List ℕ)) (i : ℕ) (here : Bool) → IsStrictlySortedBy record_order zone → IsBegin (from_owner name) zone i → i ≤ length zone
+    → is_within name above ≡ true → IsLook zone above i here → here ≡ false → i ≡ 0 → false ≡ exists zone above
+look_alone zone name above i here up begin room inner here_is unseen first =
+    sym (none_beside zone name above i up begin room inner (look_fails zone above i here here_is unseen) (λ d some. absurd (omega arith)))
+
+-- what is left of a name behind its first labels is a name above it
+pub drop_within : (name : List (List ℕ)) (j k : ℕ) → j ≤ k → is_within (drop j name) (drop k name) ≡ true
+drop_within name j k le =
+    let n : j + (k - j) ≡ k = omega arith in
+    let rest : drop (k - j) (drop j name) ≡ drop k name = drop-drop (k - j) j name ∙ ap (λ x. drop x name) n in
+    (within_suffix (drop j name) (drop k name)).1 (take (k - j) (drop j name), sym (take-append-drop (k - j) (drop j name)) ∙ ap (λ xs. take (k - j) (drop j name) ++ xs) rest)

@@ -1,13 +1,14 @@
 //! What is found for a name and a type.
 
-ghost use Rattle.std.specs.Prelude.{◌≡◌, ◌<◌, length, true, Some, All, option_map};
+ghost use Rattle.std.specs.Prelude.{◌≡◌, ◌<◌, ◌≤◌, length, true, Some, All, option_map};
 ghost use Rattle.std.specs.List.Sorted.{IsStrictlySortedBy};
 ghost use Rattle.dz_name.specs.Labels.{wire_of, is_within};
 ghost use Rattle.dz_record.specs.Record.{record_order};
 ghost use Rattle.dz_lookup.specs.Found.{records_of, cut, wildcard_under, source, at_node, at_source, found};
 ghost use Rattle.dz_lookup.specs.Meaning.{meaning, alias_of};
+ghost use Rattle.dz_lookup.specs.Searching.{from_owner, IsBegin};
 
-use crate::searching::{exists, owns, records_of, rrset_of};
+use crate::searching::{exists, exists_above, owner_begin, owns, records_of, rrset_of};
 use dz_name::Name;
 use dz_record::Rr;
 
@@ -47,9 +48,10 @@ pub(crate) fn find<'a>(apex: &Name, records: &'a [Rr], name: &Name, kind: u16) -
     requires within { is_within name.now apex.now ≡ true }
     ensures { meaning result ≡ found apex.now records.now name.now kind }
 {
-    match cut(apex, records, name) {
+    let begin = owner_begin(records, name);
+    match cut(apex, records, name, begin) {
         Some(above) => Found::Referral(rrset_of(records, &above, 2)),
-        None => at_source(records, source(records, name), kind),
+        None => at_source(records, source(records, name, begin), kind),
     }
 }
 
@@ -84,17 +86,22 @@ fn at_node<'a>(records: &'a [Rr], node: &Name, kind: u16) -> Found<'a>
 }
 
 /// The zone cut nearest the apex that the name is at or below. Only the names below the apex are looked at, longer and
-/// longer.
-fn cut(apex: &Name, records: &[Rr], name: &Name) -> Option<Name>
+/// longer, as far as they exist. The name stands or would stand at the place `begin`.
+fn cut(apex: &Name, records: &[Rr], name: &Name, begin: usize) -> Option<Name>
     requires sorted { IsStrictlySortedBy record_order records.now }
     requires owners { All (λ r. is_within r.owner apex.now ≡ true) records.now }
     requires within { is_within name.now apex.now ≡ true }
+    requires room { begin ≤ length records.now }
+    requires point { IsBegin (from_owner name.now) records.now begin }
     ensures { result ≡ cut apex.now records.now name.now }
 {
     let mut skip = name.label_count() - apex.label_count();
     'labels: while 0 < skip {
         skip -= 1;
         let above = name.ancestor(skip);
+        if !exists_above(records, begin, name, &above) {
+            return None;
+        }
         if owns(records, &above, 2) {
             return Some(above);
         }
@@ -102,12 +109,15 @@ fn cut(apex: &Name, records: &[Rr], name: &Name) -> Option<Name>
     None
 }
 
-/// The name whose records answer for a name: itself where it exists, or else the wildcard below its closest encloser.
-fn source(records: &[Rr], name: &Name) -> Option<Name>
-    requires { IsStrictlySortedBy record_order records.now }
+/// The name whose records answer for a name: itself where it exists, or else the wildcard below its closest encloser. The
+/// name stands or would stand at the place `begin`.
+fn source(records: &[Rr], name: &Name, begin: usize) -> Option<Name>
+    requires sorted { IsStrictlySortedBy record_order records.now }
+    requires room { begin ≤ length records.now }
+    requires point { IsBegin (from_owner name.now) records.now begin }
     ensures { result ≡ source records.now name.now }
 {
-    if exists(records, name) {
+    if exists_above(records, begin, name, name) {
         return Some(*name);
     }
     let count = name.label_count();
@@ -116,7 +126,7 @@ fn source(records: &[Rr], name: &Name) -> Option<Name>
     'labels: while skip < count {
         skip += 1;
         let above = name.ancestor(skip);
-        if exists(records, &above) {
+        if exists_above(records, begin, name, &above) {
             return wildcard_under(records, &above);
         }
     }

@@ -1,9 +1,9 @@
 //! Runs of records in a zone that is kept in order.
 
-ghost use Rattle.std.specs.Prelude.{◌≡◌, ◌==◌, ◌&&◌, ◌≤◌, ◌-◌, length, take, drop};
+ghost use Rattle.std.specs.Prelude.{◌≡◌, ◌==◌, ◌&&◌, ◌≤◌, ◌-◌, length, take, drop, true, nat_lt, slice_index_or};
 ghost use Rattle.std.specs.List.Sorted.{IsStrictlySortedBy};
-ghost use Rattle.dz_name.specs.Labels.{same_name};
-ghost use Rattle.dz_record.specs.Record.{record_order};
+ghost use Rattle.dz_name.specs.Labels.{same_name, is_within};
+ghost use Rattle.dz_record.specs.Record.{Record, record_order};
 ghost use Rattle.dz_lookup.specs.Found.{of_type, records_of, owns, exists};
 ghost use Rattle.dz_lookup.specs.Searching.{from_owner, from_key, IsBegin, IsEnd};
 
@@ -27,11 +27,11 @@ pub(crate) fn rrset_of<'a>(records: &'a [Rr], name: &Name, kind: u16) -> &'a [Rr
     requires { IsStrictlySortedBy record_order records.now }
     ensures { result.now ≡ of_type kind (records_of records.now name.now) }
 {
-    between(
-        records,
-        rrset_begin(records, name, kind),
-        rrset_end(records, name, kind),
-    )
+    let begin = rrset_begin(records, name, kind);
+    if !owns_from(records, begin, name, kind) {
+        return &[];
+    }
+    between(records, begin, rrset_end(records, name, kind))
 }
 
 /// Whether the name owns records of a type.
@@ -39,7 +39,15 @@ pub(crate) fn owns(records: &[Rr], name: &Name, kind: u16) -> bool
     requires { IsStrictlySortedBy record_order records.now }
     ensures { result ≡ owns records.now kind name.now }
 {
-    let begin = rrset_begin(records, name, kind);
+    owns_from(records, rrset_begin(records, name, kind), name, kind)
+}
+
+/// Whether the name owns records of a type, by the place where they begin or would begin.
+fn owns_from(records: &[Rr], begin: usize, name: &Name, kind: u16) -> bool
+    requires sorted { IsStrictlySortedBy record_order records.now }
+    requires point { IsBegin (from_key name.now kind) records.now begin }
+    ensures { result ≡ owns records.now kind name.now }
+{
     begin < records.len() && is_of(&records[begin], name, kind)
 }
 
@@ -60,8 +68,33 @@ pub(crate) fn exists(records: &[Rr], name: &Name) -> bool
     begin < records.len() && records[begin].owner().is_within(name)
 }
 
+/// Whether a name exists, by the place where a name within it stands or would stand: of the records within the name, one
+/// stands beside that place.
+pub(crate) fn exists_above(records: &[Rr], begin: usize, name: &Name, above: &Name) -> bool
+    requires sorted { IsStrictlySortedBy record_order records.now }
+    requires room { begin ≤ length records.now }
+    requires point { IsBegin (from_owner name.now) records.now begin }
+    requires within { is_within name.now above.now ≡ true }
+    ensures { result ≡ exists records.now above.now }
+{
+    if is_within_at(records, begin, above) {
+        return true;
+    }
+    if begin == 0 {
+        return false;
+    }
+    is_within_at(records, begin - 1, above)
+}
+
+/// Whether a record stands at a place, and its owner is within a name.
+fn is_within_at(records: &[Rr], place: usize, above: &Name) -> bool
+    ensures { (d : Record) → result ≡ (nat_lt place (length records.now) && is_within (slice_index_or records.now place d).owner above.now) }
+{
+    place < records.len() && records[place].owner().is_within(above)
+}
+
 /// The place of the first record whose owner doesn't come before a name.
-fn owner_begin(records: &[Rr], name: &Name) -> usize
+pub(crate) fn owner_begin(records: &[Rr], name: &Name) -> usize
     requires { IsStrictlySortedBy record_order records.now }
     ensures within { result ≤ length records.now }
     ensures point { IsBegin (from_owner name.now) records.now result }

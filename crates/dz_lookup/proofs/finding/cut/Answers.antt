@@ -1,8 +1,17 @@
-use Rattle.std.proofs.Common.{arith, ◌∙◌, sym, ap, drop, ◌-◌}
+use Rattle.std.proofs.Common.{arith, ◌≡◌, ◌∙◌, sym, ap, drop, false, ◌-◌}
 use Rattle.std.specs.Prelude.{Some}
-use Rattle.dz_lookup.specs.Found.{is_cut, owns}
-use Rattle.dz_lookup.proofs.Walk.{topmost_found, none_above, cut_here, within_long}
+use Rattle.dz_lookup.specs.Found.{exists, is_cut, owns}
+use Rattle.dz_lookup.proofs.Walk.{no_cut_below, topmost_found, none_above, cut_here, within_long}
+use Rattle.dz_lookup.proofs.Within.{drop_within}
 use Rattle.dz_lookup.proofs.finding.cut.Goals as goal
+
+pub exists_above-requires-clause-within : goal.exists_above-requires-clause-within
+exists_above-requires-clause-within c = rw c.ancestor-above.ensures (drop_within c.args.name.now 0 (c.labels.skip - 1) (omega arith))
+
+pub returns-then-not-exists_above : goal.returns-then-not-exists_above
+returns-then-not-exists_above c =
+    let missing : exists c.args.records.now (drop (c.labels.skip - 1) c.args.name.now) ≡ false = ap (exists c.args.records.now) (sym c.ancestor-above.ensures) ∙ (sym c.exists_above.ensures ∙ c.if-not-exists_above.true) in
+    sym (no_cut_below c.args.apex.now c.args.records.now c.args.name.now c.labels.skip c.labels-test.true c.labels.invariant.skip c.labels.invariant.none_above missing)
 
 pub labels-init : goal.labels-init
 labels-init c =
