@@ -1,4 +1,4 @@
--- What `answer` writes: a zone is taken from the first line, and each further line is a request over UDP at moment 0.
+-- Meaning: what `answer` writes: a zone is taken from the first line, and each further line is a request over UDP at moment 0.
 use Rattle.std.specs.Prelude.{ℕ, ◌==◌, ◌||◌, Bool, false, nat_eq, List, [], ◌∷◌, ◌++◌, length, codes, decimal, Option, Some, None, if◌then◌else◌}
 use Rattle.std.specs.List.{starts_with}
 use Rattle.std.specs.Option.{option_and_then, option_map_or}
@@ -6,9 +6,9 @@ use Rattle.hex.specs.Hex.{encode_lower}
 use Rattle.dz_io.specs.Script.{Turn, goes_on, ends, Said, Rules}
 use Rattle.dz_name.specs.Text.{text_of}
 use Rattle.dz_record.specs.Record.{soa_of}
-use Rattle.dz_zone.specs.Valid.{Zone, apex_soa}
-use Rattle.dz_message.specs.Number.{fault_number}
-use Rattle.dz_table.specs.Slots.{SlotOf}
+use Rattle.dz_zone.specs.Version.{Zone, apex_soa}
+use Rattle.dz_message.specs.Fault.{fault_number}
+use Rattle.dz_table.specs.Slot.{SlotOf}
 use Rattle.dz_reply.specs.Reply.{Reply, nothing, written, notify, reply_of}
 use Rattle.catzd.specs.declared.taking.Taking.{Taking}
 use Rattle.catzd.specs.declared.taking.Taking.TheVariants as taking
@@ -16,64 +16,70 @@ use Rattle.catzd.specs.declared.answering.End.{End}
 use Rattle.catzd.specs.declared.answering.End.TheVariants.{Done, Unbuilt, BadInput}
 use Rattle.catzd.specs.ZoneLine.{octets_in, zone_line}
 use Rattle.catzd.specs.Taking.{taking_of}
+use Rattle.dz_name.specs.Words.{Name, Octets}
+
+-- what `answer` goes on with: the table, once the zone is there
+abbrev pub State : Type 0
+State = Option (List SlotOf)
 
 -- a word, a number in decimal, and the end of the line
-abbrev pub numbered : List ℕ → ℕ → List ℕ
-numbered word number = word ++ (decimal number ++ (10 ∷ []))
+abbrev pub numbered_line : Octets → ℕ → Octets
+numbered_line word number = word ++ (decimal number ++ (10 ∷ []))
 
-abbrev pub bad : ℕ → List ℕ
-bad number = numbered (codes "bad ") number
+abbrev pub bad : ℕ → Octets
+bad number = numbered_line (codes "bad ") number
 
 -- an empty line, or one that begins with `#`
-abbrev pub is_skipped : List ℕ → Bool
+abbrev pub is_skipped : Octets → Bool
 is_skipped line = length line == 0 || starts_with nat_eq line (codes "#")
 
 abbrev pub serial_of : Zone → ℕ
 serial_of zone = option_map_or (λ soa. soa.serial) (option_and_then soa_of (apex_soa zone)) 0
 
 -- the one slot of the table: the zone, refreshed at moment 0
-abbrev pub slot_for : List (List ℕ) → Option Zone → List SlotOf
+abbrev pub slot_for : Name → Option Zone → List SlotOf
 slot_for apex version = record { zone = apex; refreshed = 0; version = version } ∷ []
 
-abbrev pub taking_turn : List (List ℕ) → ℕ → Taking → Turn (Option (List SlotOf)) End
-taking_turn apex number (taking.Refused fault) = goes_on (numbered (codes "refused message ") (fault_number fault)) (Some (slot_for apex None))
-taking_turn apex number taking.Unbuilt = ends (numbered (codes "unbuilt ") number) Unbuilt
-taking_turn apex number (taking.Taken zone) = goes_on (numbered (codes "taken ") (serial_of zone)) (Some (slot_for apex (Some zone)))
+-- what comes of the zone's octets. Before it is taken there is no table
+abbrev pub taking_turn : Name → ℕ → Taking → Turn State End
+taking_turn apex number (taking.Refused fault) = goes_on (numbered_line (codes "refused message ") (fault_number fault)) (Some (slot_for apex None))
+taking_turn apex number taking.Unbuilt = ends (numbered_line (codes "unbuilt ") number) None Unbuilt
+taking_turn apex number (taking.Taken zone) = goes_on (numbered_line (codes "taken ") (serial_of zone)) (Some (slot_for apex (Some zone)))
 
-abbrev pub zone_turn : ℕ → Option (List (List ℕ) × List ℕ) → Turn (Option (List SlotOf)) End
-zone_turn number None = ends (bad number) BadInput
+abbrev pub zone_turn : ℕ → Option (Name × Octets) → Turn State End
+zone_turn number None = ends (bad number) None BadInput
 zone_turn number (Some fields) = taking_turn fields.0 number (taking_of fields.0 fields.1)
 
 -- what is written for a reply
-abbrev pub reply_text : Reply → List ℕ
+abbrev pub reply_text : Reply → Octets
 reply_text nothing = codes "none\n"
 reply_text (written octets) = encode_lower octets ++ (10 ∷ [])
 reply_text (notify name) = codes "notify " ++ (text_of name ++ (10 ∷ []))
 
-abbrev pub request_turn : List SlotOf → ℕ → Option (List ℕ) → Turn (Option (List SlotOf)) End
-request_turn slots number None = ends (bad number) BadInput
+abbrev pub request_turn : List SlotOf → ℕ → Option Octets → Turn State End
+request_turn slots number None = ends (bad number) (Some slots) BadInput
 request_turn slots number (Some octets) = goes_on (reply_text (reply_of slots octets 0 false)) (Some slots)
 
-unfoldable pub line_turn : Option (List SlotOf) → ℕ → List ℕ → Turn (Option (List SlotOf)) End
+unfoldable pub line_turn : State → ℕ → Octets → Turn State End
 line_turn None number line = zone_turn number (zone_line line)
 line_turn (Some slots) number line = request_turn slots number (octets_in line)
 
 -- what a line does; before the zone is taken there is no table
-unfoldable pub answer_turn : Option (List SlotOf) → ℕ → List ℕ → Turn (Option (List SlotOf)) End
+unfoldable pub answer_turn : State → ℕ → Octets → Turn State End
 answer_turn state number line = if is_skipped line then goes_on [] state else line_turn state number line
 
-abbrev pub answer_too_long : Option (List SlotOf) → ℕ → Said End
-answer_too_long state number = record { text = bad number; ending = BadInput }
+abbrev pub answer_too_long : State → ℕ → Said State End
+answer_too_long state number = record { text = bad number; state = state; ending = BadInput }
 
 -- the first line must be there
-unfoldable pub answer_finish : Option (List SlotOf) → ℕ → Said End
-answer_finish None number = record { text = bad number; ending = BadInput }
-answer_finish (Some slots) number = record { text = []; ending = Done }
+unfoldable pub answer_finish : State → ℕ → Said State End
+answer_finish None number = record { text = bad number; state = None; ending = BadInput }
+answer_finish (Some slots) number = record { text = []; state = Some slots; ending = Done }
 
-abbrev pub answer_rules : Rules (Option (List SlotOf)) End
+abbrev pub answer_rules : Rules State End
 answer_rules = record { turn = answer_turn; too_long = answer_too_long; finish = answer_finish }
 
--- a text that was written, and where it ends the script, how
-abbrev pub turn_from : {S E : Type 0} → List ℕ → Option E → S → Turn S E
+-- a turn of this text, which ends the script so where it does, in this state
+abbrev pub turn_from : {S E : Type 0} → Octets → Option E → S → Turn S E
 turn_from text None state = goes_on text state
-turn_from text (Some ending) state = ends text ending
+turn_from text (Some ending) state = ends text state ending

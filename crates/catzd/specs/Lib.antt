@@ -1,3 +1,4 @@
+pub mod Examples
 pub mod Answering
 pub mod Running
 pub mod Taking

@@ -1,35 +1,57 @@
--- How the program ends.
-use Rattle.std.specs.Prelude.{◌≡◌, ◌⊎◌, ℕ, List, codes, Option, Some, None, Result, Ok, Err}
+-- Meaning: how the program ends.
+use Rattle.std.specs.Prelude.{◌≡◌, ◌≢◌, ◌≤◌, ◌⊎◌, ⊤, ℕ, codes, Option, None, Result, Ok, Err}
+use Rattle.dz_io.specs.Counts.{HasRisen}
 use Rattle.dz_io.specs.Device.{Gains, GainsPrefix}
-use Rattle.dz_io.specs.Runs.{IsRun}
-use Rattle.dz_io.specs.declared.script.Fault.{Fault}
-use Rattle.dz_io.specs.declared.script.Fault.TheVariants as faults
-use Rattle.catzd.specs.Answering.{answer_rules}
+use Rattle.dz_io.specs.Run.{IsRun}
+use Rattle.dz_io.specs.declared.run.ScriptError.{ScriptError}
+use Rattle.dz_io.specs.declared.run.ScriptError.TheVariants as errors
+use Rattle.catzd.specs.Answering.{State, answer_rules}
 use Rattle.catzd.specs.declared.answering.End.{End}
 use Rattle.catzd.specs.declared.answering.End.TheVariants as endings
 use Rattle.catzd.specs.declared.running.Status.{Status}
 use Rattle.catzd.specs.declared.running.Status.TheVariants.{Done, Usage, BadInput, ReadFault, WriteFault, NoMemory, Unbuilt}
 use Rattle.catzd.specs.declared.words.Command.{Command}
 use Rattle.catzd.specs.declared.words.Command.TheVariants as commands
+use Rattle.dz_name.specs.Words.{Octets}
 
-abbrev pub status_of : Result End Fault → Status
+-- the status of a run of `answer`
+abbrev pub status_of : Result End ScriptError → Status
 status_of (Ok endings.Done) = Done
 status_of (Ok endings.Unbuilt) = Unbuilt
 status_of (Ok endings.BadInput) = BadInput
-status_of (Err faults.Read) = ReadFault
-status_of (Err faults.Write) = WriteFault
-status_of (Err faults.Memory) = NoMemory
+status_of (Err errors.Read) = ReadFault
+status_of (Err errors.Write) = WriteFault
+status_of (Err errors.OutOfMemory) = NoMemory
+
+-- `answer` ran its script over the input, and its status is that of the run
+abbrev pub Answers : Octets → Status → Option Octets → Option Octets → Option Octets → Type 0
+Answers input status left before after = (result : Result End ScriptError) × (state : State) × (status ≡ status_of result) × IsRun answer_rules None input result state left before after
 
 -- a text was written and the status is this one, or the write failed behind a prefix of the text
-abbrev pub Says : List ℕ → Status → Status → Option (List ℕ) → Option (List ℕ) → Type 0
+abbrev pub Says : Octets → Status → Status → Option Octets → Option Octets → Type 0
 Says text own status before after = ((status ≡ own) × Gains text before after) ⊎ ((status ≡ WriteFault) × GainsPrefix text before after)
 
-abbrev pub usage : List ℕ
+abbrev pub usage : Octets
 usage = codes "usage: catzd answer | replay | rehearse N | serve\n"
 
--- `answer` runs its script over the input, and its status is that of the run; each other command says one line and
--- reads nothing
-abbrev pub EndsSo : Command → List ℕ → Status → Option (List ℕ) → Option (List ℕ) → Option (List ℕ) → Type 0
-EndsSo commands.Answer input status left before after = (result : Result End Fault) × (status ≡ status_of result) × IsRun answer_rules None input result left before after
-EndsSo commands.Later input status left before after = (left ≡ Some input) × Says (codes "unbuilt 0\n") Unbuilt status before after
-EndsSo commands.Wrong input status left before after = (left ≡ Some input) × Says usage Usage status before after
+-- what the words decide, whatever the input: each command but `answer` says one line, and `answer` never says Usage
+abbrev pub Decides : Command → Status → Option Octets → Option Octets → Type 0
+Decides commands.Answer status before after = status ≢ Usage
+Decides commands.Later status before after = Says (codes "unbuilt 0\n") Unbuilt status before after
+Decides commands.Wrong status before after = Says usage Usage status before after
+
+-- the status tells of no fault and of no want of memory
+abbrev pub IsWithoutFault : Status → Type 0
+IsWithoutFault Done = ⊤
+IsWithoutFault Usage = ⊤
+IsWithoutFault BadInput = ⊤
+IsWithoutFault Unbuilt = ⊤
+IsWithoutFault ReadFault = ⊥
+IsWithoutFault WriteFault = ⊥
+IsWithoutFault NoMemory = ⊥
+
+-- the count of faults didn't fall, it stands where the status tells of no fault, and it rose where the status is this one
+pub record HasCauseIn (before now : ℕ) (status fault : Status) : Type 0 where
+  pub later : before ≤ now
+  pub kept : IsWithoutFault status → now ≡ before
+  pub failed : status ≡ fault → HasRisen before now

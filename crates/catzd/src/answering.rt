@@ -1,19 +1,17 @@
-//! The command `answer`: takes a zone from the first line, and answers each further line as a request.
+//! What `answer` does with a line: it takes a zone from the first, and answers each further one as a request.
 
-ghost use Rattle.std.specs.Prelude.{◌≡◌, ◌≤◌, ◌++◌, [], ◌∷◌, Some, None, false, IfOk, IsErrOf, MatchResult, codes};
+ghost use Rattle.std.specs.Prelude.{◌≡◌, ◌++◌, [], ◌∷◌, Some, None, is_some, false, IfOk, codes};
 ghost use Rattle.std.specs.Option.{ForSome};
 ghost use Rattle.hex.specs.Hex.{encode_lower};
-ghost use Rattle.dz_io.specs.Device.{Gains, GainsPrefix, HasRisen};
 ghost use Rattle.dz_name.specs.Text.{text_of};
 ghost use Rattle.dz_reply.specs.Reply.{reply_of};
-ghost use Rattle.catzd.specs.Answering.{numbered, bad, is_skipped, slot_for, taking_turn, zone_turn, reply_text, request_turn, line_turn, answer_turn, answer_rules, turn_from};
+ghost use Rattle.catzd.specs.Answering.{numbered_line, is_skipped, slot_for, taking_turn, zone_turn, reply_text, request_turn, line_turn, answer_turn, turn_from};
 ghost use Rattle.catzd.specs.Taking.{taking_of};
 ghost use Rattle.catzd.specs.ZoneLine.{octets_in, zone_line};
 
 use crate::taking::{Taking, take_zone};
 use crate::zone_line::{read_octets, read_zone_line};
 use dz_header::ReplyBuffer;
-use dz_io::{Halt, Script, Sink, put};
 use dz_name::Name;
 use dz_reply::{Transport, Turn, reply_into};
 use dz_table::{Slot, Table};
@@ -40,19 +38,18 @@ pub struct Answering {
 }
 
 impl Model for Answering {
-    ghost use Rattle.std.specs.Prelude.{List, Option};
-    ghost use Rattle.dz_table.specs.Slots.{SlotOf};
+    ghost use Rattle.catzd.specs.Answering.{State};
 
-    ghost Value = { Option (List SlotOf) };
+    ghost Value = { State };
 
     ghost view = { λ a. a.table };
 }
 
 /// A text to be written, and how it ends the input if it does.
 #[derive(Drop)]
-struct Saying {
-    text: Vec<u8>,
-    ending: Option<End>,
+pub struct Saying {
+    pub text: Vec<u8>,
+    pub ending: Option<End>,
 }
 
 impl Answering {
@@ -65,8 +62,21 @@ impl Answering {
         }
     }
 
+    /// Whether the zone's line was read.
+    pub fn has_table(&self) -> bool
+        ensures { result ≡ is_some self.now }
+    {
+        self.table.is_some()
+    }
+
+    /// Takes a line: what it says, and how it ends the input if it does.
     #[tactic(auto, unfolding(crate::specs::Answering::answer_turn))]
-    fn take_line(&mut self, alloc: Global, number: u64, line: &[u8]) -> Result<Saying, AllocError>
+    pub fn take_line(
+        &mut self,
+        alloc: Global,
+        number: u64,
+        line: &[u8],
+    ) -> Result<Saying, AllocError>
         ensures { IfOk result (λ s. answer_turn self.old number line.now ≡ turn_from s.text.items s.ending self.new) }
     {
         if is_skipped(line) {
@@ -95,6 +105,7 @@ impl Answering {
 
     /// Takes the first line.
     fn take_first(&mut self, alloc: Global, number: u64, line: &[u8]) -> Result<Saying, AllocError>
+        requires { self.old ≡ None }
         ensures { IfOk result (λ s. zone_turn number (zone_line line.now) ≡ turn_from s.text.items s.ending self.new) }
     {
         match read_zone_line(alloc, line)? {
@@ -110,6 +121,7 @@ impl Answering {
         apex: &Name,
         octets: &[u8],
     ) -> Result<Saying, AllocError>
+        requires { self.old ≡ None }
         ensures { IfOk result (λ s. taking_turn apex.now number (taking_of apex.now octets.now) ≡ turn_from s.text.items s.ending self.new) }
     {
         match take_zone(alloc, apex, octets)? {
@@ -124,62 +136,6 @@ impl Answering {
                 say(alloc, b"taken ", u64::from(serial))
             }
         }
-    }
-}
-
-impl Script for Answering {
-    type Ending = End;
-
-    ghost rules = { answer_rules };
-
-    fn turn<K: Sink>(
-        &mut self,
-        alloc: Global,
-        number: u64,
-        line: &[u8],
-        output: &mut K,
-    ) -> Result<Option<End>, Halt> {
-        match self.take_line(alloc, number, line) {
-            Err(_) => Err(Halt::Memory),
-            Ok(saying) => match put(output, saying.text.as_slice()) {
-                Err(halt) => Err(halt),
-                Ok(()) => Ok(saying.ending),
-            },
-        }
-    }
-
-    fn too_long<K: Sink>(
-        &mut self,
-        alloc: Global,
-        number: u64,
-        output: &mut K,
-    ) -> Result<End, Halt> {
-        put_bad(alloc, number, output)
-    }
-
-    #[tactic(auto, unfolding(crate::specs::Answering::answer_finish))]
-    fn finish<K: Sink>(&mut self, alloc: Global, number: u64, output: &mut K) -> Result<End, Halt> {
-        match &self.table {
-            None => put_bad(alloc, number, output),
-            Some(_) => Ok(End::Done),
-        }
-    }
-}
-
-/// Writes `bad` and the number of the line.
-fn put_bad<K: Sink>(alloc: Global, number: u64, output: &mut K) -> Result<End, Halt>
-    ensures done { MatchResult result
-        (λ ending. (ending ≡ End.BadInput) × Gains (bad number) (K.held output.old) (K.held output.new))
-        (λ _. GainsPrefix (bad number) (K.held output.old) (K.held output.new)) }
-    ensures later { K.faults output.old ≤ K.faults output.new }
-    ensures cause { IsErrOf result Halt.Write → HasRisen (K.faults output.old) (K.faults output.new) }
-{
-    match numbered(alloc, b"bad ", number) {
-        Err(_) => Err(Halt::Memory),
-        Ok(text) => match put(output, text.as_slice()) {
-            Err(halt) => Err(halt),
-            Ok(()) => Ok(End::BadInput),
-        },
     }
 }
 
@@ -236,7 +192,7 @@ fn hex_text(alloc: Global, octets: &[u8]) -> Result<Vec<u8>, AllocError>
 }
 
 /// The table that holds one zone, refreshed at moment 0.
-#[tactic(auto, unfolding(dz_table::specs::Slots::put))]
+#[tactic(auto, unfolding(dz_table::specs::Table::put))]
 fn make_table(alloc: Global, apex: &Name, version: Option<Version>) -> Result<Table, AllocError>
     requires { ForSome version (λ v. v.apex ≡ apex.now) }
     ensures { IfOk result (λ table. table ≡ slot_for apex.now version) }
@@ -245,32 +201,32 @@ fn make_table(alloc: Global, apex: &Name, version: Option<Version>) -> Result<Ta
         None => None,
         Some(version) => Some(Arc::new(alloc, version)?),
     };
-    Table::empty(alloc).with(alloc, Slot::make(*apex, 0, version))
+    Table::empty(alloc).with(alloc, Slot::new(*apex, 0, version))
 }
 
 /// Says a word and a number, and goes on.
 fn say(alloc: Global, word: &[u8], number: u64) -> Result<Saying, AllocError>
-    ensures { IfOk result (λ s. (s.text.items ≡ numbered word.now number) × (s.ending ≡ None)) }
+    ensures { IfOk result (λ s. (s.text.items ≡ numbered_line word.now number) × (s.ending ≡ None)) }
 {
     Ok(Saying {
-        text: numbered(alloc, word, number)?,
+        text: numbered_line(alloc, word, number)?,
         ending: None,
     })
 }
 
 /// Says a word and a number, and ends so.
 fn say_last(alloc: Global, word: &[u8], number: u64, ending: End) -> Result<Saying, AllocError>
-    ensures { IfOk result (λ s. (s.text.items ≡ numbered word.now number) × (s.ending ≡ Some ending)) }
+    ensures { IfOk result (λ s. (s.text.items ≡ numbered_line word.now number) × (s.ending ≡ Some ending)) }
 {
     Ok(Saying {
-        text: numbered(alloc, word, number)?,
+        text: numbered_line(alloc, word, number)?,
         ending: Some(ending),
     })
 }
 
 /// A word, a number in decimal, and the end of the line.
-fn numbered(alloc: Global, word: &[u8], number: u64) -> Result<Vec<u8>, AllocError>
-    ensures { IfOk result (λ text. text.items ≡ numbered word.now number) }
+pub fn numbered_line(alloc: Global, word: &[u8], number: u64) -> Result<Vec<u8>, AllocError>
+    ensures { IfOk result (λ text. text.items ≡ numbered_line word.now number) }
 {
     let mut digits = Buffer::new();
     let mut text = Vec::from_slice(alloc, word)?;

@@ -1,9 +1,12 @@
 //! Standard input and standard output as a source and a sink. They tell no octets.
 
-ghost use Rattle.std.specs.Prelude.{◌≡◌, None};
+ghost use Rattle.std.specs.Prelude.{◌≡◌, ◌≤◌, length, None, IfSome};
 
 use dz_io::{Failed, Sink, Source};
-use std::io::{Read, Write};
+use std::io::{ErrorKind, Read, Write};
+
+/// How often a read is made that a signal interrupts.
+const TRIES: usize = 1000;
 
 /// A reader as a source that doesn't tell its octets.
 #[derive(Drop)]
@@ -21,19 +24,37 @@ impl<R: Drop> ReadSource<R> {
 }
 
 impl<R: Read> Source for ReadSource<R> {
+    ghost given = { λ _. None };
+
     ghost left = { λ _. None };
+
+    ghost beside = { λ _. None };
 
     ghost faults = { λ source. source.faults };
 
     fn read(&mut self, buffer: &mut [u8]) -> Result<usize, Failed> {
-        match self.reader.read(buffer) {
-            Ok(count) => Ok(count),
-            Err(_) => {
+        match read_past_signals(&mut self.reader, buffer) {
+            Some(count) => Ok(count),
+            None => {
                 self.faults = self.faults.saturating_add(1);
                 Err(Failed)
             }
         }
     }
+}
+
+/// Reads, again where a signal interrupts; none where the read fails, or is interrupted too often.
+fn read_past_signals<R: Read>(reader: &mut R, buffer: &mut [u8]) -> Option<usize>
+    ensures { IfSome result (λ n. n ≤ length buffer.old) }
+{
+    'tries: for _ in 0..TRIES {
+        match reader.read(buffer) {
+            Ok(count) => return Some(count),
+            Err(error) if error.kind() == ErrorKind::Interrupted => {}
+            Err(_) => return None,
+        }
+    }
+    None
 }
 
 /// A writer as a sink that doesn't tell its octets.
@@ -53,6 +74,8 @@ impl<W: Drop> WriteSink<W> {
 
 impl<W: Write> Sink for WriteSink<W> {
     ghost held = { λ _. None };
+
+    ghost beside = { λ _. record { given = None; left = None } };
 
     ghost faults = { λ sink. sink.faults };
 

@@ -4,6 +4,7 @@
 mod answering;
 mod edge;
 mod running;
+mod script;
 mod taking;
 #[cfg(test)]
 mod tests;

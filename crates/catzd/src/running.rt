@@ -1,14 +1,16 @@
 //! The program's commands.
 
-ghost use Rattle.std.specs.Prelude.{◌≡◌, ◌⊎◌, ℕ, List, Some};
-ghost use Rattle.dz_io.specs.Device.{HasRisen};
-ghost use Rattle.catzd.specs.Running.{status_of, Says, EndsSo};
+ghost use Rattle.std.specs.Prelude.{◌≡◌, ◌≢◌, ◌≤◌, [], Some};
+ghost use Rattle.dz_io.specs.Counts.{HasRisen};
+ghost use Rattle.dz_name.specs.Words.{Octets};
+ghost use Rattle.catzd.specs.Running.{status_of, Answers, Says, Decides, IsWithoutFault, HasCauseIn};
 ghost use Rattle.catzd.specs.Words.{command_of};
 
 use crate::answering::{Answering, End};
+use crate::script::run_answering;
 use crate::words::{Command, Words, read_words};
 use dz_header::ReplyBuffer;
-use dz_io::{Fault, Sink, Source, run_script};
+use dz_io::{ScriptError, Sink, Source};
 use std::alloc::Global;
 
 /// How the program ends. The numbers are its exit codes.
@@ -47,9 +49,22 @@ pub fn run<S: Source, K: Sink>(
     input: &mut S,
     mut output: K,
 ) -> Ended<K>
-    ensures ends { (octets : List ℕ) → S.left input.old ≡ Some octets → EndsSo (command_of words.now) octets result.status (S.left input.new) (K.held output) (K.held result.output) }
-    ensures read_fault { result.status ≡ Status.ReadFault → HasRisen (S.faults input.old) (S.faults input.new) }
-    ensures write_fault { result.status ≡ Status.WriteFault → HasRisen (K.faults output) (K.faults result.output) }
+    ensures ends { command_of words.now ≡ Command.Answer →
+        (octets : Octets) → S.left input.old ≡ Some octets →
+        Answers octets result.status (S.left input.new) (K.held output) (K.held result.output) }
+    ensures words { Decides (command_of words.now) result.status (K.held output) (K.held result.output) }
+    ensures usage { result.status ≡ Status.Usage → command_of words.now ≡ Command.Wrong }
+    ensures unread { command_of words.now ≢ Command.Answer → input.new ≡ input.old }
+    ensures done { (octets : Octets) → S.left input.old ≡ Some octets →
+        result.status ≡ Status.Done → S.left input.new ≡ Some [] }
+    ensures read_later { S.faults input.old ≤ S.faults input.new }
+    ensures write_later { K.faults output ≤ K.faults result.output }
+    ensures read_kept { IsWithoutFault result.status → S.faults input.new ≡ S.faults input.old }
+    ensures write_kept { IsWithoutFault result.status → K.faults result.output ≡ K.faults output }
+    ensures read_fault { result.status ≡ Status.ReadFault →
+        HasRisen (S.faults input.old) (S.faults input.new) }
+    ensures write_fault { result.status ≡ Status.WriteFault →
+        HasRisen (K.faults output) (K.faults result.output) }
 {
     let status = run_command(alloc, read_words(words), input, &mut output);
     Ended { status, output }
@@ -61,9 +76,16 @@ fn run_command<S: Source, K: Sink>(
     input: &mut S,
     output: &mut K,
 ) -> Status
-    ensures ends { (octets : List ℕ) → S.left input.old ≡ Some octets → EndsSo command octets result (S.left input.new) (K.held output.old) (K.held output.new) }
-    ensures read_fault { result ≡ Status.ReadFault → HasRisen (S.faults input.old) (S.faults input.new) }
-    ensures write_fault { result ≡ Status.WriteFault → HasRisen (K.faults output.old) (K.faults output.new) }
+    ensures ends { command ≡ Command.Answer →
+        (octets : Octets) → S.left input.old ≡ Some octets →
+        Answers octets result (S.left input.new) (K.held output.old) (K.held output.new) }
+    ensures words { Decides command result (K.held output.old) (K.held output.new) }
+    ensures usage { result ≡ Status.Usage → command ≡ Command.Wrong }
+    ensures unread { command ≢ Command.Answer → input.new ≡ input.old }
+    ensures done { (octets : Octets) → S.left input.old ≡ Some octets →
+        result ≡ Status.Done → S.left input.new ≡ Some [] }
+    ensures read_cause { HasCauseIn (S.faults input.old) (S.faults input.new) result Status.ReadFault }
+    ensures write_cause { HasCauseIn (K.faults output.old) (K.faults output.new) result Status.WriteFault }
 {
     match command {
         Command::Answer => answer(alloc, input, output),
@@ -76,37 +98,43 @@ fn run_command<S: Source, K: Sink>(
     }
 }
 
-fn answer<S: Source, K: Sink>(alloc: Global, input: &mut S, output: &mut K) -> Status
-    ensures ends { (octets : List ℕ) → S.left input.old ≡ Some octets → EndsSo Command.Answer octets result (S.left input.new) (K.held output.old) (K.held output.new) }
-    ensures read_fault { result ≡ Status.ReadFault → HasRisen (S.faults input.old) (S.faults input.new) }
-    ensures write_fault { result ≡ Status.WriteFault → HasRisen (K.faults output.old) (K.faults output.new) }
+/// Runs the command `answer` on an input, whose text it writes to the output.
+pub fn answer<S: Source, K: Sink>(alloc: Global, input: &mut S, output: &mut K) -> Status
+    ensures ends { (octets : Octets) → S.left input.old ≡ Some octets →
+        Answers octets result (S.left input.new) (K.held output.old) (K.held output.new) }
+    ensures other { result ≢ Status.Usage }
+    ensures done { (octets : Octets) → S.left input.old ≡ Some octets →
+        result ≡ Status.Done → S.left input.new ≡ Some [] }
+    ensures read_cause { HasCauseIn (S.faults input.old) (S.faults input.new) result Status.ReadFault }
+    ensures write_cause { HasCauseIn (K.faults output.old) (K.faults output.new) result Status.WriteFault }
 {
     match ReplyBuffer::make(alloc) {
         Err(_) => Status::NoMemory,
         Ok(buffer) => {
             let mut answering = Answering::new(buffer);
-            status_of(run_script(alloc, &mut answering, input, output))
+            status_of(run_answering(alloc, &mut answering, input, output))
         }
     }
 }
 
-fn status_of(run: Result<End, Fault>) -> Status
+fn status_of(run: Result<End, ScriptError>) -> Status
     ensures { result ≡ status_of run }
 {
     match run {
         Ok(End::Done) => Status::Done,
         Ok(End::Unbuilt) => Status::Unbuilt,
         Ok(End::BadInput) => Status::BadInput,
-        Err(Fault::Read) => Status::ReadFault,
-        Err(Fault::Write) => Status::WriteFault,
-        Err(Fault::Memory) => Status::NoMemory,
+        Err(ScriptError::Read) => Status::ReadFault,
+        Err(ScriptError::Write) => Status::WriteFault,
+        Err(ScriptError::OutOfMemory) => Status::NoMemory,
     }
 }
 
 /// Writes a line, and ends so.
 fn say<K: Sink>(text: &[u8], status: Status, output: &mut K) -> Status
+    requires { IsWithoutFault status }
     ensures says { Says text.now status result (K.held output.old) (K.held output.new) }
-    ensures cause { (result ≡ Status.WriteFault) → (status ≡ Status.WriteFault) ⊎ HasRisen (K.faults output.old) (K.faults output.new) }
+    ensures cause { HasCauseIn (K.faults output.old) (K.faults output.new) result Status.WriteFault }
 {
     match output.write(text) {
         Ok(()) => status,

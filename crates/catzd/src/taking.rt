@@ -3,13 +3,14 @@
 ghost use Rattle.std.specs.Prelude.{◌≡◌, ◌-◌, IfOk, Ok, length, slice_get};
 ghost use Rattle.std.specs.List.{list_any};
 ghost use Rattle.dz_zone.specs.Valid.{at_apex};
-ghost use Rattle.catzd.specs.Taking.{is_good_response, asks_transfer, is_transfer, closes, is_whole, checked, from_records, from_message, taking_of, HasApex};
+ghost use Rattle.catzd.specs.Taking.{is_good_response, asks_transfer, is_transfer, closes, is_whole, zone_unless, from_records, from_message, taking_of, HasApex};
 
-use dz_header::Question;
-use dz_message::{Message, MessageFault, ReadError, read_message};
+use dz_header::ResponseCode;
+use dz_message::{Header, Message, MessageError, MessageFault, Question, read_message};
 use dz_name::Name;
+use dz_name::dns::{CLASS_IN, OPCODE_QUERY, TYPE_AXFR, TYPE_SOA};
 use dz_record::Rr;
-use dz_zone::{Version, ZoneFault, check};
+use dz_zone::{Version, ZoneError, check};
 use std::alloc::{AllocError, Global};
 
 /// What comes of a message that is to hold a zone.
@@ -29,35 +30,35 @@ pub fn take_zone(alloc: Global, apex: &Name, octets: &[u8]) -> Result<Taking, Al
     ensures apex { IfOk result (λ t. HasApex t apex.now) }
 {
     match read_message(alloc, octets) {
-        Err(ReadError::OutOfMemory) => Err(AllocError),
-        Err(ReadError::Fault(fault)) => Ok(Taking::Refused(fault)),
-        Ok(message) => take_message(apex, message),
+        Err(MessageError::OutOfMemory) => Err(AllocError),
+        Err(MessageError::Fault(fault)) => Ok(Taking::Refused(fault)),
+        Ok(message) => take_message(alloc, apex, message),
     }
 }
 
 #[tactic(auto, unfolding(crate::specs::Taking::from_message))]
-fn take_message(apex: &Name, message: Message) -> Result<Taking, AllocError>
+fn take_message(alloc: Global, apex: &Name, message: Message) -> Result<Taking, AllocError>
     ensures value { IfOk result (λ t. t ≡ from_message apex.now (Ok message)) }
     ensures apex { IfOk result (λ t. HasApex t apex.now) }
 {
     if is_transfer(apex, &message) && is_whole(apex, message.answers()) {
-        take_records(apex, message.into_answers())
+        take_records(alloc, apex, message.into_answers())
     } else {
         Ok(Taking::Unbuilt)
     }
 }
 
 #[tactic(auto, unfolding(crate::specs::Taking::from_records))]
-fn take_records(apex: &Name, mut answers: Vec<Rr>) -> Result<Taking, AllocError>
+fn take_records(alloc: Global, apex: &Name, mut answers: Vec<Rr>) -> Result<Taking, AllocError>
     ensures value { IfOk result (λ t. t ≡ from_records apex.now answers.items) }
     ensures apex { IfOk result (λ t. HasApex t apex.now) }
 {
     let count = answers.len().saturating_sub(1);
     answers.truncate(count);
-    match check(apex, answers) {
+    match check(alloc, apex, answers) {
         Ok(version) => Ok(Taking::Taken(version)),
-        Err(ZoneFault::Fault(_)) => Ok(Taking::Unbuilt),
-        Err(ZoneFault::OutOfMemory) => Err(AllocError),
+        Err(ZoneError::Fault(_)) => Ok(Taking::Unbuilt),
+        Err(ZoneError::OutOfMemory) => Err(AllocError),
     }
 }
 
@@ -65,21 +66,25 @@ fn is_transfer(apex: &Name, message: &Message) -> bool
     ensures { result ≡ is_transfer apex.now message.now }
 {
     let header = message.header();
-    header.id == 1 && is_good_response(header.flags) && asks_transfer(apex, message.questions())
+    header.id == 1 && is_good_response(&header) && asks_transfer(apex, message.questions())
 }
 
-/// A response with opcode 0 and response code 0.
-fn is_good_response(flags: u16) -> bool
-    ensures { result ≡ is_good_response flags }
+/// A response with opcode QUERY and response code NOERROR.
+fn is_good_response(header: &Header) -> bool
+    ensures { result ≡ is_good_response header.now.flags }
 {
-    flags >= 32_768 && flags % 32_768 < 2048 && flags % 16 == 0
+    header.is_response()
+        && header.opcode() == OPCODE_QUERY
+        && header.code() == ResponseCode::NoError.number()
 }
 
 fn asks_transfer(apex: &Name, questions: &[Question]) -> bool
     ensures { result ≡ asks_transfer apex.now questions.now }
 {
     match questions {
-        [question] => question.name.same(apex) && question.kind == 252 && question.class == 1,
+        [question] => question.name.same(apex)
+            && question.kind == TYPE_AXFR
+            && question.class == CLASS_IN,
         _ => false,
     }
 }
@@ -108,13 +113,13 @@ fn closes(apex: &Name, first: &Rr, rest: &[Rr]) -> bool
 }
 
 fn has_apex_soa(apex: &Name, records: &[Rr]) -> bool
-    ensures { result ≡ list_any (at_apex 6 apex.now) records.now }
+    ensures { result ≡ list_any (at_apex TYPE_SOA apex.now) records.now }
 {
     records.iter().any(|found| is_apex_soa(apex, found))
 }
 
 fn is_apex_soa(apex: &Name, found: &Rr) -> bool
-    ensures { result ≡ at_apex 6 apex.now found.now }
+    ensures { result ≡ at_apex TYPE_SOA apex.now found.now }
 {
-    found.kind() == 6 && found.owner().same(apex)
+    found.kind() == TYPE_SOA && found.is_owned_by(apex)
 }

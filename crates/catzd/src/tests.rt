@@ -1,7 +1,9 @@
-use crate::running::{Ended, Status, run};
+use crate::edge::ReadSource;
+use crate::running::{Ended, Status, answer, run};
 use crate::words::{Command, Words, read_words};
-use dz_io::{MemorySink, MemorySource};
+use dz_io::{Failed, MemorySink, MemorySource, Source};
 use std::alloc::{AllocError, Global};
+use std::io::{Error, ErrorKind, Read};
 use std::process::Abort;
 use std::test::*;
 
@@ -187,6 +189,41 @@ fn a_read_or_a_write_that_fails_ends_the_run(rt: HostRuntime) -> Result<(), Allo
             "{status:?} after {count} lines"
         );
     }
+    Ok(())
+}
+
+/// A reader that is interrupted so often, and then at its end.
+#[derive(Drop)]
+struct Interrupted {
+    times: usize,
+}
+
+impl Read for Interrupted {
+    fn read(&mut self, _buffer: &mut [u8]) -> Result<usize, Error> {
+        if self.times == 0 {
+            return Ok(0);
+        }
+        self.times -= 1;
+        Err(Error::from(ErrorKind::Interrupted))
+    }
+}
+
+#[test]
+fn a_read_that_is_interrupted_is_made_again(rt: HostRuntime) {
+    let mut octet = [0; 1];
+    let mut source = ReadSource::new(Interrupted { times: 3 });
+    assert_eq!(rt; source.read(&mut octet), Ok(0));
+    let mut source = ReadSource::new(Interrupted { times: 5000 });
+    assert_eq!(rt; source.read(&mut octet), Err(Failed));
+}
+
+#[test]
+fn answers_into_an_output_that_is_lent(rt: HostRuntime) -> Result<(), AllocError> {
+    let alloc = rt.alloc();
+    let mut source = MemorySource::new(text_of(alloc, &REQUESTS)?, Vec::new(alloc));
+    let mut sink = MemorySink::new(alloc, Vec::new(alloc));
+    assert_eq!(rt; answer(alloc, &mut source, &mut sink), Status::Done);
+    assert!(rt; sink.written() == text_of(alloc, &REPLIES)?.as_slice());
     Ok(())
 }
 

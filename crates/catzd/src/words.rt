@@ -13,9 +13,10 @@ pub struct Words {
 }
 
 impl Model for Words {
-    ghost use Rattle.std.specs.Prelude.{List, ℕ, map, string_bytes};
+    ghost use Rattle.std.specs.Prelude.{List, map, string_bytes};
+    ghost use Rattle.dz_name.specs.Words.{Octets};
 
-    ghost Value = { List (List ℕ) };
+    ghost Value = { List Octets };
 
     ghost view = { λ w. map string_bytes w.list.items };
 }

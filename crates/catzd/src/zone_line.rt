@@ -4,6 +4,7 @@ ghost use Rattle.std.specs.Prelude.{◌≡◌, ◌<◌, ◌==◌, IfOk, IfSome, 
 ghost use Rattle.catzd.specs.ZoneLine.{message_octets, octets_in, cut_at_space, two_fields, zone_line};
 
 use dz_name::Name;
+use dz_name::dns::MESSAGE_OCTETS;
 use hex::FromHexError;
 use std::alloc::{AllocError, Global};
 
@@ -56,7 +57,7 @@ fn find_space(text: &[u8]) -> Option<usize>
     text.iter().position(|c| *c == b' ')
 }
 
-/// The octets of a message in hex, at least one and at most 65,535; none where the text is no such.
+/// The octets of a message in hex, at least one and no more than a message has; none where the text is no such.
 #[tactic(auto, unfolding(crate::specs::ZoneLine::octets_in))]
 pub fn read_octets(alloc: Global, text: &[u8]) -> Result<Option<Vec<u8>>, AllocError>
     ensures { IfOk result (λ r. option_map (λ x. x.items) r ≡ octets_in text.now) }
@@ -71,7 +72,7 @@ pub fn read_octets(alloc: Global, text: &[u8]) -> Result<Option<Vec<u8>>, AllocE
 fn within_limit(octets: Vec<u8>) -> Option<Vec<u8>>
     ensures { option_map (λ x. x.items) result ≡ message_octets (Ok octets.items) }
 {
-    if octets.is_empty() || octets.len() > 65_535 {
+    if octets.is_empty() || octets.len() > MESSAGE_OCTETS {
         None
     } else {
         Some(octets)

@@ -1,16 +1,16 @@
 -- Octets that are written up to a limit.
-use Rattle.std.proofs.Common.{◌≡◌, ℕ, ◌+◌, ◌-◌, ◌<◌, ◌≤◌, List, [], ◌++◌, length, take, drop, refl, sym, ap, append_assoc, arith, length-append, Option, Some, None, length-take-le, if◌then◌else◌, inl, inr}
-use Rattle.std.specs.Prelude.{nat_le, true, false, option_map, IsSome}
-use Rattle.std.proofs.lemmas.List.{take_at, append-nil}
+use Rattle.std.proofs.Common.{◌≡◌, ℕ, ◌+◌, ◌-◌, ◌<◌, ◌≤◌, List, [], ◌++◌, length, take, drop, refl, sym, ap, append_assoc, arith, length-append, Option, Some, None, length-take-le, length-drop, if◌then◌else◌, inl, inr, ◌∙◌}
+use Rattle.std.specs.Prelude.{nat_le, true, false, option_map, IsSome, IsNone}
+use Rattle.std.proofs.lemmas.List.{take_at, take_all, append-nil}
 use Rattle.std.proofs.lemmas.Bool.Decides.{nat_tests, leb_tells}
-use Rattle.dz_header.specs.Writing.{Writing, joined, also}
+use Rattle.dz_header.specs.Writing.{Writing, octets_with, also, room_with}
 
 -- what was written stands at the front of some octets; more is put behind it where it fits
 pub joined_at : (limit n : ℕ) (before after more : List ℕ) (end : Option ℕ) → n ≤ limit → limit ≤ length before
     → end ≡ (if nat_le (length more) (limit - n) then Some (n + length more) else None)
     → (IsSome end → after ≡ take n before ++ (more ++ drop (n + length more) before))
-    → option_map (λ k. take k after) end ≡ joined limit (Some (take n before)) more
-unfolding joined
+    → option_map (λ k. take k after) end ≡ octets_with limit (Some (take n before)) more
+unfolding octets_with
 joined_at limit n before after more end le room is kept =
     let size : length (take n before) ≡ n = length-take-le n before (omega arith) in
     elim (leb_tells (length more) (limit - n)) [
@@ -22,8 +22,29 @@ joined_at limit n before after more end le room is kept =
       | inr w ↦ let none : end ≡ None = rw w.0 at is in rw (size, w.0, none) refl
     ]
 
-joined_append : (limit : ℕ) (octets : Option (List ℕ)) (a b : List ℕ) → joined limit octets (a ++ b) ≡ joined limit (joined limit octets a) b
-unfolding joined
+-- what was written stands at the front, and behind it what stood there
+pub room_at : (limit n : ℕ) (before after more : List ℕ) (end : Option ℕ) → n ≤ limit → limit ≤ length before
+    → end ≡ (if nat_le (length more) (limit - n) then Some (n + length more) else None)
+    → (IsSome end → after ≡ take n before ++ (more ++ drop (n + length more) before))
+    → (IsNone end → after ≡ before)
+    → after ≡ room_with before (option_map (λ k. take k after) end)
+room_at limit n before after more end le room is kept same =
+    let size : length (take n before) ≡ n = length-take-le n before (omega arith) in
+    elim (leb_tells (length more) (limit - n)) [
+      | inl w ↦
+          let some : end ≡ Some (n + length more) = rw w.0 at is in
+          let whole : after ≡ (take n before ++ more) ++ drop (n + length more) before = rw append_assoc (kept (rw some refl)) in
+          let count : length (take n before ++ more) ≡ n + length more = omega (arith, length-append (take n before) more) in
+          let front : take (n + length more) after ≡ take n before ++ more =
+          ap (take (n + length more)) whole ∙ take_at (take n before ++ more) (drop (n + length more) before) (n + length more) (omega (arith, count)) in
+          let all : take (length before) ((take n before ++ more) ++ drop (n + length more) before) ≡ (take n before ++ more) ++ drop (n + length more) before =
+          take_all (length before) ((take n before ++ more) ++ drop (n + length more) before) (omega (arith, count, length-append (take n before ++ more) (drop (n + length more) before), length-drop (n + length more) before)) in
+          rw (some, front, count) (whole ∙ sym all)
+      | inr w ↦ let none : end ≡ None = rw w.0 at is in rw none (same (rw none refl))
+    ]
+
+joined_append : (limit : ℕ) (octets : Option (List ℕ)) (a b : List ℕ) → octets_with limit octets (a ++ b) ≡ octets_with limit (octets_with limit octets a) b
+unfolding octets_with
 joined_append limit None a b = refl
 joined_append limit (Some octets) a b =
     let whole = length-append a b in
@@ -49,8 +70,8 @@ pub also_append : (w : Writing) (a b : List ℕ) → also w (a ++ b) ≡ also (a
 unfolding also
 also_append w a b = rw (joined_append w.limit w.octets a b) refl
 
-joined_nil : (limit : ℕ) (octets : Option (List ℕ)) → joined limit octets [] ≡ octets
-unfolding joined
+joined_nil : (limit : ℕ) (octets : Option (List ℕ)) → octets_with limit octets [] ≡ octets
+unfolding octets_with
 joined_nil limit None = refl
 joined_nil limit (Some octets) = let e : nat_le 0 (limit - length octets) ≡ true = grind (arith, nat_tests) in rw (e, append-nil octets) refl
 
@@ -60,5 +81,5 @@ also_nil w = rw (joined_nil w.limit w.octets) refl
 
 -- once over, over
 pub also_over : (w : Writing) (more : List ℕ) → w.octets ≡ None → also w more ≡ w
-unfolding also joined
+unfolding also octets_with
 also_over w more h = rw h refl

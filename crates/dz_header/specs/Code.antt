@@ -1,4 +1,4 @@
--- Response codes (RFC 1035 section 4.1.1, RFC 2136 section 2.2, RFC 6891 section 9).
+-- Meaning: response codes (RFC 1035 section 4.1.1, RFC 2136 section 2.2, RFC 6891 section 9).
 use Rattle.std.specs.Prelude.{ℕ}
 use Rattle.dz_header.specs.declared.code.ResponseCode.{ResponseCode}
 use Rattle.dz_header.specs.declared.code.ResponseCode.TheVariants.{NoError, FormErr, ServFail, NxDomain, NotImp, Refused, NotAuth, BadVers}

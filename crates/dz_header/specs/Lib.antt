@@ -1,5 +1,10 @@
+pub mod Examples
 pub mod Buffer
 pub mod Code
+pub mod Edns
+pub mod Flags
 pub mod Header
+pub mod Question
+pub mod RecordHead
 pub mod Shape
 pub mod Writing

@@ -1,46 +1,46 @@
--- Records by their shape alone: pointers aren't followed and names aren't judged by their length
--- (RFC 1035 sections 3.2.1 and 4.1.4).
-use Rattle.std.specs.Prelude.{ℕ, zero, suc, Bool, ◌==◌, nat_lt, List, [], ◌∷◌, length, drop, slice_index, Option, Some, None, if◌then◌else◌}
-use Rattle.dz_name.specs.Numbers.{number_of_two, number_of_four}
+-- Meaning: records by their shape alone: pointers aren't followed and names aren't judged by their length (RFC 1035 sections
+-- 3.2.1 and 4.1.4).
+use Rattle.std.specs.Prelude.{ℕ, zero, suc, Bool, ◌==◌, nat_le, nat_lt, [], ◌∷◌, length, take, drop, slice_index, Option, Some, None, option_and_then, if◌then◌else◌}
+use Rattle.dz_header.specs.RecordHead.{head_of}
+use Rattle.dz_header.specs.declared.record_head.TheConstants.{HEAD_OCTETS}
 use Rattle.dz_header.specs.declared.shape.Shape.{Shape}
+use Rattle.dz_header.specs.declared.shape.TheConstants.{POINTER}
+use Rattle.dz_name.specs.declared.dns.TheConstants.{LABEL_OCTETS}
+use Rattle.dz_name.specs.Words.{Octets}
 
 -- one reader after another; the whole is none where one of them is
 infixl 10 ◌>>=◌
 abbrev pub ◌>>=◌ : {A B : Type 0} → Option A → (A → Option B) → Option B
-None >>= f = None
-(Some x) >>= f = f x
+o >>= f = option_and_then f o
 
 -- what stands behind an owner: labels, and then a zero octet or a pointer; the number counts the octets of the present
 -- label that are still to be passed over
-unfoldable pub behind_owner : ℕ → List ℕ → Option (List ℕ)
+unfoldable pub behind_owner : ℕ → Octets → Option Octets
 behind_owner left [] = None
 behind_owner (suc left) (octet ∷ rest) = behind_owner left rest
 behind_owner zero (octet ∷ rest) =
     if octet == 0 then Some rest
-    else if nat_lt octet 64 then behind_owner octet rest
-    else if nat_lt octet 192 then None
+    else if nat_le octet LABEL_OCTETS then behind_owner octet rest
+    else if nat_lt octet POINTER then None
     else if length rest == 0 then None
     else Some (drop 1 rest)
 
--- type, class, TTL and length of RDATA stand there, and so many octets behind them
-unfoldable pub behind_fields : Bool → List ℕ → Option (Shape × List ℕ)
-behind_fields root octets =
-    if nat_lt (length octets) 10 then None
-    else if nat_lt (length (drop 10 octets)) (number_of_two (drop 8 octets)) then None
-    else Some (
-      record { root = root; kind = number_of_two octets; class = number_of_two (drop 2 octets); ttl = number_of_four (drop 4 octets) },
-      drop (number_of_two (drop 8 octets)) (drop 10 octets),
-    )
+-- the head and so many octets of RDATA as it says, and what stands behind them
+unfoldable pub behind_head : Bool → Octets → Option (Shape × Octets × Octets)
+behind_head root octets = do
+  head ← head_of octets
+  if nat_lt (length (drop HEAD_OCTETS octets)) head.size then None
+      else Some (record { root = root; head = head }, take head.size (drop HEAD_OCTETS octets), drop head.size (drop HEAD_OCTETS octets))
 
--- a record's shape and what stands behind it; its owner is the root where it is the single zero octet
-unfoldable pub shape_of : List ℕ → Option (Shape × List ℕ)
+-- a record's shape, its RDATA, and what stands behind it; its owner is the root where it is the single zero octet
+unfoldable pub shape_of : Octets → Option (Shape × Octets × Octets)
 shape_of octets = do
   rest ← behind_owner 0 octets
-  behind_fields (slice_index octets 0 == 0) rest
+  behind_head (slice_index octets 0 == 0) rest
 
 -- what stands behind so many records
-unfoldable pub skipped : ℕ → List ℕ → Option (List ℕ)
-skipped zero octets = Some octets
-skipped (suc count) octets = do
+unfoldable pub behind_records : ℕ → Octets → Option Octets
+behind_records zero octets = Some octets
+behind_records (suc count) octets = do
   first ← shape_of octets
-  skipped count first.1
+  behind_records count first.2

@@ -1,6 +1,11 @@
+//! The header of a message.
+
 ghost use Rattle.std.specs.Prelude.{◌≡◌, ◌≤◌, length};
+ghost use Rattle.dz_header.specs.Flags.{is_response, opcode_of, is_authoritative, is_truncated, is_recursion_desired, code_of};
 ghost use Rattle.dz_header.specs.Header.{header_of, header_in, header_octets};
 
+use crate::flags::{AUTHORITATIVE, CODES, OPCODE, RECURSION_DESIRED, RESPONSE, TRUNCATED};
+use dz_name::dns::HEADER_OCTETS;
 use dz_name::numbers::{number_of_two, two};
 
 /// The header of a message (RFC 1035 section 4.1.1): ID, flags with opcode and response code, and the numbers of
@@ -12,11 +17,55 @@ pub struct Header {
     pub counts: [u16; 4],
 }
 
+impl Header {
+    /// Whether the message is a response, QR.
+    pub fn is_response(&self) -> bool
+        ensures { result ≡ is_response self.now.flags }
+    {
+        self.flags / RESPONSE % 2 == 1
+    }
+
+    /// The opcode, below 16.
+    pub fn opcode(&self) -> u16
+        ensures { result ≡ opcode_of self.now.flags }
+    {
+        self.flags / OPCODE % CODES
+    }
+
+    /// Whether who answers has authority over the name of the question, AA.
+    pub fn is_authoritative(&self) -> bool
+        ensures { result ≡ is_authoritative self.now.flags }
+    {
+        self.flags / AUTHORITATIVE % 2 == 1
+    }
+
+    /// Whether the message was cut, since it was longer than the transport allows, TC.
+    pub fn is_truncated(&self) -> bool
+        ensures { result ≡ is_truncated self.now.flags }
+    {
+        self.flags / TRUNCATED % 2 == 1
+    }
+
+    /// Whether the question is to be pursued recursively, RD.
+    pub fn recursion_desired(&self) -> bool
+        ensures { result ≡ is_recursion_desired self.now.flags }
+    {
+        self.flags / RECURSION_DESIRED % 2 == 1
+    }
+
+    /// The response code, below 16: its lower four bits, the upper ones stand in an OPT record (RFC 6891 section 6.1.3).
+    pub fn code(&self) -> u16
+        ensures { result ≡ code_of self.now.flags }
+    {
+        self.flags % CODES
+    }
+}
+
 /// The header in the first twelve octets; none where there are fewer.
 pub fn read_header(message: &[u8]) -> Option<Header>
     ensures { result ≡ header_of message.now }
 {
-    if message.len() < 12 {
+    if message.len() < HEADER_OCTETS {
         None
     } else {
         Some(header_in(message))
@@ -25,7 +74,7 @@ pub fn read_header(message: &[u8]) -> Option<Header>
 
 #[tactic(auto, unfolding(crate::specs::Header::header_in))]
 fn header_in(message: &[u8]) -> Header
-    requires { 12 ≤ length message.now }
+    requires { HEADER_OCTETS ≤ length message.now }
     ensures { result ≡ header_in message.now }
 {
     Header {

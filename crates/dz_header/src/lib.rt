@@ -5,8 +5,10 @@
 mod buffer;
 mod code;
 mod edns;
+mod flags;
 mod header;
 mod question;
+mod record_head;
 mod shape;
 #[cfg(test)]
 mod tests;
@@ -14,8 +16,10 @@ mod writer;
 
 pub use buffer::ReplyBuffer;
 pub use code::ResponseCode;
-pub use edns::Edns;
+pub use edns::{Edns, edns_of, opt_count, put_opt};
+pub use flags::Flags;
 pub use header::{Header, read_header, write_header};
-pub use question::Question;
+pub use question::{QUESTION_OCTETS, Question, read_question};
+pub use record_head::{HEAD_OCTETS, RecordHead, read_head};
 pub use shape::{Shape, read_shape, skip_records};
-pub use writer::Writer;
+pub use writer::{BUFFER_OCTETS, Writer};

@@ -1,4 +1,13 @@
-use dz_name::Name;
+//! Questions.
+
+ghost use Rattle.std.specs.Prelude.{◌≡◌, ◌+◌, ◌<◌, ◌≤◌, length, IfOk};
+ghost use Rattle.dz_header.specs.Question.{question_at};
+
+use dz_name::numbers::number_of_two;
+use dz_name::{Name, WireFault};
+
+/// How many octets the type and the class of a question have (RFC 1035 section 4.1.2).
+pub const QUESTION_OCTETS: usize = 4;
 
 /// A question: name, type and class (RFC 1035 section 4.1.2).
 #[derive(Clone, Copy, Debug)]
@@ -6,4 +15,30 @@ pub struct Question {
     pub name: Name,
     pub kind: u16,
     pub class: u16,
+}
+
+/// Reads the question that stands at an offset of a message (RFC 1035 section 4.1.2). With it comes the offset behind it.
+///
+/// # Errors
+///
+/// The first fault of its name, and then `Short` where type and class aren't all there.
+#[tactic(auto, unfolding(crate::specs::Question::question_at))]
+pub fn read_question(message: &[u8], at: usize) -> Result<(Question, usize), WireFault>
+    ensures reads { result ≡ question_at message.now at }
+    ensures place { IfOk result (λ r. (at + QUESTION_OCTETS < r.1) × (r.1 ≤ length message.now)) }
+{
+    let (name, end) = match Name::read_at(message, at) {
+        Ok(found) => found,
+        Err(fault) => return Err(fault),
+    };
+    if message.len() - end < QUESTION_OCTETS {
+        return Err(WireFault::Short);
+    }
+    let behind = message.split_at(end).1;
+    let question = Question {
+        name,
+        kind: number_of_two(behind),
+        class: number_of_two(behind.split_at(2).1),
+    };
+    Ok((question, end + QUESTION_OCTETS))
 }

@@ -1,64 +1,59 @@
 //! Records by their shape alone.
 
 ghost use Rattle.std.specs.Prelude.{◌≡◌, ◌<◌, ◌≤◌, length, take, drop, option_map};
-ghost use Rattle.dz_header.specs.Shape.{behind_owner, behind_fields, shape_of, skipped};
+ghost use Rattle.dz_header.specs.Shape.{behind_owner, behind_head, shape_of, behind_records};
 
-use dz_name::numbers::{number_of_four, number_of_two};
+use crate::record_head::{HEAD_OCTETS, RecordHead, read_head};
+use dz_name::dns::LABEL_OCTETS;
+
+/// The least length octet that is the first of a pointer: its two top bits are 11 (RFC 1035 section 4.1.4).
+pub(crate) const POINTER: usize = 192;
 
 /// What a record shows without its owner and RDATA being read.
 #[derive(Clone, Copy, Debug, PartialEq, Eq)]
 pub struct Shape {
     /// Whether the owner is the single zero octet, the root.
     pub root: bool,
-    /// The type's number.
-    pub kind: u16,
-    pub class: u16,
-    pub ttl: u32,
+    /// Type, class, TTL and the length of the RDATA.
+    pub head: RecordHead,
 }
 
-/// The shape of the record at the front of some octets, and what stands behind the record. None where it isn't all
-/// there, or its owner is neither labels and a zero octet nor labels and a pointer.
+/// The shape of the record at the front of some octets, its RDATA as it stands there, and what stands behind the record.
+/// None where it isn't all there, or its owner is neither labels and a zero octet nor labels and a pointer.
 #[tactic(auto, unfolding(crate::specs::Shape::shape_of))]
-pub fn read_shape(octets: &[u8]) -> Option<(Shape, &[u8])>
-    ensures { option_map (λ x. (x.0, x.1.now)) result ≡ shape_of octets.now }
+pub fn read_shape(octets: &[u8]) -> Option<(Shape, &[u8], &[u8])>
+    ensures { option_map (λ x. (x.0, x.1.now, x.2.now)) result ≡ shape_of octets.now }
 {
     let rest = behind_owner(octets)?;
-    behind_fields(octets.is_empty() || octets[0] == 0, rest)
+    behind_head(octets.is_empty() || octets[0] == 0, rest)
 }
 
 /// What stands behind so many records.
 #[tactic(auto, using(crate::proofs::ShapeLemmas::skipped_step, crate::proofs::ShapeLemmas::skipped_done))]
 pub fn skip_records(octets: &[u8], count: u32) -> Option<&[u8]>
-    ensures { option_map (λ rest. rest.now) result ≡ skipped count octets.now }
+    ensures { option_map (λ rest. rest.now) result ≡ behind_records count octets.now }
 {
     let mut rest = octets;
     'records: for _ in 0..count {
-        let (_, behind) = read_shape(rest)?;
+        let (_, _, behind) = read_shape(rest)?;
         rest = behind;
     }
     Some(rest)
 }
 
-/// The fields behind an owner, and what stands behind the record.
-#[tactic(auto, unfolding(crate::specs::Shape::behind_fields))]
-fn behind_fields(root: bool, octets: &[u8]) -> Option<(Shape, &[u8])>
-    ensures { option_map (λ x. (x.0, x.1.now)) result ≡ behind_fields root octets.now }
+/// The head behind an owner, the RDATA, and what stands behind the record.
+#[tactic(auto, unfolding(crate::specs::Shape::behind_head))]
+fn behind_head(root: bool, octets: &[u8]) -> Option<(Shape, &[u8], &[u8])>
+    ensures { option_map (λ x. (x.0, x.1.now, x.2.now)) result ≡ behind_head root octets.now }
 {
-    if octets.len() < 10 {
-        return None;
-    }
-    let rest = behind(octets, 10);
-    let size = number_of_two(behind(octets, 8)) as usize;
+    let head = read_head(octets)?;
+    let rest = behind(octets, HEAD_OCTETS);
+    let size = head.size as usize;
     if rest.len() < size {
         return None;
     }
-    let shape = Shape {
-        root,
-        kind: number_of_two(octets),
-        class: number_of_two(behind(octets, 2)),
-        ttl: number_of_four(behind(octets, 4)),
-    };
-    Some((shape, behind(rest, size)))
+    let (rdata, behind) = rest.split_at(size);
+    Some((Shape { root, head }, rdata, behind))
 }
 
 /// What stands behind the owner of a record.
@@ -72,12 +67,12 @@ fn behind_owner(octets: &[u8]) -> Option<&[u8]>
         if size == 0 {
             return Some(behind(rest, 1));
         }
-        if size < 64 {
+        if size <= LABEL_OCTETS {
             if rest.len() <= size {
                 return None;
             }
             rest = behind(rest, size + 1);
-        } else if size < 192 {
+        } else if size < POINTER {
             return None;
         } else if rest.len() == 1 {
             return None;

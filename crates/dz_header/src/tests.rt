@@ -1,6 +1,8 @@
 use crate::{
-    Header, ReplyBuffer, Shape, Writer, read_header, read_shape, skip_records, write_header,
+    Edns, Flags, Header, RecordHead, ReplyBuffer, ResponseCode, Shape, Writer, edns_of, put_opt,
+    read_head, read_header, read_question, read_shape, skip_records, write_header,
 };
+use dz_name::WireFault;
 use std::process::Abort;
 use std::test::*;
 
@@ -10,11 +12,12 @@ const ADDRESS: &[u8] = b"\x03www\xc0\x0c\0\x01\0\x01\0\0\x0e\x10\0\x04\xc0\0\x02
 /// An OPT record of size 1232, version 1 and DO, whose RDATA has an option of no octets.
 const OPT: &[u8] = b"\0\0\x29\x04\xd0\0\x01\x80\0\0\x04\0\x03\0\0";
 
-/// Some octets begin with a record of this shape, and then come others.
-fn expect_shape(rt: &impl Abort, octets: &[u8], shape: Shape, behind: &[u8]) {
+/// Some octets begin with a record of this shape and this RDATA, and then come others.
+fn expect_shape(rt: &impl Abort, octets: &[u8], shape: Shape, rdata: &[u8], behind: &[u8]) {
     match read_shape(octets) {
-        Some((found, rest)) => {
+        Some((found, inner, rest)) => {
             assert_eq!(rt; found, shape, "of {octets:?}");
+            assert!(rt; inner == rdata, "{inner:?} in {octets:?}");
             assert!(rt; rest == behind, "{rest:?} behind {octets:?}");
         }
         None => panic!(rt; "no shape of {octets:?}"),
@@ -49,36 +52,46 @@ fn header_is_read_of_twelve_octets_or_more(rt: HostRuntime) {
     assert_eq!(rt; read_header(&[]), None);
 }
 
+fn shape(root: bool, kind: u16, class: u16, ttl: u32, size: u16) -> Shape {
+    Shape {
+        root,
+        head: RecordHead {
+            kind,
+            class,
+            ttl,
+            size,
+        },
+    }
+}
+
 #[test]
 fn shapes_of_records_and_what_stands_behind(rt: HostRuntime) {
-    let address = Shape {
-        root: false,
-        kind: 1,
-        class: 1,
-        ttl: 3600,
-    };
-    expect_shape(&rt, ADDRESS, address, b"");
-    let opt = Shape {
-        root: true,
-        kind: 41,
-        class: 1232,
-        ttl: 0x0001_8000,
-    };
-    expect_shape(&rt, OPT, opt, b"");
-    expect_shape(&rt, b"\0\0\x29\x04\xd0\0\x01\x80\0\0\0\0\0", opt, b"\0\0");
-    let other = Shape {
-        root: false,
-        kind: 65_280,
-        class: 255,
-        ttl: 4_294_967_295,
-    };
+    let address = shape(false, 1, 1, 3600, 4);
+    expect_shape(&rt, ADDRESS, address, b"\xc0\0\x02\x01", b"");
+    let opt = shape(true, 41, 1232, 0x0001_8000, 4);
+    expect_shape(&rt, OPT, opt, b"\0\x03\0\0", b"");
+    let bare = shape(true, 41, 1232, 0x0001_8000, 0);
+    expect_shape(
+        &rt,
+        b"\0\0\x29\x04\xd0\0\x01\x80\0\0\0\0\0",
+        bare,
+        b"",
+        b"\0\0",
+    );
     expect_shape(
         &rt,
         b"\x01a\x02bc\0\xff\0\0\xff\xff\xff\xff\xff\0\x01xyz",
-        other,
+        shape(false, 65_280, 255, 4_294_967_295, 1),
+        b"x",
         b"yz",
     );
-    expect_shape(&rt, b"\xff\xff\xff\0\0\xff\xff\xff\xff\xff\0\0", other, b"");
+    expect_shape(
+        &rt,
+        b"\xff\xff\xff\0\0\xff\xff\xff\xff\xff\0\0",
+        shape(false, 65_280, 255, 4_294_967_295, 0),
+        b"",
+        b"",
+    );
 }
 
 #[test]
@@ -116,13 +129,73 @@ fn so_many_records_are_skipped(rt: HostRuntime) {
     assert!(rt; skip_records(&[], 0).is_some());
 }
 
+/// RFC 1035 section 4.1.1: QR is the highest bit, then opcode, AA, TC and RD; the code has the lowest four.
+#[test]
+fn flags_are_written_and_read_bit_by_bit(rt: HostRuntime) {
+    let flags = Flags {
+        response: true,
+        opcode: 4,
+        authoritative: true,
+        truncated: false,
+        recursion_desired: true,
+        code: 3,
+    };
+    assert_eq!(rt; flags.number(), 0xa503);
+    let header = Header {
+        id: 7,
+        flags: 0x8285,
+        counts: [0; 4],
+    };
+    assert!(rt; header.is_response() && header.opcode() == 0 && !header.is_authoritative());
+    assert!(rt; header.is_truncated() && !header.recursion_desired() && header.code() == 5);
+}
+
+/// Payload size, version and DO stand in class and TTL (RFC 6891 section 6.1.3); BADVERS is 16, whose upper eight bits are 1.
+#[test]
+fn edns_is_read_and_written(rt: HostRuntime) -> Result<(), Fail> {
+    let edns = Edns {
+        size: 1232,
+        version: 1,
+        dnssec_ok: true,
+    };
+    match read_head(&OPT[1..]) {
+        Some(head) => assert_eq!(rt; edns_of(head), edns),
+        None => panic!(rt; "no head"),
+    }
+    assert!(rt; read_head(&OPT[6..]).is_none());
+    let mut writer = Writer::new(rt.alloc())?;
+    writer.begin(512);
+    put_opt(&mut writer, ResponseCode::BadVers, Some(edns));
+    assert!(rt; is_written(&writer, b"\0\0\x29\x04\xd0\x01\0\x80\0\0\0"));
+    writer.begin(512);
+    put_opt(&mut writer, ResponseCode::Refused, None);
+    assert!(rt; is_written(&writer, b""));
+    Ok(())
+}
+
+#[test]
+fn questions_are_read_with_pointers(rt: HostRuntime) {
+    let message = b"\x07Example\0\x03www\xc0\0\0\x1c\0\x01".as_slice();
+    match read_question(message, 9) {
+        Ok((question, end)) => {
+            assert!(rt; question.name.wire() == b"\x03www\x07example\0".as_slice());
+            assert!(rt; question.kind == 28 && question.class == 1 && end == 19);
+        }
+        Err(fault) => panic!(rt; "{fault:?}"),
+    }
+    match read_question(&message[..18], 9) {
+        Ok(_) => panic!(rt; "a class of one octet"),
+        Err(fault) => assert_eq!(rt; fault, WireFault::Short),
+    }
+}
+
 fn is_written(writer: &Writer, expected: &[u8]) -> bool {
     !writer.is_over() && writer.written() == expected
 }
 
 #[test]
 fn once_over_nothing_is_written_until_the_writer_is_emptied(rt: HostRuntime) -> Result<(), Fail> {
-    let mut writer = Writer::make(rt.alloc())?;
+    let mut writer = Writer::new(rt.alloc())?;
     writer.begin(4);
     writer.put(b"abc");
     writer.put(b"d");
@@ -150,5 +223,43 @@ fn a_buffer_has_room_for_a_request_and_its_reply(rt: HostRuntime) -> Result<(), 
     assert!(rt; buffer.reply(2) == b"re".as_slice());
     assert!(rt; buffer.reply(65_537).len() == 65_537);
     assert!(rt; buffer.request_mut()[65_536] == 7);
+    let room = buffer.reply_mut();
+    assert!(rt; room.len() == 65_537);
+    room[1] = b'E';
+    room[5] = b'!';
+    assert!(rt; buffer.reply(6) == b"rEply!".as_slice());
+    assert!(rt; is_written(buffer.writer(), b""));
+    Ok(())
+}
+
+/// Octets come into the half for requests while a reply is written into the other.
+fn take_in_and_write(buffer: &mut ReplyBuffer, octet: u8) {
+    let ReplyBuffer { request, reply } = buffer;
+    let room = request.as_mut_slice();
+    reply.begin(4);
+    room[0] = octet;
+    reply.put(b"a");
+    room[1] = octet;
+    reply.put(b"b");
+}
+
+#[test]
+fn the_halves_of_a_buffer_are_apart(rt: HostRuntime) -> Result<(), Fail> {
+    let mut buffer = ReplyBuffer::make(rt.alloc())?;
+    take_in_and_write(&mut buffer, 7);
+    assert!(rt; buffer.request_mut()[1] == 7 && buffer.request_mut()[2] == 0);
+    assert!(rt; buffer.reply(3) == b"ab\0".as_slice());
+    Ok(())
+}
+
+fn is_send<T: Send>(_value: &T) {}
+
+fn is_sync<T: Sync>(_value: &T) {}
+
+#[test]
+fn a_buffer_may_go_to_another_thread(rt: HostRuntime) -> Result<(), Fail> {
+    let buffer = ReplyBuffer::make(rt.alloc())?;
+    is_send(&buffer);
+    is_sync(&buffer);
     Ok(())
 }

@@ -1,17 +1,22 @@
 //! Octets up to a limit, in memory that is taken once.
 
-ghost use Rattle.std.specs.Prelude.{◌≡◌, ◌+◌, ◌-◌, ◌≤◌, ◌++◌, take, drop, length, nat_le, List, ℕ, Some, None, IfOk, IsSome, is_some, not, option_map, if◌then◌else◌};
+ghost use Rattle.std.specs.Prelude.{◌≡◌, ◌+◌, ◌-◌, ◌≤◌, ◌++◌, take, drop, length, nat_le, List, ℕ, Some, None, IfOk, IsSome, IsNone, is_some, not, option_map, if◌then◌else◌};
+ghost use Rattle.std.specs.Borrow.{Array, Lends, sem, u8};
 ghost use Rattle.std.specs.Option.{ForSome};
-ghost use Rattle.dz_header.specs.Writing.{also, empty, joined};
+ghost use Rattle.dz_header.specs.Writing.{also, empty, octets_with, room_with, with_room};
+ghost use Rattle.dz_header.specs.contracts.writer.Writer.{the_row};
+ghost use Rattle.dz_name.specs.Words.{Octets};
 
+use dz_name::dns::MESSAGE_OCTETS;
 use std::alloc::{AllocError, Global};
 use std::marker::Model;
 
 /// How many octets a buffer has: a message over TCP of 65,535 octets and its length in two (RFC 1035 section 4.2.2).
-pub(crate) const CAPACITY: usize = 65_537;
+pub const BUFFER_OCTETS: usize = MESSAGE_OCTETS + 2;
 
 /// Octets that are written up to a limit of at most 65,537, in memory that is taken once and never grows. Contracts see
-/// the limit, and the octets, or none once more was to be written than fits.
+/// the limit, and the octets, or none once more was to be written than fits; and the whole room of 65,537 octets, at
+/// whose front stands what is written.
 #[derive(Drop)]
 pub struct Writer {
     octets: Vec<u8>,
@@ -22,25 +27,27 @@ pub struct Writer {
 impl Model for Writer {
     ghost use Rattle.std.specs.Prelude.{take, length, option_map, ◌≡◌, ◌≤◌};
     ghost use Rattle.std.specs.Option.{ForSome};
-    ghost use Rattle.dz_header.specs.Writing.{Writing};
+    ghost use Rattle.dz_header.specs.Writing.{Writing, WriterState};
+    ghost use Rattle.dz_header.specs.declared.writer.TheConstants.{BUFFER_OCTETS};
 
-    ghost Value = { Writing };
+    ghost Value = { WriterState };
 
-    ghost view = { λ w. record { limit = w.limit; octets = option_map (λ n. take n w.octets.items) w.len } };
+    ghost view = { λ w. record { writing = record { limit = w.limit; octets = option_map (λ n. take n w.octets.items) w.len }; room = w.octets.items } };
 
-    ghost invariant = { λ w. (length w.octets.items ≡ 65537) × (w.limit ≤ 65537) × ForSome w.len (λ n. n ≤ w.limit) };
+    ghost invariant = { λ w. (length w.octets.items ≡ BUFFER_OCTETS) × (w.limit ≤ BUFFER_OCTETS) × ForSome w.len (λ n. n ≤ w.limit) };
 }
 
 impl Writer {
-    /// A writer with no octets and no room.
+    /// A writer with no octets, which may write none.
     ///
     /// # Errors
     ///
     /// `AllocError` where there is no memory for 65,537 octets.
-    pub fn make(alloc: Global) -> Result<Writer, AllocError>
-        ensures { IfOk result (λ w. w ≡ empty 0) }
+    pub fn new(alloc: Global) -> Result<Writer, AllocError>
+        ensures writing { IfOk result (λ w. w.writing ≡ empty 0) }
+        ensures room { IfOk result (λ w. length w.room ≡ BUFFER_OCTETS) }
     {
-        let octets = Vec::from_elem(alloc, 0, CAPACITY)?;
+        let octets = Vec::from_elem(alloc, 0, BUFFER_OCTETS)?;
         Ok(Writer {
             octets,
             len: Some(0),
@@ -50,8 +57,9 @@ impl Writer {
 
     /// Empties the writer, and sets the limit: so many octets may be written.
     pub fn begin(&mut self, limit: usize)
-        requires { limit ≤ 65537 }
-        ensures { self.new ≡ empty limit }
+        requires { limit ≤ BUFFER_OCTETS }
+        ensures writing { self.new.writing ≡ empty limit }
+        ensures room { self.new.room ≡ self.old.room }
     {
         self.len = Some(0);
         self.limit = limit;
@@ -61,52 +69,68 @@ impl Writer {
     /// nothing is written any more.
     #[tactic(auto, unfolding(crate::specs::Writing::also))]
     pub fn put(&mut self, more: &[u8])
-        ensures { self.new ≡ also self.old more.now }
+        ensures writing { self.new.writing ≡ also self.old.writing more.now }
+        ensures room { self.new.room ≡ room_with self.old.room self.new.writing.octets }
     {
         self.extend(more);
     }
 
     /// Whether more was to be written than fits.
     pub fn is_over(&self) -> bool
-        ensures { result ≡ not (is_some self.now.octets) }
+        ensures { result ≡ not (is_some self.now.writing.octets) }
     {
         self.len.is_none()
     }
 
     /// What was written.
     pub fn written(&self) -> &[u8]
-        requires { IsSome self.now.octets }
-        ensures octets { self.now.octets ≡ Some result.now }
-        ensures size { length result.now ≤ 65537 }
+        requires { IsSome self.now.writing.octets }
+        ensures octets { self.now.writing.octets ≡ Some result.now }
+        ensures front { result.now ≡ take (length result.now) self.now.room }
+        ensures size { length result.now ≤ BUFFER_OCTETS }
     {
         &self.octets[..self.len.unwrap()]
     }
 
     /// So many octets from the front; behind what was written stands what was written earlier.
     pub fn first(&self, count: usize) -> &[u8]
-        requires { count ≤ 65537 }
+        requires { count ≤ BUFFER_OCTETS }
         ensures size { length result.now ≡ count }
-        ensures octets { (text : List ℕ) → self.now.octets ≡ Some text → count ≤ length text → result.now ≡ take count text }
+        ensures octets { result.now ≡ take count self.now.room }
+        ensures written { (text : Octets) → self.now.writing.octets ≡ Some text → count ≤ length text → result.now ≡ take count text }
     {
         &self.octets[..count]
     }
 
+    /// The 65,537 octets to be filled by other means, as by a device that reads into them: what was written is let go.
+    pub fn room_mut(&mut self) -> &mut [u8]
+        ensures* lends { sem 𝓛 (Lends the_row (Array u8 0) self.entry result (with_room self.entry.now)) }
+        ensures octets { result.now ≡ self.old.room }
+        ensures size { length result.now ≡ BUFFER_OCTETS }
+    {
+        self.len = Some(0);
+        self.limit = 0;
+        self.octets.as_mut_slice()
+    }
+
     fn extend(&mut self, more: &[u8])
-        ensures limit { self.new.limit ≡ self.old.limit }
-        ensures octets { self.new.octets ≡ joined self.old.limit self.old.octets more.now }
+        ensures limit { self.new.writing.limit ≡ self.old.writing.limit }
+        ensures octets { self.new.writing.octets ≡ octets_with self.old.writing.limit self.old.writing.octets more.now }
+        ensures room { self.new.room ≡ room_with self.old.room self.new.writing.octets }
     {
         self.len = append(&mut self.octets, self.len, self.limit, more);
     }
 }
 
 /// Writes octets behind the first ones, where they fit before the limit: how many there are then.
-#[tactic(auto, unfolding(crate::specs::Writing::joined), using(crate::proofs::WriterLemmas::joined_at))]
+#[tactic(auto, unfolding(crate::specs::Writing::octets_with), using(crate::proofs::WriterLemmas::joined_at, crate::proofs::WriterLemmas::room_at))]
 fn append(octets: &mut Vec<u8>, len: Option<usize>, limit: usize, more: &[u8]) -> Option<usize>
     requires within { ForSome len (λ n. n ≤ limit) }
     requires room { limit ≤ length octets.old.items }
     ensures same { length octets.new.items ≡ length octets.old.items }
     ensures len { ForSome result (λ n. n ≤ limit) }
-    ensures octets { option_map (λ n. take n octets.new.items) result ≡ joined limit (option_map (λ n. take n octets.old.items) len) more.now }
+    ensures octets { option_map (λ n. take n octets.new.items) result ≡ octets_with limit (option_map (λ n. take n octets.old.items) len) more.now }
+    ensures front { octets.new.items ≡ room_with octets.old.items (option_map (λ n. take n octets.new.items) result) }
 {
     match len {
         None => None,
@@ -121,6 +145,7 @@ fn place(octets: &mut Vec<u8>, at: usize, limit: usize, more: &[u8]) -> Option<u
     ensures len { length octets.new.items ≡ length octets.old.items }
     ensures end { result ≡ (if nat_le (length more.now) (limit - at) then Some (at + length more.now) else None) }
     ensures octets { IsSome result → octets.new.items ≡ take at octets.old.items ++ (more.now ++ drop (at + length more.now) octets.old.items) }
+    ensures none { IsNone result → octets.new.items ≡ octets.old.items }
 {
     if more.len() <= limit - at {
         let end = at + more.len();

@@ -2,7 +2,7 @@
 use Rattle.std.proofs.Common.{◌≡◌, ◌≤◌, ◌+◌, ℕ, List, [], ◌∷◌, ◌++◌, length, Option, Some, None, refl, append_assoc, length-append, arith}
 use Rattle.dz_io.specs.Device.{Gives}
 use Rattle.dz_io.specs.Lines.{HasNoNewline, IsClosedLine, ahead, TakesLine, StopsWithin}
-use Rattle.dz_io.specs.Window.{IsPiece}
+use Rattle.dz_io.specs.inner.Window.{IsPiece}
 use Rattle.dz_io.specs.declared.window.Piece.TheVariants.{Closed, Open}
 use Rattle.dz_io.specs.declared.lines.TheConstants.{LIMIT}
 

@@ -3,7 +3,7 @@ use Rattle.std.proofs.Common.{◌≡◌, ◌≢◌, ◌<◌, ℕ, Bool, true, fa
 use Rattle.std.proofs.lemmas.Bool.Decides.{nat_tests}
 use Rattle.std.proofs.lemmas.List.{append-nil}
 use Rattle.std.specs.List.{AllByRecursion}
-use Rattle.dz_io.specs.Lines.{lines_of, onto_first, joined, content, HasNoNewline, IsClosedLine}
+use Rattle.dz_io.specs.Lines.{lines_of, onto_first, octets_of, content, HasNoNewline, IsClosedLine}
 
 not_ten : (octet : ℕ) → octet ≢ 10 → nat_eq octet 10 ≡ false
 not_ten octet other = grind (arith, nat_tests)
@@ -59,11 +59,11 @@ lines_of-long [] (octet ∷ octets) unbroken some = some_line octet octets (nat_
 lines_of-long (octet ∷ front) more unbroken some = onto_front octet (length front) (front ++ more) unbroken.0 (lines_of-long front more unbroken.1 some)
 
 -- whole lines and a rest: these lines, and those of the rest
-pub lines_of-joined : (done : List (List ℕ)) (rest : List ℕ) → AllByRecursion IsClosedLine done → lines_of (joined done ++ rest) ≡ done ++ lines_of rest
-unfolding joined
-lines_of-joined [] rest closed = refl
-lines_of-joined (line ∷ done) rest closed =
-    rw (closed.0.line_is, append_assoc, append_assoc, lines_of-newline closed.0.front (joined done ++ rest) closed.0.unbroken, lines_of-joined done rest closed.1) refl
+pub lines_of-octets_of : (done : List (List ℕ)) (rest : List ℕ) → AllByRecursion IsClosedLine done → lines_of (octets_of done ++ rest) ≡ done ++ lines_of rest
+unfolding octets_of
+lines_of-octets_of [] rest closed = refl
+lines_of-octets_of (line ∷ done) rest closed =
+    rw (closed.0.line_is, append_assoc, append_assoc, lines_of-newline closed.0.front (octets_of done ++ rest) closed.0.unbroken, lines_of-octets_of done rest closed.1) refl
 
 -- a line is its front without the newline
 pub content-closed : (front : List ℕ) → HasNoNewline front → content (front ++ 10 ∷ []) ≡ front
@@ -77,8 +77,8 @@ unfolding content
 content-open [] unbroken = refl
 content-open (octet ∷ line) unbroken = rw (not_ten octet unbroken.0, content-open line unbroken.1) refl
 
-pub joined-append : (done : List (List ℕ)) (line : List ℕ) → joined (done ++ line ∷ []) ≡ joined done ++ line
-unfolding joined
+pub joined-append : (done : List (List ℕ)) (line : List ℕ) → octets_of (done ++ line ∷ []) ≡ octets_of done ++ line
+unfolding octets_of
 joined-append [] line = append-nil line
 joined-append (first ∷ done) line = rw (joined-append done line, append_assoc) refl
 

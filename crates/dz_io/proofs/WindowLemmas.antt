@@ -3,13 +3,18 @@ use Rattle.std.proofs.Common.{suc, ◌≡◌, ◌≤◌, ◌<◌, ◌+◌, ◌-�
 use Rattle.std.proofs.lemmas.Bool.Decides.{nat_tests}
 use Rattle.std.proofs.lemmas.List.{take-append-drop, drop-take, drop-drop, take_rest, take-take, take_all, length-take}
 use Rattle.std.proofs.lemmas.List.Sums.{prefix_len_stops}
-use Rattle.std.proofs.Math.Seq.{take-suc}
+use Rattle.std.proofs.Math.Seq.{take-suc, take-add}
 use Rattle.std.specs.List.{prefix_len, position, slice_range}
 use Rattle.dz_io.specs.Lines.{HasNoNewline, IsClosedLine}
-use Rattle.dz_io.specs.Window.{IsPiece}
+use Rattle.dz_io.specs.inner.Window.{IsPiece}
 use Rattle.dz_io.specs.declared.window.Piece.{Piece}
 
 -- moving the front of what was at `at` leaves what is behind it
+-- what was given before, and the front of what was at `at`
+pub join_at : (given all text moved : List ℕ) (at n : ℕ) → given ≡ take at all → text ≡ all → moved ≡ take n (take (length text - at) (drop at text)) → take (at + n) all ≡ given ++ moved
+join_at given all text moved at n whole same front =
+    rw (whole, front, same, take_rest) (take-add at n all)
+
 pub split_at : (octets all text moved : List ℕ) (at n : ℕ) → octets ≡ drop at all → text ≡ all → moved ≡ take n (take (length text - at) (drop at text)) → octets ≡ moved ++ drop (at + n) all
 split_at octets all text moved at n whole same front =
     rw (whole, front, same, take_rest) (sym (ap (λ rest. take n (drop at all) ++ rest) (sym (drop-drop n at all)) ∙ take-append-drop n (drop at all)))

@@ -1,5 +1,7 @@
--- What a read or a write does to a device's octets, and where one may fail. A device that doesn't tell its octets has None.
-use Rattle.std.specs.Prelude.{◌≡◌, ◌<◌, ◌≤◌, ◌⊎◌, ◌-◌, ◌^◌, ℕ, List, [], ◌++◌, length, take, Option, option_map, IfSome, Result, IsErr}
+-- Meaning: what a read or a write does to a device's octets, and how its count of faults tells of a failed call.
+-- A device that doesn't tell its octets has None.
+use Rattle.std.specs.Prelude.{◌≡◌, ◌≤◌, ℕ, List, [], ◌++◌, length, take, Option, option_map, IfSome, Result, OnOk, IsErr, IsErrOf}
+use Rattle.dz_io.specs.Counts.{HasRisen}
 
 -- these octets were taken from the front of what was left
 abbrev pub Gives : List ℕ → Option (List ℕ) → Option (List ℕ) → Type 0
@@ -17,11 +19,19 @@ GainsPrefix octets before after = (n : ℕ) × (n ≤ length octets) × Gains (t
 abbrev pub IsAtEnd : Option (List ℕ) → Type 0
 IsAtEnd left = IfSome left (λ rest. rest ≡ [])
 
--- the count of faults rose, or stands where it can't rise
-abbrev pub HasRisen : ℕ → ℕ → Type 0
-HasRisen before now = (before < now) ⊎ (now ≡ 2 ^ 64 - 1)
+-- the half of a device that is read from: the octets that it gave, and those that are left
+pub record Reads : Type 0 where
+  pub given : Option (List ℕ)
+  pub left : Option (List ℕ)
 
--- the count of faults didn't fall, and it rose where the call failed
+-- the count of faults of a call didn't fall, it stands where the call is Ok, and it rose where the call failed
 pub record HasCause {T E : Type 0} (before now : ℕ) (result : Result T E) : Type 0 where
   pub later : before ≤ now
+  pub kept : OnOk result (now ≡ before)
   pub failed : IsErr result → HasRisen before now
+
+-- the same of a call with several errors: the count rose where the answer is this one of them
+pub record HasCauseOf {T E : Type 0} (before now : ℕ) (result : Result T E) (error : E) : Type 0 where
+  pub later : before ≤ now
+  pub kept : OnOk result (now ≡ before)
+  pub failed : IsErrOf result error → HasRisen before now

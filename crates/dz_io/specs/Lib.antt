@@ -1,6 +1,8 @@
 pub mod Device
+pub mod Counts
 pub mod Memory
 pub mod Lines
-pub mod Window
 pub mod Script
-pub mod Runs
+pub mod Run
+pub mod Examples
+pub mod inner

@@ -1,4 +1,4 @@
--- The lines of an input. A line ends behind its newline (octet 10), and the last line may lack one.
+-- Meaning: the lines of an input. A line ends behind its newline (octet 10), and the last line may lack one.
 use Rattle.std.specs.Prelude.{◌≡◌, ◌≢◌, ◌==◌, ◌+◌, ◌≤◌, ◌<◌, ℕ, List, [], ◌∷◌, ◌++◌, length, Option, option_map, IfSome, if◌then◌else◌}
 use Rattle.std.specs.List.{AllByRecursion}
 use Rattle.dz_io.specs.Device.{Gives, IsAtEnd}
@@ -17,9 +17,9 @@ lines_of [] = []
 lines_of (octet ∷ octets) = if octet == 10 then (10 ∷ []) ∷ lines_of octets else onto_first octet (lines_of octets)
 
 -- the octets of these lines
-unfoldable pub joined : List (List ℕ) → List ℕ
-joined [] = []
-joined (line ∷ lines) = line ++ joined lines
+unfoldable pub octets_of : List (List ℕ) → List ℕ
+octets_of [] = []
+octets_of (line ∷ lines) = line ++ octets_of lines
 
 -- a line without its newline
 unfoldable pub content : List ℕ → List ℕ

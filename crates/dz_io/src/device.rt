@@ -1,6 +1,6 @@
-//! A source of octets and a sink for octets, each with a count of its faults.
+//! A source of octets, a sink for octets, and a link that is both, each with a count of its faults.
 ghost use Rattle.std.specs.Prelude.{◌≡◌, ◌≤◌, ◌<◌, ℕ, List, Option, length, take, IfOk, OnOk, OnErr};
-ghost use Rattle.dz_io.specs.Device.{Gives, Gains, GainsPrefix, IsAtEnd, HasCause};
+ghost use Rattle.dz_io.specs.Device.{Gives, Gains, GainsPrefix, IsAtEnd, HasCause, Reads};
 
 /// A call on a device failed. The device's count of faults tells of it.
 #[derive(Clone, Copy, Debug, PartialEq, Eq)]
@@ -8,8 +8,14 @@ pub struct Failed;
 
 /// What octets are read from.
 pub trait Source {
+    /// The octets that it gave, where the source tells them.
+    ghost given: { Self → Option (List ℕ) };
+
     /// The octets that are left to be read, where the source tells them.
     ghost left: { Self → Option (List ℕ) };
+
+    /// What was written to it, where it is a sink too and tells it. A read leaves it.
+    ghost beside: { Self → Option (List ℕ) };
 
     /// How often the source has failed. The count never falls, and at 2^64 - 1 it says nothing more.
     ghost faults: { Self → ℕ };
@@ -19,9 +25,12 @@ pub trait Source {
     fn read(&mut self, buffer: &mut [u8]) -> Result<usize, Failed>
         requires { 0 < length buffer.old }
         ensures count { IfOk result (λ n. n ≤ length buffer.old) }
+        ensures given { IfOk result (λ n. Gains (take n buffer.new) (given self.old) (given self.new)) }
         ensures moved { IfOk result (λ n. Gives (take n buffer.new) (left self.old) (left self.new)) }
         ensures end { IfOk result (λ n. n ≡ 0 → IsAtEnd (left self.old)) }
-        ensures err { OnErr result (left self.new ≡ left self.old) }
+        ensures err { OnErr result
+            ((given self.new ≡ given self.old) × (left self.new ≡ left self.old)) }
+        ensures beside { beside self.new ≡ beside self.old }
         ensures cause { HasCause (faults self.old) (faults self.new) result };
 }
 
@@ -30,6 +39,9 @@ pub trait Sink {
     /// The octets that were written, where the sink tells them.
     ghost held: { Self → Option (List ℕ) };
 
+    /// The half that is read from, where it is a source too and tells it. A write leaves it.
+    ghost beside: { Self → Reads };
+
     /// How often the sink has failed. The count never falls, and at 2^64 - 1 it says nothing more.
     ghost faults: { Self → ℕ };
 
@@ -37,5 +49,19 @@ pub trait Sink {
     fn write(&mut self, piece: &[u8]) -> Result<(), Failed>
         ensures all { OnOk result (Gains piece.now (held self.old) (held self.new)) }
         ensures err { OnErr result (GainsPrefix piece.now (held self.old) (held self.new)) }
+        ensures beside { beside self.new ≡ beside self.old }
         ensures cause { HasCause (faults self.old) (faults self.new) result };
+}
+
+/// What octets are read from and written to: a read leaves what was written, and a write leaves what is read.
+pub trait Link: Source + Sink {
+    /// There is one count of faults, for reads and writes.
+    ghost one_count: { (x : Self) → Self.Source.faults x ≡ Self.Sink.faults x };
+
+    /// What a read leaves is what was written.
+    ghost reads_leave: { (x : Self) → Self.Source.beside x ≡ Self.held x };
+
+    /// What a write leaves is what was read and what is left.
+    ghost writes_leave: { (x : Self) →
+        Self.Sink.beside x ≡ record { given = Self.given x; left = Self.left x } };
 }

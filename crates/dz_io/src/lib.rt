@@ -1,21 +1,27 @@
-//! What `catzd` reads from and writes to: sources and sinks as traits, devices in memory, and the lines of an input.
+//! What `catzd` reads from and writes to: sources, sinks and links as traits, devices in memory, the lines of an input,
+//! and scripts that take them.
 #![tactic(auto)]
 
+mod counts;
 mod device;
 mod lines;
 mod memory;
 mod peer;
 mod plan;
+mod run;
 mod script;
 mod sure;
+mod tape;
 mod window;
 
-pub use device::{Failed, Sink, Source};
-pub use lines::{LIMIT, Next, Stop, next_line};
-pub use memory::{MemorySink, MemorySource};
+pub use counts::{rises_add_up, rises_last};
+pub use device::{Failed, Link, Sink, Source};
+pub use lines::{LIMIT, LineError, Next, next_line};
+pub use memory::{MemoryLink, MemorySink, MemorySource};
 pub use peer::Peer;
-pub use script::{Fault, Halt, Script, put, run_script};
-pub use sure::{SureSink, SureSource};
+pub use run::{ScriptError, run_script};
+pub use script::{Script, TurnError, put};
+pub use sure::{SureLink, SureSink, SureSource};
 pub use window::Window;
 
 #[cfg(test)]

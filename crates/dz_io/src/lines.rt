@@ -1,6 +1,6 @@
 //! The lines of an input, one at a time.
-ghost use Rattle.std.specs.Prelude.{◌≡◌, ◌≤◌, [], MatchResult};
-ghost use Rattle.dz_io.specs.Device.{HasRisen};
+ghost use Rattle.std.specs.Prelude.{◌≡◌, ◌≤◌, [], MatchResult, IsErrOf};
+ghost use Rattle.dz_io.specs.Device.{HasCauseOf};
 ghost use Rattle.dz_io.specs.Lines.{ahead, Takes, StopsWithin};
 
 use crate::window::Piece;
@@ -24,11 +24,11 @@ pub enum Next {
 
 /// Why no line could be read.
 #[derive(Clone, Copy, Debug, PartialEq, Eq)]
-pub enum Stop {
+pub enum LineError {
     /// The source failed.
     Read,
     /// Want of memory for the line.
-    Memory,
+    OutOfMemory,
 }
 
 /// Reads the next line into `line`, with its newline (octet 10) and in place of what was there.
@@ -38,19 +38,20 @@ pub fn next_line<S: Source>(
     window: &mut Window,
     line: &mut Vec<u8>,
     used: u64,
-) -> Result<Next, Stop>
+) -> Result<Next, LineError>
     requires { used ≤ LIMIT }
     ensures takes { MatchResult result
-        (λ next. Takes next used line.new.items (ahead window.old (S.left source.old)) (ahead window.new (S.left source.new)))
-        (λ _. StopsWithin used line.new.items (ahead window.old (S.left source.old)) (ahead window.new (S.left source.new))) }
-    ensures stop { result ≡ Err Stop.Read → window.new ≡ [] }
-    ensures later { S.faults source.old ≤ S.faults source.new }
-    ensures cause { result ≡ Err Stop.Read → HasRisen (S.faults source.old) (S.faults source.new) }
+        (λ next. Takes next used line.new.items
+        (ahead window.old (S.left source.old)) (ahead window.new (S.left source.new)))
+        (λ _. StopsWithin used line.new.items
+        (ahead window.old (S.left source.old)) (ahead window.new (S.left source.new))) }
+    ensures stop { IsErrOf result LineError.Read → window.new ≡ [] }
+    ensures cause { HasCauseOf (S.faults source.old) (S.faults source.new) result LineError.Read }
 {
     line.clear();
     'pieces: loop {
         match window.refill(source) {
-            Err(_) => return Err(Stop::Read),
+            Err(_) => return Err(LineError::Read),
             Ok(()) => {}
         }
         if window.octets().is_empty() {
@@ -61,7 +62,7 @@ pub fn next_line<S: Source>(
             });
         }
         match window.move_piece(line, LIMIT - used - line.len() as u64) {
-            Err(_) => return Err(Stop::Memory),
+            Err(_) => return Err(LineError::OutOfMemory),
             Ok(Piece::Closed) => return Ok(Next::Line),
             Ok(Piece::Full) => return Ok(Next::TooLong),
             Ok(Piece::Open) => {}

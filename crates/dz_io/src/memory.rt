@@ -1,69 +1,66 @@
-//! A source and a sink in memory, with calls that fail by a list.
-ghost use Rattle.std.specs.Prelude.{◌≡◌, ◌≤◌, ◌<◌, ◌↔◌, [], ◌++◌, Some, length, take, drop, min, is_err, IsErr, IsTrue, IfOk, OnOk, OnErr, if◌then◌else◌};
+//! A source, a sink and a link in memory, with calls that fail by a list.
+ghost use Rattle.std.specs.Prelude.{◌≡◌, ◌≤◌, ◌<◌, [], Some, None, length, take, min, is_err, IsErr, IsTrue, IfOk, OnOk, OnErr};
 ghost use Rattle.dz_io.specs.Device.{Gives, Gains, GainsPrefix, IsAtEnd, HasCause};
-ghost use Rattle.dz_io.specs.Memory.{Device, is_to_fail, one_more};
+ghost use Rattle.dz_io.specs.Memory.{is_to_fail, after_call, no_calls};
 
-use crate::plan::{Plan, move_front};
-use crate::{Failed, Sink, Source};
+use crate::plan::Plan;
+use crate::tape::Tape;
+use crate::{Failed, Link, Sink, Source};
 use std::alloc::Global;
 use std::marker::Model;
 
-/// A source that reads from memory and tells what is left.
+/// A source that reads from memory and tells what it gave and what is left.
 #[derive(Drop)]
 pub struct MemorySource {
-    octets: Vec<u8>,
-    at: usize,
+    tape: Tape,
     plan: Plan,
 }
 
 impl Model for MemorySource {
-    ghost Value = { Device };
+    ghost use Rattle.dz_io.specs.Memory.{SourceOf};
 
-    ghost view = { λ s. record { octets = drop s.at s.octets.items; calls = s.plan.made; failing = s.plan.failing.items; faults = s.plan.faults } };
+    ghost Value = { SourceOf };
 
-    ghost invariant = { λ s. s.at ≤ length s.octets.items };
+    ghost view = { λ s. record { tape = s.tape; calls = s.plan } };
 }
 
 impl MemorySource {
     /// A source of these octets, of which the calls in `failing`, counted from 0, are to fail.
-    pub fn new(octets: Vec<u8>, failing: Vec<u64>) -> Self
-        ensures { result ≡ record { octets = octets.items; calls = 0; failing = failing.items; faults = 0 } }
+    pub fn new(octets: Vec<u8>, failing: Vec<u64>) -> MemorySource
+        ensures tape { result.tape ≡ record { given = []; left = octets.items } }
+        ensures calls { result.calls ≡ no_calls failing.items }
     {
         MemorySource {
-            octets,
-            at: 0,
-            plan: Plan {
-                made: 0,
-                failing,
-                faults: 0,
-            },
+            tape: Tape::new(octets),
+            plan: Plan::new(failing),
         }
     }
 }
 
 impl Source for MemorySource {
-    ghost left = { λ s. Some s.octets };
+    ghost given = { λ s. Some s.tape.given };
 
-    ghost faults = { λ s. s.faults };
+    ghost left = { λ s. Some s.tape.left };
+
+    ghost beside = { λ _. None };
+
+    ghost faults = { λ s. s.calls.faults };
 
     /// Fails exactly where the call is to fail, and otherwise moves as much as there is and fits.
     fn read(&mut self, buffer: &mut [u8]) -> Result<usize, Failed>
         requires { 0 < length buffer.old }
-        ensures count { IfOk result (λ n. n ≤ length buffer.old) }
-        ensures moved { IfOk result (λ n. Gives (take n buffer.new) (Some self.old.octets) (Some self.new.octets)) }
-        ensures end { IfOk result (λ n. n ≡ 0 → IsAtEnd (Some self.old.octets)) }
-        ensures err { OnErr result (self.new.octets ≡ self.old.octets) }
-        ensures cause { HasCause self.old.faults self.new.faults result }
-        ensures amount { IfOk result (λ n. n ≡ min (length buffer.old) (length self.old.octets)) }
-        ensures planned { is_err result ≡ is_to_fail self.old.calls self.old.failing }
-        ensures calls { self.new.calls ≡ one_more self.old.calls }
-        ensures failing { self.new.failing ≡ self.old.failing }
-        ensures faults { self.new.faults ≡ (if is_err result then one_more self.old.faults else self.old.faults) }
+        ensures planned { is_err result ≡ is_to_fail self.old.calls.count self.old.calls.failing }
+        ensures count { IfOk result (λ n. n ≡ min (length buffer.old) (length self.old.tape.left)) }
+        ensures given { IfOk result (λ n.
+            Gains (take n buffer.new) (Some self.old.tape.given) (Some self.new.tape.given)) }
+        ensures moved { IfOk result (λ n.
+            Gives (take n buffer.new) (Some self.old.tape.left) (Some self.new.tape.left)) }
+        ensures err { OnErr result (self.new.tape ≡ self.old.tape) }
+        ensures calls { self.new.calls ≡ after_call self.old.calls (is_err result) }
+        ensures cause { HasCause self.old.calls.faults self.new.calls.faults result }
     {
         self.plan.next()?;
-        let count = move_front(&self.octets[self.at..], buffer);
-        self.at += count;
-        Ok(count)
+        Ok(self.tape.read(buffer))
     }
 }
 
@@ -75,49 +72,46 @@ pub struct MemorySink {
 }
 
 impl Model for MemorySink {
-    ghost Value = { Device };
+    ghost use Rattle.dz_io.specs.Memory.{SinkOf};
 
-    ghost view = { λ s. record { octets = s.octets.items; calls = s.plan.made; failing = s.plan.failing.items; faults = s.plan.faults } };
+    ghost Value = { SinkOf };
+
+    ghost view = { λ s. record { written = s.octets.items; calls = s.plan } };
 }
 
 impl MemorySink {
     /// A sink to which nothing was written, of which the calls in `failing`, counted from 0, are to fail.
-    pub fn new(alloc: Global, failing: Vec<u64>) -> Self
-        ensures { result ≡ record { octets = []; calls = 0; failing = failing.items; faults = 0 } }
+    pub fn new(alloc: Global, failing: Vec<u64>) -> MemorySink
+        ensures { result ≡ record { written = []; calls = no_calls failing.items } }
     {
         MemorySink {
             octets: Vec::new(alloc),
-            plan: Plan {
-                made: 0,
-                failing,
-                faults: 0,
-            },
+            plan: Plan::new(failing),
         }
     }
 
     /// The octets that were written.
     pub fn written(&self) -> &[u8]
-        ensures { result.now ≡ self.now.octets }
+        ensures { result.now ≡ self.now.written }
     {
         &self.octets
     }
 }
 
 impl Sink for MemorySink {
-    ghost held = { λ s. Some s.octets };
+    ghost held = { λ s. Some s.written };
 
-    ghost faults = { λ s. s.faults };
+    ghost beside = { λ _. record { given = None; left = None } };
+
+    ghost faults = { λ s. s.calls.faults };
 
     /// Fails where the call is to fail or memory is refused, and then appends nothing.
     fn write(&mut self, piece: &[u8]) -> Result<(), Failed>
-        ensures all { OnOk result (Gains piece.now (Some self.old.octets) (Some self.new.octets)) }
-        ensures err { OnErr result (GainsPrefix piece.now (Some self.old.octets) (Some self.new.octets)) }
-        ensures cause { HasCause self.old.faults self.new.faults result }
-        ensures nothing { OnErr result (self.new.octets ≡ self.old.octets) }
-        ensures planned { IsTrue (is_to_fail self.old.calls self.old.failing) → IsErr result }
-        ensures calls { self.new.calls ≡ one_more self.old.calls }
-        ensures failing { self.new.failing ≡ self.old.failing }
-        ensures faults { self.new.faults ≡ (if is_err result then one_more self.old.faults else self.old.faults) }
+        ensures planned { IsTrue (is_to_fail self.old.calls.count self.old.calls.failing) → IsErr result }
+        ensures all { OnOk result (Gains piece.now (Some self.old.written) (Some self.new.written)) }
+        ensures err { OnErr result (self.new.written ≡ self.old.written) }
+        ensures calls { self.new.calls ≡ after_call self.old.calls (is_err result) }
+        ensures cause { HasCause self.old.calls.faults self.new.calls.faults result }
     {
         self.plan.next()?;
         match self.octets.extend_from_slice(piece) {
@@ -125,4 +119,105 @@ impl Sink for MemorySink {
             Err(_) => Err(self.plan.fail()),
         }
     }
+}
+
+/// A link in memory: it reads its octets, and keeps what is written to it. One list says which of its calls, reads and
+/// writes counted together, are to fail.
+#[derive(Drop)]
+pub struct MemoryLink {
+    tape: Tape,
+    sent: Vec<u8>,
+    plan: Plan,
+}
+
+impl Model for MemoryLink {
+    ghost use Rattle.dz_io.specs.Memory.{LinkOf};
+
+    ghost Value = { LinkOf };
+
+    ghost view = { λ l. record { tape = l.tape; written = l.sent.items; calls = l.plan } };
+}
+
+impl MemoryLink {
+    /// A link that gives these octets, to which nothing was written.
+    pub fn new(alloc: Global, octets: Vec<u8>, failing: Vec<u64>) -> MemoryLink
+        ensures tape { result.tape ≡ record { given = []; left = octets.items } }
+        ensures written { result.written ≡ [] }
+        ensures calls { result.calls ≡ no_calls failing.items }
+    {
+        MemoryLink {
+            tape: Tape::new(octets),
+            sent: Vec::new(alloc),
+            plan: Plan::new(failing),
+        }
+    }
+
+    /// The octets that were written.
+    pub fn written(&self) -> &[u8]
+        ensures { result.now ≡ self.now.written }
+    {
+        &self.sent
+    }
+}
+
+impl Source for MemoryLink {
+    ghost given = { λ l. Some l.tape.given };
+
+    ghost left = { λ l. Some l.tape.left };
+
+    ghost beside = { λ l. Some l.written };
+
+    ghost faults = { λ l. l.calls.faults };
+
+    /// Fails exactly where the call is to fail, and otherwise moves as much as there is and fits.
+    fn read(&mut self, buffer: &mut [u8]) -> Result<usize, Failed>
+        requires { 0 < length buffer.old }
+        ensures planned { is_err result ≡ is_to_fail self.old.calls.count self.old.calls.failing }
+        ensures count { IfOk result (λ n. n ≡ min (length buffer.old) (length self.old.tape.left)) }
+        ensures given { IfOk result (λ n.
+            Gains (take n buffer.new) (Some self.old.tape.given) (Some self.new.tape.given)) }
+        ensures moved { IfOk result (λ n.
+            Gives (take n buffer.new) (Some self.old.tape.left) (Some self.new.tape.left)) }
+        ensures err { OnErr result (self.new.tape ≡ self.old.tape) }
+        ensures written { self.new.written ≡ self.old.written }
+        ensures calls { self.new.calls ≡ after_call self.old.calls (is_err result) }
+        ensures cause { HasCause self.old.calls.faults self.new.calls.faults result }
+    {
+        self.plan.next()?;
+        Ok(self.tape.read(buffer))
+    }
+}
+
+impl Sink for MemoryLink {
+    ghost held = { λ l. Some l.written };
+
+    ghost beside = { λ l. record { given = Some l.tape.given; left = Some l.tape.left } };
+
+    ghost faults = { λ l. l.calls.faults };
+
+    /// Fails where the call is to fail or memory is refused, and then appends nothing.
+    fn write(&mut self, piece: &[u8]) -> Result<(), Failed>
+        ensures planned { IsTrue (is_to_fail self.old.calls.count self.old.calls.failing) → IsErr result }
+        ensures all { OnOk result (Gains piece.now (Some self.old.written) (Some self.new.written)) }
+        ensures err { OnErr result (self.new.written ≡ self.old.written) }
+        ensures tape { self.new.tape ≡ self.old.tape }
+        ensures calls { self.new.calls ≡ after_call self.old.calls (is_err result) }
+        ensures cause { HasCause self.old.calls.faults self.new.calls.faults result }
+    {
+        self.plan.next()?;
+        match self.sent.extend_from_slice(piece) {
+            Ok(()) => Ok(()),
+            Err(_) => Err(self.plan.fail()),
+        }
+    }
+}
+
+impl Link for MemoryLink {
+    ghost use Rattle.std.specs.Prelude.{refl};
+
+    ghost one_count = { λ _. refl };
+
+    ghost reads_leave = { λ _. refl };
+
+    ghost writes_leave = { λ _. refl };
 }

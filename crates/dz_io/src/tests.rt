@@ -1,4 +1,4 @@
-ghost use Rattle.std.specs.Prelude.{[], ◌∷◌, ◌==◌, length, true, if◌then◌else◌};
+ghost use Rattle.std.specs.Prelude.{[], ◌∷◌, ◌==◌, Bool, length, true, if◌then◌else◌};
 ghost use Rattle.dz_io.specs.Script.{goes_on, ends};
 
 use crate::*;
@@ -65,13 +65,44 @@ fn a_listed_write_fails_and_appends_nothing(rt: HostRuntime) -> Result<(), Fail>
     Ok(())
 }
 
+// Reads up to four octets, and sees that they are these.
+fn expect_read<S: Source>(rt: &impl Abort, source: &mut S, want: &[u8]) {
+    let mut buffer = [0; 4];
+    match source.read(&mut buffer) {
+        Ok(count) => assert_eq!(rt; &buffer[..count], want),
+        Err(Failed) => assert_eq!(rt; want, b"failed".as_slice()),
+    }
+}
+
+fn send<K: Sink>(sink: &mut K, piece: &[u8]) -> Result<(), Failed> {
+    sink.write(piece)
+}
+
+#[test]
+fn a_link_reads_beside_what_is_written(rt: HostRuntime) -> Result<(), Fail> {
+    let alloc = rt.alloc();
+    let octets = b"abcdef".to_vec(alloc)?;
+    let mut link = MemoryLink::new(alloc, octets, [1, 2].to_vec(alloc)?);
+    expect_read(&rt, &mut link, b"abcd");
+    assert_eq!(rt; send(&mut link, b"xy"), Err(Failed));
+    expect_read(&rt, &mut link, b"failed");
+    assert_eq!(rt; send(&mut link, b"xy"), Ok(()));
+    expect_read(&rt, &mut link, b"ef");
+    assert_eq!(rt; link.written(), b"xy".as_slice());
+    let mut sure = SureLink::new(b"abcdef".to_vec(alloc)?);
+    expect_read(&rt, &mut sure, b"abcd");
+    assert_eq!(rt; send(&mut sure, b"xy"), Ok(()));
+    expect_read(&rt, &mut sure, b"ef");
+    Ok(())
+}
+
 // Reads up to five lines, and sees that they and what was found are these.
 fn expect_lines(
     rt: &impl Abort,
     alloc: Global,
     input: &[u8],
     failing: &[u64],
-    wanted: &[(usize, Result<Next, Stop>)],
+    wanted: &[(usize, Result<Next, LineError>)],
 ) -> Result<(), AllocError> {
     let mut source = source(alloc, input, failing)?;
     let mut window = Window::new();
@@ -133,7 +164,7 @@ fn lines_go_past_the_window(rt: HostRuntime) -> Result<(), Fail> {
 fn a_failed_read_stops_within_the_line(rt: HostRuntime) -> Result<(), Fail> {
     let alloc = rt.alloc();
     let line = Ok(Next::Line);
-    let stop = Err(Stop::Read);
+    let stop = Err(LineError::Read);
     expect_lines(&rt, alloc, b"ab\ncd", &[0], &[(0, stop), (3, line)])?;
     expect_lines(&rt, alloc, b"ab\ncd", &[1], &[(3, line), (2, stop)])?;
     let input = long_input(alloc, 5000)?;
@@ -167,64 +198,61 @@ fn the_limit_counts_all_octets(rt: HostRuntime) -> Result<(), Fail> {
 
 // A script that writes its lines without their newlines. It ends with the number of the first empty line, behind `!`.
 // At the end of the input it writes `.` where there was a line, and else `-`.
-#[derive(Clone, Copy)]
-struct Joiner {
+#[derive(Drop)]
+struct Joiner<K> {
     begun: bool,
+    output: K,
 }
 
-impl Script for Joiner {
+impl<K: Sink> Script for Joiner<K> {
     type Ending = u64;
 
+    ghost States = { Bool };
+
+    ghost state = { λ joiner. joiner.begun };
+
+    ghost held = { λ joiner. K.held joiner.output };
+
+    ghost faults = { λ joiner. K.faults joiner.output };
+
+    ghost Others = { Unit {0} };
+
+    ghost beside = { λ _. tt };
+
     ghost rules = { record {
-      turn = λ joiner number line. if length line == 0 then ends (33 ∷ []) number else goes_on line (record { begun = true });
-      too_long = λ joiner number. record { text = 43 ∷ []; ending = number };
-      finish = λ joiner number. record { text = (if joiner.begun then 46 ∷ [] else 45 ∷ []); ending = number };
+      turn = λ begun number line. if length line == 0 then ends (33 ∷ []) begun number else goes_on line true;
+      too_long = λ begun number. record { text = 43 ∷ []; state = begun; ending = number };
+      finish = λ begun number. record { text = (if begun then 46 ∷ [] else 45 ∷ []); state = begun; ending = number };
     } };
 
-    fn turn<K: Sink>(
-        &mut self,
-        _alloc: Global,
-        number: u64,
-        line: &[u8],
-        output: &mut K,
-    ) -> Result<Option<u64>, Halt> {
+    fn turn(&mut self, _alloc: Global, number: u64, line: &[u8]) -> Result<Option<u64>, TurnError> {
         if line.is_empty() {
-            return match put(output, b"!") {
+            return match put(&mut self.output, b"!") {
                 Ok(()) => Ok(Some(number)),
-                Err(halt) => Err(halt),
+                Err(error) => Err(error),
             };
         }
-        match put(output, line) {
+        match put(&mut self.output, line) {
             Ok(()) => {
                 self.begun = true;
                 Ok(None)
             }
-            Err(halt) => Err(halt),
+            Err(error) => Err(error),
         }
     }
 
-    fn too_long<K: Sink>(
-        &mut self,
-        _alloc: Global,
-        number: u64,
-        output: &mut K,
-    ) -> Result<u64, Halt> {
-        match put(output, b"+") {
+    fn too_long(&mut self, _alloc: Global, number: u64) -> Result<u64, TurnError> {
+        match put(&mut self.output, b"+") {
             Ok(()) => Ok(number),
-            Err(halt) => Err(halt),
+            Err(error) => Err(error),
         }
     }
 
-    fn finish<K: Sink>(
-        &mut self,
-        _alloc: Global,
-        number: u64,
-        output: &mut K,
-    ) -> Result<u64, Halt> {
+    fn finish(&mut self, _alloc: Global, number: u64) -> Result<u64, TurnError> {
         let text = if self.begun { b"." } else { b"-" };
-        match put(output, text) {
+        match put(&mut self.output, text) {
             Ok(()) => Ok(number),
-            Err(halt) => Err(halt),
+            Err(error) => Err(error),
         }
     }
 }
@@ -236,15 +264,18 @@ fn expect_run(
     input: &[u8],
     reads: &[u64],
     writes: &[u64],
-    answer: Result<u64, Fault>,
+    answer: Result<u64, ScriptError>,
     text: &[u8],
 ) -> Result<(), AllocError> {
     let mut source = source(alloc, input, reads)?;
-    let mut sink = MemorySink::new(alloc, writes.to_vec(alloc)?);
-    let mut joiner = Joiner { begun: false };
-    let found = run_script(alloc, &mut joiner, &mut source, &mut sink);
+    let output = MemorySink::new(alloc, writes.to_vec(alloc)?);
+    let mut joiner = Joiner {
+        begun: false,
+        output,
+    };
+    let found = run_script(alloc, &mut joiner, &mut source);
     assert_eq!(rt; found, answer);
-    assert_eq!(rt; sink.written(), text);
+    assert_eq!(rt; joiner.output.written(), text);
     Ok(())
 }
 
@@ -261,10 +292,50 @@ fn a_script_writes_its_whole_text(rt: HostRuntime) -> Result<(), Fail> {
 #[test]
 fn a_script_stops_at_a_fault(rt: HostRuntime) -> Result<(), Fail> {
     let alloc = rt.alloc();
-    expect_run(&rt, alloc, b"ab\ncd", &[0], &[], Err(Fault::Read), b"")?;
-    expect_run(&rt, alloc, b"ab\ncd", &[1], &[], Err(Fault::Read), b"ab")?;
-    expect_run(&rt, alloc, b"ab\ncd", &[], &[0], Err(Fault::Write), b"")?;
-    expect_run(&rt, alloc, b"ab\ncd", &[], &[1], Err(Fault::Write), b"ab")?;
-    expect_run(&rt, alloc, b"ab\ncd", &[], &[2], Err(Fault::Write), b"abcd")?;
+    expect_run(
+        &rt,
+        alloc,
+        b"ab\ncd",
+        &[0],
+        &[],
+        Err(ScriptError::Read),
+        b"",
+    )?;
+    expect_run(
+        &rt,
+        alloc,
+        b"ab\ncd",
+        &[1],
+        &[],
+        Err(ScriptError::Read),
+        b"ab",
+    )?;
+    expect_run(
+        &rt,
+        alloc,
+        b"ab\ncd",
+        &[],
+        &[0],
+        Err(ScriptError::Write),
+        b"",
+    )?;
+    expect_run(
+        &rt,
+        alloc,
+        b"ab\ncd",
+        &[],
+        &[1],
+        Err(ScriptError::Write),
+        b"ab",
+    )?;
+    expect_run(
+        &rt,
+        alloc,
+        b"ab\ncd",
+        &[],
+        &[2],
+        Err(ScriptError::Write),
+        b"abcd",
+    )?;
     Ok(())
 }

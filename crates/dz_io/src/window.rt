@@ -3,7 +3,7 @@ ghost use Rattle.std.specs.Prelude.{◌≡◌, ◌==◌, ◌≤◌, ◌<◌, ◌
 ghost use Rattle.std.specs.List.{position};
 ghost use Rattle.dz_io.specs.Device.{Gives, IsAtEnd, HasCause};
 ghost use Rattle.dz_io.specs.Lines.{ahead};
-ghost use Rattle.dz_io.specs.Window.{IsPiece};
+ghost use Rattle.dz_io.specs.inner.Window.{IsPiece};
 
 use crate::{Failed, Source};
 use std::alloc::AllocError;
@@ -85,7 +85,11 @@ impl Window {
 
     // Moves the front of the window to the line's end: up to a newline, or as much as there is or has room.
     pub(crate) fn move_piece(&mut self, line: &mut Vec<u8>, room: u64) -> Result<Piece, AllocError>
-        ensures ok { IfOk result (λ kind. (piece : List ℕ) × (line.new.items ≡ line.old.items ++ piece) × (self.old ≡ piece ++ self.new) × (length piece ≤ room) × IsPiece kind room self.old piece) }
+        ensures ok { IfOk result (λ kind. (piece : List ℕ)
+            × (line.new.items ≡ line.old.items ++ piece)
+            × (self.old ≡ piece ++ self.new)
+            × (length piece ≤ room)
+            × IsPiece kind room self.old piece) }
         ensures err_line { OnErr result (line.new.items ≡ line.old.items) }
         ensures err_window { OnErr result (self.new ≡ self.old) }
     {

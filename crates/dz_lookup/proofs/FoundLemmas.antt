@@ -1,13 +1,15 @@
--- What is found has records, and a chain is short.
-use Rattle.std.proofs.Common.{◌≡◌, ℕ, ◌+◌, ◌<◌, ◌≤◌, zero, suc, Bool, true, false, List, [], ◌∷◌, ◌++◌, length, refl, ap, arith, inl, inr, length-append}
+-- What is found, and that it has records.
+use Rattle.std.proofs.Common.{◌≡◌, ℕ, ◌<◌, Bool, true, false, List, [], ◌∷◌, length, refl, ap, arith, inl, inr, sym}
 use Rattle.std.specs.Prelude.{Option, Some, None, filter, ◌==◌, ◌&&◌, not, if◌then◌else◌}
 use Rattle.std.specs.List.{list_any}
 use Rattle.std.specs.List.Sorted.{IsStrictlySortedBy}
 use Rattle.std.proofs.lemmas.Bool.{cases_Bool}
-use Rattle.dz_name.specs.Labels.{same_name}
-use Rattle.dz_record.specs.Record.{Record, record_order, target_of}
-use Rattle.dz_lookup.specs.Found.{Found, here, alias, no_data, no_name, referral, found, at_cut, at_source, here_or, cut, is_cut, owns, source, of_type, records_of, topmost, or_else}
-use Rattle.dz_lookup.specs.Chain.{Aliases, Chased, next_name, onward, followed, chain_from, chain_of}
+use Rattle.dz_name.specs.Words.{Name}
+use Rattle.dz_name.specs.Name.{same_name}
+use Rattle.dz_record.specs.Record.{Record, record_order}
+use Rattle.std.specs.Option.{option_or}
+use Rattle.dz_lookup.specs.Runs.{owns, of_type, records_of}
+use Rattle.dz_lookup.specs.Found.{Found, here, alias, no_data, no_name, referral, found, at_cut, at_source, here_or, cut, is_cut, source, topmost, HasRecords}
 use Rattle.dz_lookup.proofs.InOrder.{records_of_is}
 
 -- the records that answer are some
@@ -34,7 +36,7 @@ chosen true name above h = (refl, cc)
 chosen false name above h = absurd (cc)
 
 passes_or : (test : List (List ℕ) → Bool) (name above : List (List ℕ)) (higher : Option (List (List ℕ))) → (higher ≡ Some above → test above ≡ true)
-    → or_else higher (if test name then Some name else None) ≡ Some above → test above ≡ true
+    → option_or higher (if test name then Some name else None) ≡ Some above → test above ≡ true
 passes_or test name above None rest h = let w = chosen (test name) name above h in rw w.1 at w.0
 passes_or test name above (Some x) rest h = rest h
 
@@ -84,27 +86,21 @@ pub referral_some : (apex : List (List ℕ)) (zone : List Record) (name : List (
 unfolding found
 referral_some apex zone name kind rs up h = referral_in_cut apex zone name kind (cut apex zone name) rs up refl h
 
--- a chain has at most 16 aliases
-few_onward : (next : Aliases → List (List ℕ) → Chased) (n : ℕ) (aliases : Aliases) (target : Option (List (List ℕ))) → ((more : Aliases) (name : List (List ℕ)) → length (next more name).aliases ≤ length more + n)
-    → length (onward next aliases target).aliases ≤ length aliases + n
-few_onward next n aliases None few = omega arith
-few_onward next n aliases (Some name) few = few aliases name
+pub has_records : (apex : Name) (zone : List Record) (name : Name) (kind : ℕ) (f : Found) → IsStrictlySortedBy record_order zone
+    → f ≡ found apex zone name kind → HasRecords f
+has_records apex zone name kind (here rs) up e = here_some apex zone name kind rs (sym e)
+has_records apex zone name kind (alias r) up e = tt
+has_records apex zone name kind no_data up e = tt
+has_records apex zone name kind no_name up e = tt
+has_records apex zone name kind (referral rs) up e = referral_some apex zone name kind rs up (sym e)
 
-few_followed : (next : Aliases → List (List ℕ) → Chased) (n : ℕ) (apex : List (List ℕ)) (aliases : Aliases) (name : List (List ℕ)) (f : Found)
-    → ((more : Aliases) (name : List (List ℕ)) → length (next more name).aliases ≤ length more + n) → length (followed next apex aliases name f).aliases ≤ length aliases + suc n
-few_followed next n apex aliases name (here rs) few = omega arith
-few_followed next n apex aliases name (alias r) few =
-    omega (arith, few_onward next n (aliases ++ (name, r) ∷ []) (next_name apex (aliases ++ (name, r) ∷ []) (target_of r)) few, length-append aliases ((name, r) ∷ []))
-few_followed next n apex aliases name no_data few = omega arith
-few_followed next n apex aliases name no_name few = omega arith
-few_followed next n apex aliases name (referral rs) few = omega arith
+-- what is found at or below a cut, and elsewhere
+pub found_below : (apex : Name) (zone : List Record) (name : Name) (kind : ℕ) (above : Name) (rs : List Record)
+    → Some above ≡ cut apex zone name → rs ≡ of_type 2 (records_of zone above) → referral rs ≡ found apex zone name kind
+unfolding found
+found_below apex zone name kind above rs e is = rw (← e, is) refl
 
-few_from : (n : ℕ) (apex : List (List ℕ)) (zone : List Record) (kind : ℕ) (aliases : Aliases) (name : List (List ℕ)) → length (chain_from n apex zone kind aliases name).aliases ≤ length aliases + n
-unfolding chain_from
-few_from zero apex zone kind aliases name = omega arith
-few_from (suc n) apex zone kind aliases name =
-    few_followed (chain_from n apex zone kind) n apex aliases name (found apex zone name kind) (λ more next. few_from n apex zone kind more next)
-
-pub few_aliases : (apex : List (List ℕ)) (zone : List Record) (name : List (List ℕ)) (kind : ℕ) → length (chain_of apex zone name kind).aliases ≤ 16
-unfolding chain_of
-few_aliases apex zone name kind = few_from 16 apex zone kind [] name
+pub found_elsewhere : (apex : Name) (zone : List Record) (name : Name) (kind : ℕ) (f : Found)
+    → None ≡ cut apex zone name → f ≡ at_source zone kind (source zone name) → f ≡ found apex zone name kind
+unfolding found
+found_elsewhere apex zone name kind f e is = rw (← e) is

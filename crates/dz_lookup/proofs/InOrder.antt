@@ -16,13 +16,13 @@ use Rattle.std.proofs.lemmas.Bool.{cases_Bool, cases_lt, false_from_ne_true}
 use Rattle.std.proofs.lemmas.List.{get_or_default}
 use Rattle.std.proofs.lemmas.List.Folds.{list_any_none, list_any_at, Any-from_list_any}
 use Rattle.std.proofs.lemmas.Bool.Decides.{nat_tests}
-use Rattle.dz_name.specs.Labels.{canonical_order, same_name}
+use Rattle.dz_name.specs.Name.{canonical_order, same_name}
 use Rattle.dz_name.specs.Order.{canonical_total, same_ties}
 use Rattle.dz_record.specs.Record.{Record, record_order}
-use Rattle.dz_record.specs.Zone.{placed, in_order}
-use Rattle.dz_lookup.specs.Found.{of_type, records_of, owns}
-use Rattle.dz_lookup.specs.Searching.{from_owner, from_key, IsBegin, IsEnd}
-use Rattle.dz_lookup.proofs.Runs.{filter_none, run_is, run_begins, partitioned_lt, partitioned_le}
+use Rattle.dz_record.specs.Records.{insertion, in_order}
+use Rattle.dz_lookup.specs.Runs.{of_type, records_of, owns}
+use Rattle.dz_lookup.specs.inner.Places.{from_owner, from_key, IsBegin, IsEnd}
+use Rattle.dz_lookup.proofs.RunLemmas.{filter_none, run_is, partitioned_lt, partitioned_le}
 
 -- owner and type of a record, and their order
 abbrev key : Record → List (List ℕ) × ℕ
@@ -87,8 +87,8 @@ pub keys_upto : (zone : List Record) (name : List (List ℕ)) (kind : ℕ) → I
 keys_upto zone name kind up = partitioned_le (from_key name kind) zone (keys_searchable zone name kind up)
 
 -- records in order stay as they are when they are put in order
-placed_first : (r : Record) (rs : List Record) → AllByRecursion (λ s. record_order r s ≡ Less) rs → placed r rs ≡ r ∷ rs
-unfolding placed
+placed_first : (r : Record) (rs : List Record) → AllByRecursion (λ s. record_order r s ≡ Less) rs → insertion r rs ≡ r ∷ rs
+unfolding insertion
 placed_first r [] h = refl
 placed_first r (s ∷ ss) h = rw h.0 refl
 
@@ -134,12 +134,6 @@ key_filter zone name kind up =
 pub key_run : (zone : List Record) (name : List (List ℕ)) (kind i j : ℕ) → IsStrictlySortedBy record_order zone → i ≤ length zone → j ≤ length zone
     → IsBegin (from_key name kind) zone i → IsEnd (from_key name kind) zone j → take (j - i) (drop i zone) ≡ of_type kind (records_of zone name)
 key_run zone name kind i j up low_in high_in low high = run_is (from_key name kind) zone i j low_in high_in low high ∙ key_filter zone name kind up
-
--- its first record stands where the search for its begin ends
-pub key_begins : (zone rest : List Record) (r : Record) (name : List (List ℕ)) (kind i : ℕ) → IsStrictlySortedBy record_order zone → i ≤ length zone → IsBegin (from_key name kind) zone i
-    → of_type kind (records_of zone name) ≡ r ∷ rest → (i < length zone) × ((d : Record) → get_or zone i d ≡ r)
-key_begins zone rest r name kind i up within begin run =
-    run_begins (from_key name kind) zone rest r i within (keys_searchable zone name kind up) begin (key_filter zone name kind up ∙ run)
 
 -- an owner owns a type where the search for their begin ends at such a record
 eq_between : (o p : Ordering) → is_lt o ≡ false → ordering_index o ≤ ordering_index p → is_eq p ≡ true → is_eq o ≡ true

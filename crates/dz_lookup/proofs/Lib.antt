@@ -1,10 +1,6 @@
 pub mod Follow
 pub mod FoundLemmas
 pub mod InOrder
-pub mod Pairs
-pub mod PlainChains
-pub mod PlainRuns
-pub mod PlainWalk
-pub mod Runs
+pub mod RunLemmas
 pub mod Walk
 pub mod Within

@@ -1,13 +1,15 @@
 -- Walks along the names above a name.
 use Rattle.std.proofs.Common.{◌≡◌, ℕ, ◌+◌, ◌-◌, ◌<◌, ◌≤◌, zero, suc, Bool, true, false, List, [], ◌∷◌, ◌++◌, length, drop, refl, sym, ◌∙◌, ap, arith, length-append, length-drop}
-use Rattle.std.specs.Prelude.{Option, Some, None, if◌then◌else◌, ◌==◌, ◌&&◌}
+use Rattle.std.specs.Prelude.{Some, None, if◌then◌else◌, ◌==◌, ◌&&◌}
 use Rattle.std.specs.List.{All, AllByRecursion}
 use Rattle.std.proofs.Common.{inl, inr}
-use Rattle.dz_name.specs.Labels.{wire_of, same_name, is_within, IsLabel}
+use Rattle.dz_name.specs.Name.{wire_of, same_name, is_within, IsLabel}
 use Rattle.dz_name.specs.Order.{same_decides}
 use Rattle.dz_name.proofs.PartLemmas.{within_suffix}
 use Rattle.dz_record.specs.Record.{Record}
-use Rattle.dz_lookup.specs.Found.{exists, upward, encloser, wildcard_under, source, topmost, is_cut, owns, cut}
+use Rattle.dz_name.specs.Name.{upward}
+use Rattle.dz_lookup.specs.Runs.{exists, owns}
+use Rattle.dz_lookup.specs.Found.{encloser, topmost, is_cut, cut}
 use Rattle.std.proofs.lemmas.Bool.{cases_Bool, false_from_ne_true}
 use Rattle.std.proofs.lemmas.List.Folds.{list_any_at, Any-from_list_any}
 use Rattle.dz_lookup.proofs.Within.{drop_within}
@@ -29,9 +31,6 @@ pub encloser_root : (zone : List Record) (name : List (List ℕ)) → name ≡ [
 unfolding upward
 encloser_root zone [] e none = rw none refl
 encloser_root zone (label ∷ labels) e none = absurd (cc)
-
-pub source_above : (zone : List Record) (name : List (List ℕ)) (above : Option (List (List ℕ))) → exists zone name ≡ false → encloser zone name ≡ above → source zone name ≡ wildcard_under zone above
-source_above zone name above none e = rw (none, e) refl
 
 -- the wire form of a name that stands behind a label is at least two octets shorter
 pub wire_grows : (name : List (List ℕ)) (k : ℕ) → k < length name → AllByRecursion IsLabel (drop k name) → length (wire_of (drop (k + 1) name)) + 2 ≤ length (wire_of (drop k name))

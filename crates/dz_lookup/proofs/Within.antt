@@ -1,7 +1,7 @@
 -- In canonical order the names within a name follow it, and nothing stands between them.
 use Rattle.std.specs.Prelude.{nat_lt, ◌&&◌, Bool}
 use Rattle.std.proofs.lemmas.Bool.Decides.{nat_tests}
-use Rattle.dz_lookup.specs.Links.{no_record}
+use Rattle.dz_lookup.specs.inner.Links.{no_record}
 use Rattle.std.proofs.Common.{◌≡◌, ℕ, ◌<◌, ◌≤◌, true, false, List, [], ◌∷◌, ◌++◌, length, get_or, reverse, take, drop, ◌-◌, ◌+◌, refl, sym, ◌∙◌, ap, arith, inl, inr}
 use Rattle.std.specs.List.Sorted.{IsStrictlySortedBy}
 use Rattle.std.specs.Cmp.Lexicographic.{slice_cmp}
@@ -14,11 +14,11 @@ use Rattle.std.specs.declared.cmp.Ordering.TheVariants.{Less, Equal, Greater}
 use Rattle.std.proofs.lemmas.Bool.{cases_Bool, cases_lt, false_from_ne_true}
 use Rattle.std.proofs.lemmas.List.{append-nil, get_or_default, reverse-append, reverse-reverse, take-append-drop, drop-drop}
 use Rattle.std.proofs.lemmas.List.Folds.{list_any_none, list_any_at, Any-from_list_any}
-use Rattle.dz_name.specs.Labels.{canonical_order, is_within}
+use Rattle.dz_name.specs.Name.{canonical_order, is_within}
 use Rattle.dz_name.proofs.PartLemmas.{within_suffix}
 use Rattle.dz_record.specs.Record.{Record, record_order}
-use Rattle.dz_lookup.specs.Found.{exists}
-use Rattle.dz_lookup.specs.Searching.{from_owner, IsBegin}
+use Rattle.dz_lookup.specs.Runs.{exists}
+use Rattle.dz_lookup.specs.inner.Places.{from_owner, IsBegin}
 use Rattle.dz_name.specs.Order.{canonical_total}
 use Rattle.std.proofs.lemmas.List.Sorted.{sorted_far, ranks_by}
 use Rattle.dz_lookup.proofs.InOrder.{owners_rise}

@@ -1,57 +1,38 @@
--- What a zone says of a name and a type (RFC 1034 section 4.3.2, RFC 4592 sections 2.2 and 3.3).
+-- Meaning: what a zone says of a name and a type (RFC 1034 section 4.3.2, RFC 4592 sections 2.2 and 3.3).
 -- A zone is a list of records in any order.
-use Rattle.std.specs.Prelude.{ℕ, Bool, ◌==◌, ◌&&◌, not, List, [], ◌∷◌, filter, find, Option, Some, None, if◌then◌else◌}
-use Rattle.std.specs.List.{list_any}
-use Rattle.dz_name.specs.Labels.{same_name, is_within, wildcard_of}
+use Rattle.std.specs.Prelude.{◌<◌, Bool, ◌==◌, ◌&&◌, not, List, [], ◌∷◌, find, Option, Some, None, if◌then◌else◌, length, ⊤}
+use Rattle.std.specs.Option.{option_or}
+use Rattle.dz_name.specs.Words.{Name, Kind}
+use Rattle.dz_name.specs.Name.{same_name, upward, wildcard_of}
+use Rattle.dz_name.specs.declared.dns.TheConstants.{TYPE_ANY, TYPE_CNAME, TYPE_NS}
 use Rattle.dz_record.specs.Record.{Record}
-use Rattle.dz_record.specs.Zone.{in_order}
-
--- the records of a type, and those of an owner, in order
-abbrev pub of_type : ℕ → List Record → List Record
-of_type kind rs = filter (λ r. r.kind == kind) rs
-
-abbrev pub records_of : List Record → List (List ℕ) → List Record
-records_of zone name = in_order (filter (λ r. same_name r.owner name) zone)
-
-abbrev pub owns : List Record → ℕ → List (List ℕ) → Bool
-owns zone kind name = list_any (λ r. r.kind == kind && same_name r.owner name) zone
-
--- a name exists where it, or a name below it, owns a record (RFC 4592 section 2.2.2)
-abbrev pub exists : List Record → List (List ℕ) → Bool
-exists zone name = list_any (λ r. is_within r.owner name) zone
-
--- the name and those above it, the longest first, the root last
-unfoldable pub upward : List (List ℕ) → List (List (List ℕ))
-upward [] = [] ∷ []
-upward (label ∷ labels) = (label ∷ labels) ∷ upward labels
+use Rattle.dz_lookup.specs.Runs.{of_type, records_of, owns, exists}
+use Rattle.dz_lookup.specs.declared.found.Found as code
+use Rattle.dz_lookup.specs.declared.found.Found.TheVariants as code_found
 
 -- the longest existing name that the name is within (RFC 4592 section 3.3.1)
-abbrev pub encloser : List Record → List (List ℕ) → Option (List (List ℕ))
+abbrev pub encloser : List Record → Name → Option Name
 encloser zone name = find (exists zone) (upward name)
 
 -- where the answer comes from: the name itself, or else the wildcard below its closest encloser
-abbrev pub wildcard_under : List Record → Option (List (List ℕ)) → Option (List (List ℕ))
+abbrev pub wildcard_under : List Record → Option Name → Option Name
 wildcard_under zone None = None
 wildcard_under zone (Some above) = if exists zone (wildcard_of above) then Some (wildcard_of above) else None
 
-abbrev pub source : List Record → List (List ℕ) → Option (List (List ℕ))
+abbrev pub source : List Record → Name → Option Name
 source zone name = if exists zone name then Some name else wildcard_under zone (encloser zone name)
 
 -- a zone cut: an owner of NS records below the apex (RFC 1034 section 4.2)
-abbrev pub is_cut : List (List ℕ) → List Record → List (List ℕ) → Bool
-is_cut apex zone name = not (same_name name apex) && owns zone 2 name
-
--- the first, or where there is none the second
-abbrev pub or_else : Option (List (List ℕ)) → Option (List (List ℕ)) → Option (List (List ℕ))
-or_else None other = other
-or_else (Some name) other = Some name
+abbrev pub is_cut : Name → List Record → Name → Bool
+is_cut apex zone name = not (same_name name apex) && owns zone TYPE_NS name
 
 -- of a name and those above it, the topmost one that passes a test
-unfoldable pub topmost : (List (List ℕ) → Bool) → List (List ℕ) → Option (List (List ℕ))
+unfoldable pub topmost : (Name → Bool) → Name → Option Name
 topmost test [] = if test [] then Some [] else None
-topmost test (label ∷ labels) = or_else (topmost test labels) (if test (label ∷ labels) then Some (label ∷ labels) else None)
+topmost test (label ∷ labels) =
+    option_or (topmost test labels) (if test (label ∷ labels) then Some (label ∷ labels) else None)
 
-abbrev pub cut : List (List ℕ) → List Record → List (List ℕ) → Option (List (List ℕ))
+abbrev pub cut : Name → List Record → Name → Option Name
 cut apex zone name = topmost (is_cut apex zone) name
 
 pub data Found : Type 0 where
@@ -67,18 +48,42 @@ here_or (r ∷ rs) aliases = here (r ∷ rs)
 here_or [] (r ∷ rs) = alias r
 here_or [] [] = no_data
 
--- type 255 asks for all records (RFC 1035 section 3.2.3, RFC 8482)
-abbrev pub at_node : ℕ → List Record → Found
-at_node kind rs = here_or (if kind == 255 then rs else of_type kind rs) (of_type 5 rs)
+-- the type ANY asks for all records (RFC 1035 section 3.2.3, RFC 8482)
+abbrev pub at_node : Kind → List Record → Found
+at_node kind rs = here_or (if kind == TYPE_ANY then rs else of_type kind rs) (of_type TYPE_CNAME rs)
 
-abbrev pub at_source : List Record → ℕ → Option (List (List ℕ)) → Found
+abbrev pub at_source : List Record → Kind → Option Name → Found
 at_source zone kind None = no_name
 at_source zone kind (Some node) = at_node kind (records_of zone node)
 
-abbrev pub at_cut : List Record → List (List ℕ) → ℕ → Option (List (List ℕ)) → Found
+abbrev pub at_cut : List Record → Name → Kind → Option Name → Found
 at_cut zone name kind None = at_source zone kind (source zone name)
-at_cut zone name kind (Some above) = referral (of_type 2 (records_of zone above))
+at_cut zone name kind (Some above) = referral (of_type TYPE_NS (records_of zone above))
 
 -- what is found for a name within the apex and a type
-unfoldable pub found : List (List ℕ) → List Record → List (List ℕ) → ℕ → Found
+unfoldable pub found : Name → List Record → Name → Kind → Found
 found apex zone name kind = at_cut zone name kind (cut apex zone name)
+
+-- the records that answer, and those of a referral, are some
+abbrev pub HasRecords : Found → Type 0
+HasRecords (here rs) = 0 < length rs
+HasRecords (alias r) = ⊤
+HasRecords no_data = ⊤
+HasRecords no_name = ⊤
+HasRecords (referral rs) = 0 < length rs
+
+-- what the code's answer means
+abbrev pub meaning : code.Found → Found
+meaning (code_found.Here records) = here records.now
+meaning (code_found.Alias alias_found) = alias alias_found.now
+meaning code_found.NoData = no_data
+meaning code_found.NoName = no_name
+meaning (code_found.Referral servers) = referral servers.now
+
+-- the CNAME that leads on, if one does
+abbrev pub alias_of : Found → Option Record
+alias_of (here rs) = None
+alias_of (alias r) = Some r
+alias_of no_data = None
+alias_of no_name = None
+alias_of (referral rs) = None

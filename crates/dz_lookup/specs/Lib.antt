@@ -1,6 +1,5 @@
 pub mod Chain
+pub mod Examples
 pub mod Found
-pub mod Links
-pub mod Meaning
-pub mod Rows
-pub mod Searching
+pub mod Runs
+pub mod inner

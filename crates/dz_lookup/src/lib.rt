@@ -1,20 +1,15 @@
 //! What a zone answers for a name and a type (RFC 1034 section 4.3.2, RFC 4592).
 //!
-//! The lookups take a version of a zone, allocate nothing, and say nothing of how they find its records: by searches in
-//! the records, which are in canonical order. The plain programs answer the same by a look at each record, in the words
-//! of the definitions; they serve to judge few lookups.
+//! The lookups take a version of a zone, allocate nothing, and find its records by searches in them, since they are in
+//! canonical order.
 #![tactic(auto)]
 
-mod chasing;
-mod finding;
-mod links;
-mod lookup;
-mod plain;
-mod searching;
+mod chain;
+mod found;
+mod runs;
 #[cfg(test)]
 mod tests;
 
-pub use chasing::{Chain, Last};
-pub use finding::Found;
-pub use lookup::{chase, find, records_of, rrset_of};
-pub use plain::{PlainChain, plain_chase, plain_find};
+pub use chain::{Chain, Last, chase};
+pub use found::{Found, find};
+pub use runs::{records_of, rrset_of};

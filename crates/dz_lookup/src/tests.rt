@@ -1,4 +1,8 @@
 use super::*;
+use dz_name::dns::{
+    TYPE_A, TYPE_ANY, TYPE_CNAME, TYPE_MX, TYPE_NS, TYPE_PTR, TYPE_RRSIG, TYPE_SOA, TYPE_SRV,
+    TYPE_TXT,
+};
 use dz_name::{Name, Octets};
 use dz_record::Rr;
 use dz_zone::{Version, check};
@@ -6,27 +10,8 @@ use std::alloc::{AllocError, Global};
 use std::process::Abort;
 use std::test::*;
 
-const A: u16 = 1;
-
-const NS: u16 = 2;
-
-const CNAME: u16 = 5;
-
-const SOA: u16 = 6;
-
-const PTR: u16 = 12;
-
-const HINFO: u16 = 13;
-
-const MX: u16 = 15;
-
-const TXT: u16 = 16;
-
-const SRV: u16 = 33;
-
-const RRSIG: u16 = 46;
-
-const ANY: u16 = 255;
+/// A host's hardware and system (RFC 1035 section 3.3.2), a type whose RDATA has no name.
+const TYPE_HINFO: u16 = 13;
 
 /// Owner, type, and the name in the RDATA, or its text.
 type Row = (&'static [u8], u16, &'static [u8]);
@@ -43,71 +28,71 @@ enum Seen {
 
 /// RFC 4592 section 2.2.1.
 const WILDCARDS: [Row; 11] = [
-    (b"example", SOA, b""),
-    (b"example", NS, b"ns.example.com"),
-    (b"example", NS, b"ns.example.net"),
-    (b"*.example", TXT, b"this is a wildcard"),
-    (b"*.example", MX, b"host1.example"),
-    (b"sub.*.example", TXT, b"this is not a wildcard"),
-    (b"host1.example", A, b"\xc0\x00\x02\x01"),
-    (b"_ssh._tcp.host1.example", SRV, b"host1.example"),
-    (b"_ssh._tcp.host2.example", SRV, b"host2.example"),
-    (b"subdel.example", NS, b"ns.example.com"),
-    (b"subdel.example", NS, b"ns.example.net"),
+    (b"example", TYPE_SOA, b""),
+    (b"example", TYPE_NS, b"ns.example.com"),
+    (b"example", TYPE_NS, b"ns.example.net"),
+    (b"*.example", TYPE_TXT, b"this is a wildcard"),
+    (b"*.example", TYPE_MX, b"host1.example"),
+    (b"sub.*.example", TYPE_TXT, b"this is not a wildcard"),
+    (b"host1.example", TYPE_A, b"\xc0\x00\x02\x01"),
+    (b"_ssh._tcp.host1.example", TYPE_SRV, b"host1.example"),
+    (b"_ssh._tcp.host2.example", TYPE_SRV, b"host2.example"),
+    (b"subdel.example", TYPE_NS, b"ns.example.com"),
+    (b"subdel.example", TYPE_NS, b"ns.example.net"),
 ];
 
 /// The root zone of RFC 1034 section 6.1.
 const ROOT: [Row; 24] = [
-    (b"", SOA, b""),
-    (b"", NS, b"a.isi.edu"),
-    (b"", NS, b"c.isi.edu"),
-    (b"", NS, b"sri-nic.arpa"),
-    (b"mil", NS, b"sri-nic.arpa"),
-    (b"mil", NS, b"a.isi.edu"),
-    (b"edu", NS, b"sri-nic.arpa"),
-    (b"edu", NS, b"c.isi.edu"),
-    (b"sri-nic.arpa", A, b"\x1a\x00\x00\x49"),
-    (b"sri-nic.arpa", A, b"\x0a\x00\x00\x33"),
-    (b"sri-nic.arpa", MX, b"sri-nic.arpa"),
-    (b"sri-nic.arpa", HINFO, b"\x08DEC-2060\x06TOPS20"),
-    (b"acc.arpa", A, b"\x1a\x06\x00\x41"),
-    (b"acc.arpa", HINFO, b"\x09PDP-11/70\x04UNIX"),
-    (b"acc.arpa", MX, b"acc.arpa"),
-    (b"usc-isic.arpa", CNAME, b"c.isi.edu"),
-    (b"73.0.0.26.in-addr.arpa", PTR, b"sri-nic.arpa"),
-    (b"65.0.6.26.in-addr.arpa", PTR, b"acc.arpa"),
-    (b"51.0.0.10.in-addr.arpa", PTR, b"sri-nic.arpa"),
-    (b"52.0.0.10.in-addr.arpa", PTR, b"c.isi.edu"),
-    (b"103.0.3.26.in-addr.arpa", PTR, b"a.isi.edu"),
-    (b"a.isi.edu", A, b"\x1a\x03\x00\x67"),
-    (b"c.isi.edu", A, b"\x0a\x00\x00\x34"),
-    (b"_probe.c.isi.edu", TXT, b"below a cut"),
+    (b"", TYPE_SOA, b""),
+    (b"", TYPE_NS, b"a.isi.edu"),
+    (b"", TYPE_NS, b"c.isi.edu"),
+    (b"", TYPE_NS, b"sri-nic.arpa"),
+    (b"mil", TYPE_NS, b"sri-nic.arpa"),
+    (b"mil", TYPE_NS, b"a.isi.edu"),
+    (b"edu", TYPE_NS, b"sri-nic.arpa"),
+    (b"edu", TYPE_NS, b"c.isi.edu"),
+    (b"sri-nic.arpa", TYPE_A, b"\x1a\x00\x00\x49"),
+    (b"sri-nic.arpa", TYPE_A, b"\x0a\x00\x00\x33"),
+    (b"sri-nic.arpa", TYPE_MX, b"sri-nic.arpa"),
+    (b"sri-nic.arpa", TYPE_HINFO, b"\x08DEC-2060\x06TOPS20"),
+    (b"acc.arpa", TYPE_A, b"\x1a\x06\x00\x41"),
+    (b"acc.arpa", TYPE_HINFO, b"\x09PDP-11/70\x04UNIX"),
+    (b"acc.arpa", TYPE_MX, b"acc.arpa"),
+    (b"usc-isic.arpa", TYPE_CNAME, b"c.isi.edu"),
+    (b"73.0.0.26.in-addr.arpa", TYPE_PTR, b"sri-nic.arpa"),
+    (b"65.0.6.26.in-addr.arpa", TYPE_PTR, b"acc.arpa"),
+    (b"51.0.0.10.in-addr.arpa", TYPE_PTR, b"sri-nic.arpa"),
+    (b"52.0.0.10.in-addr.arpa", TYPE_PTR, b"c.isi.edu"),
+    (b"103.0.3.26.in-addr.arpa", TYPE_PTR, b"a.isi.edu"),
+    (b"a.isi.edu", TYPE_A, b"\x1a\x03\x00\x67"),
+    (b"c.isi.edu", TYPE_A, b"\x0a\x00\x00\x34"),
+    (b"_probe.c.isi.edu", TYPE_TXT, b"below a cut"),
 ];
 
 /// Cuts below a cut and at a wildcard, wildcards with aliases, signatures, and names without records.
 const MIXED: [Row; 22] = [
-    (b"example", SOA, b""),
-    (b"example", NS, b"ns.example"),
-    (b"ns.example", A, b"\xc0\x00\x02\x01"),
-    (b"a.example", CNAME, b"b.example"),
-    (b"a.example", RRSIG, b"example"),
-    (b"b.example", A, b"\xc0\x00\x02\x02"),
-    (b"b.example", RRSIG, b"example"),
-    (b"*.w.example", CNAME, b"a.example"),
-    (b"x.y.w.example", TXT, b"shadows"),
-    (b"*.d.example", NS, b"ns.example"),
-    (b"ns.d.example", A, b"\xc0\x00\x02\x03"),
-    (b"cut.example", NS, b"ns.cut.example"),
-    (b"ns.cut.example", A, b"\xc0\x00\x02\x04"),
-    (b"deep.cut.example", NS, b"ns.example"),
-    (b"e.f.g.example", TXT, b"deep"),
-    (b"itself.example", CNAME, b"itself.example"),
-    (b"one.example", CNAME, b"two.example"),
-    (b"two.example", CNAME, b"one.example"),
-    (b"out.example", CNAME, b"example.org"),
-    (b"lost.example", CNAME, b"q.w.y.example"),
-    (b"far.example", CNAME, b"x.cut.example"),
-    (b"*.s.example", CNAME, b"t.s.example"),
+    (b"example", TYPE_SOA, b""),
+    (b"example", TYPE_NS, b"ns.example"),
+    (b"ns.example", TYPE_A, b"\xc0\x00\x02\x01"),
+    (b"a.example", TYPE_CNAME, b"b.example"),
+    (b"a.example", TYPE_RRSIG, b"example"),
+    (b"b.example", TYPE_A, b"\xc0\x00\x02\x02"),
+    (b"b.example", TYPE_RRSIG, b"example"),
+    (b"*.w.example", TYPE_CNAME, b"a.example"),
+    (b"x.y.w.example", TYPE_TXT, b"shadows"),
+    (b"*.d.example", TYPE_NS, b"ns.example"),
+    (b"ns.d.example", TYPE_A, b"\xc0\x00\x02\x03"),
+    (b"cut.example", TYPE_NS, b"ns.cut.example"),
+    (b"ns.cut.example", TYPE_A, b"\xc0\x00\x02\x04"),
+    (b"deep.cut.example", TYPE_NS, b"ns.example"),
+    (b"e.f.g.example", TYPE_TXT, b"deep"),
+    (b"itself.example", TYPE_CNAME, b"itself.example"),
+    (b"one.example", TYPE_CNAME, b"two.example"),
+    (b"two.example", TYPE_CNAME, b"one.example"),
+    (b"out.example", TYPE_CNAME, b"example.org"),
+    (b"lost.example", TYPE_CNAME, b"q.w.y.example"),
+    (b"far.example", TYPE_CNAME, b"x.cut.example"),
+    (b"*.s.example", TYPE_CNAME, b"t.s.example"),
 ];
 
 /// A name by its labels with dots between them; the root by the empty text.
@@ -127,11 +112,11 @@ fn named(rt: &impl Abort, text: &[u8]) -> Name {
 fn rdata(rt: &impl Abort, alloc: Global, kind: u16, text: &[u8]) -> Result<Octets, AllocError> {
     let mut octets = Vec::new(alloc);
     let (before, behind) = match kind {
-        NS | CNAME | PTR => (0, 0),
-        MX => (2, 0),
-        SRV => (6, 0),
-        RRSIG => (18, 4),
-        SOA => (1, 20),
+        TYPE_NS | TYPE_CNAME | TYPE_PTR => (0, 0),
+        TYPE_MX => (2, 0),
+        TYPE_SRV => (6, 0),
+        TYPE_RRSIG => (18, 4),
+        TYPE_SOA => (1, 20),
         _ => {
             octets.extend_from_slice(text)?;
             return Ok(Octets::from_vec(octets));
@@ -155,15 +140,15 @@ fn record(
     kind: u16,
     text: &[u8],
 ) -> Result<Rr, AllocError> {
-    match Rr::make(*owner, kind, 3600, rdata(rt, alloc, kind, text)?) {
+    match Rr::make(alloc, *owner, kind, 3600, rdata(rt, alloc, kind, text)?) {
         Ok(rr) => Ok(rr),
         Err(error) => panic!(rt; "{error:?} of {owner:?} {kind}"),
     }
 }
 
 /// The version of a zone with these records.
-fn version(rt: &impl Abort, apex: &Name, records: Vec<Rr>) -> Version {
-    match check(apex, records) {
+fn version(rt: &impl Abort, alloc: Global, apex: &Name, records: Vec<Rr>) -> Version {
+    match check(alloc, apex, records) {
         Ok(version) => version,
         Err(fault) => panic!(rt; "{fault:?} of {apex:?}"),
     }
@@ -175,12 +160,12 @@ fn zone(rt: &impl Abort, alloc: Global, apex: &[u8], rows: &[Row]) -> Result<Ver
     for (owner, kind, text) in rows {
         records.push(record(rt, alloc, &named(rt, owner), *kind, text)?)?;
     }
-    Ok(version(rt, &named(rt, apex), records))
+    Ok(version(rt, alloc, &named(rt, apex), records))
 }
 
 fn owner_of(rt: &impl Abort, records: &[Rr]) -> Name {
     match records.first() {
-        Some(first) => *first.owner(),
+        Some(first) => first.owner(),
         None => panic!(rt; "no records"),
     }
 }
@@ -189,106 +174,19 @@ fn owner_of(rt: &impl Abort, records: &[Rr]) -> Name {
 fn shown(rt: &impl Abort, found: Found) -> Seen {
     match found {
         Found::Here(records) => Seen::Here(owner_of(rt, records), records.len()),
-        Found::Alias(alias) => Seen::Alias(*alias.owner()),
+        Found::Alias(alias) => Seen::Alias(alias.owner()),
         Found::NoData => Seen::NoData,
         Found::NoName => Seen::NoName,
         Found::Referral(servers) => Seen::Referral(owner_of(rt, servers), servers.len()),
     }
 }
 
-/// Whether two records are the same, TTL included.
-fn is_same(some: &Rr, other: &Rr) -> bool {
-    some.same(other) && some.ttl() == other.ttl()
-}
-
-fn are_same(some: &[Rr], others: &[Rr]) -> bool {
-    some.len() == others.len() && some.iter().zip(others).all(|(a, b)| is_same(a, b))
-}
-
-/// Whether the same is found, record by record.
-fn is_same_found(found: Found, other: Found) -> bool {
-    match (found, other) {
-        (Found::Here(some), Found::Here(others)) => are_same(some, others),
-        (Found::Alias(some), Found::Alias(other)) => is_same(some, other),
-        (Found::NoData, Found::NoData) => true,
-        (Found::NoName, Found::NoName) => true,
-        (Found::Referral(some), Found::Referral(others)) => are_same(some, others),
-        _ => false,
-    }
-}
-
-/// Whether the chains end in the same way.
-fn is_same_end(last: &Last, other: &Last) -> bool {
-    match last {
-        Last::Stopped => matches!(other, Last::Stopped),
-        Last::Found(found, name) => is_found_for(other, found, name),
-    }
-}
-
-/// Whether a chain ends with this found for this name.
-fn is_found_for(last: &Last, wanted: &Found, wanted_name: &Name) -> bool {
-    match last {
-        Last::Stopped => false,
-        Last::Found(found, name) => is_same_found(*found, *wanted) && name == wanted_name,
-    }
-}
-
-/// The searches answer as the plain programs do: what is found, and the chain from there.
-fn compare(
-    rt: &impl Abort,
-    alloc: Global,
-    version: &Version,
-    name: &Name,
-    kind: u16,
-) -> Result<(), AllocError> {
-    assert!(rt; name.is_within(version.apex()));
-    let found = find(version, name, kind);
-    let plain = plain_find(version.apex(), version.records(), name, kind);
-    assert!(rt;
-        is_same_found(found, plain),
-        "{found:?} and {plain:?} of {name:?} {kind}"
-    );
-    compare_chains(rt, alloc, version, name, kind)
-}
-
-fn compare_chains(
-    rt: &impl Abort,
-    alloc: Global,
-    version: &Version,
-    name: &Name,
-    kind: u16,
-) -> Result<(), AllocError> {
-    assert!(rt; name.is_within(version.apex()));
-    let plain = plain_chase(alloc, version.apex(), version.records(), name, kind)?;
-    let mut chain = Chain::empty();
-    let last = chase(version, name, kind, &mut chain);
-    assert!(rt;
-        is_same_end(&last, &plain.last),
-        "{last:?} of {name:?} {kind}"
-    );
-    assert_eq!(rt; chain.len(), plain.names.len(), "of {name:?} {kind}");
-    for (number, (name, alias)) in plain.names.iter().zip(&plain.aliases).enumerate() {
-        assert!(rt; number < chain.len());
-        assert_eq!(rt; chain.name(number), name, "of {number}");
-        assert!(rt; is_same(chain.record(number), alias), "of {number}");
-    }
-    Ok(())
-}
-
-/// What is found, by searches and by the plain program.
-fn expect(
-    rt: &impl Abort,
-    alloc: Global,
-    version: &Version,
-    name: &[u8],
-    kind: u16,
-    wanted: Seen,
-) -> Result<(), AllocError> {
+/// What is found.
+fn expect(rt: &impl Abort, version: &Version, name: &[u8], kind: u16, wanted: Seen) {
     let name = named(rt, name);
     assert!(rt; name.is_within(version.apex()));
     let found = shown(rt, find(version, &name, kind));
     assert_eq!(rt; found, wanted, "of {name:?} {kind}");
-    compare(rt, alloc, version, &name, kind)
 }
 
 #[test]
@@ -299,30 +197,30 @@ fn wildcards_answer_as_rfc_4592_says(rt: HostRuntime) -> Result<(), Fail> {
     let subdel = named(&rt, b"subdel.example");
     let rows: [(&[u8], u16, Seen); 16] = [
         // synthesized from the wildcard
-        (b"host3.example", MX, Seen::Here(wildcard, 1)),
-        (b"host3.example", A, Seen::NoData),
-        (b"foo.bar.example", TXT, Seen::Here(wildcard, 1)),
+        (b"host3.example", TYPE_MX, Seen::Here(wildcard, 1)),
+        (b"host3.example", TYPE_A, Seen::NoData),
+        (b"foo.bar.example", TYPE_TXT, Seen::Here(wildcard, 1)),
         // not synthesized: the name exists, or the wildcard is not below its closest encloser
-        (b"host1.example", MX, Seen::NoData),
-        (b"sub.*.example", MX, Seen::NoData),
-        (b"_telnet._tcp.host1.example", SRV, Seen::NoName),
-        (b"host.subdel.example", A, Seen::Referral(subdel, 2)),
-        (b"ghost.*.example", MX, Seen::NoName),
+        (b"host1.example", TYPE_MX, Seen::NoData),
+        (b"sub.*.example", TYPE_MX, Seen::NoData),
+        (b"_telnet._tcp.host1.example", TYPE_SRV, Seen::NoName),
+        (b"host.subdel.example", TYPE_A, Seen::Referral(subdel, 2)),
+        (b"ghost.*.example", TYPE_MX, Seen::NoName),
         // a name without records of its own exists
-        (b"host2.example", MX, Seen::NoData),
-        (b"_tcp.host2.example", ANY, Seen::NoData),
+        (b"host2.example", TYPE_MX, Seen::NoData),
+        (b"_tcp.host2.example", TYPE_ANY, Seen::NoData),
         // the wildcard asked for by its name
-        (b"*.example", TXT, Seen::Here(wildcard, 1)),
-        (b"*.example", A, Seen::NoData),
+        (b"*.example", TYPE_TXT, Seen::Here(wildcard, 1)),
+        (b"*.example", TYPE_A, Seen::NoData),
         // all types
-        (b"host3.example", ANY, Seen::Here(wildcard, 2)),
-        (b"example", ANY, Seen::Here(apex, 3)),
+        (b"host3.example", TYPE_ANY, Seen::Here(wildcard, 2)),
+        (b"example", TYPE_ANY, Seen::Here(apex, 3)),
         // NS records of the apex are an answer, those of a cut are none
-        (b"example", NS, Seen::Here(apex, 2)),
-        (b"subdel.example", NS, Seen::Referral(subdel, 2)),
+        (b"example", TYPE_NS, Seen::Here(apex, 2)),
+        (b"subdel.example", TYPE_NS, Seen::Referral(subdel, 2)),
     ];
     for (name, kind, wanted) in rows {
-        expect(&rt, rt.alloc(), &version, name, kind, wanted)?;
+        expect(&rt, &version, name, kind, wanted);
     }
     Ok(())
 }
@@ -336,23 +234,23 @@ fn the_root_zone_answers_as_rfc_1034_says(rt: HostRuntime) -> Result<(), Fail> {
     let edu = named(&rt, b"edu");
     let rows: [(&[u8], u16, Seen); 12] = [
         // sections 6.2.1 to 6.2.7
-        (b"sri-nic.arpa", A, Seen::Here(sri_nic, 2)),
-        (b"sri-nic.arpa", ANY, Seen::Here(sri_nic, 4)),
-        (b"sri-nic.arpa", MX, Seen::Here(sri_nic, 1)),
-        (b"sri-nic.arpa", NS, Seen::NoData),
-        (b"sir-nic.arpa", A, Seen::NoName),
-        (b"brl.mil", A, Seen::Referral(mil, 2)),
-        (b"usc-isic.arpa", A, Seen::Alias(usc_isic)),
-        (b"usc-isic.arpa", CNAME, Seen::Here(usc_isic, 1)),
+        (b"sri-nic.arpa", TYPE_A, Seen::Here(sri_nic, 2)),
+        (b"sri-nic.arpa", TYPE_ANY, Seen::Here(sri_nic, 4)),
+        (b"sri-nic.arpa", TYPE_MX, Seen::Here(sri_nic, 1)),
+        (b"sri-nic.arpa", TYPE_NS, Seen::NoData),
+        (b"sir-nic.arpa", TYPE_A, Seen::NoName),
+        (b"brl.mil", TYPE_A, Seen::Referral(mil, 2)),
+        (b"usc-isic.arpa", TYPE_A, Seen::Alias(usc_isic)),
+        (b"usc-isic.arpa", TYPE_CNAME, Seen::Here(usc_isic, 1)),
         // glue is no answer
-        (b"a.isi.edu", A, Seen::Referral(edu, 2)),
-        (b"c.isi.edu", ANY, Seen::Referral(edu, 2)),
+        (b"a.isi.edu", TYPE_A, Seen::Referral(edu, 2)),
+        (b"c.isi.edu", TYPE_ANY, Seen::Referral(edu, 2)),
         // names with records below them alone
-        (b"arpa", A, Seen::NoData),
-        (b"in-addr.arpa", ANY, Seen::NoData),
+        (b"arpa", TYPE_A, Seen::NoData),
+        (b"in-addr.arpa", TYPE_ANY, Seen::NoData),
     ];
     for (name, kind, wanted) in rows {
-        expect(&rt, rt.alloc(), &version, name, kind, wanted)?;
+        expect(&rt, &version, name, kind, wanted);
     }
     Ok(())
 }
@@ -365,47 +263,35 @@ fn a_mixed_zone_answers(rt: HostRuntime) -> Result<(), Fail> {
     let wildcard_cut = named(&rt, b"*.d.example");
     let rows: [(&[u8], u16, Seen); 15] = [
         // NS below a wildcard is an ordinary type, but by its own name it is a cut
-        (b"x.d.example", NS, Seen::Here(wildcard_cut, 1)),
-        (b"x.d.example", A, Seen::NoData),
-        (b"*.d.example", NS, Seen::Referral(wildcard_cut, 1)),
-        (b"x.*.d.example", A, Seen::Referral(wildcard_cut, 1)),
+        (b"x.d.example", TYPE_NS, Seen::Here(wildcard_cut, 1)),
+        (b"x.d.example", TYPE_A, Seen::NoData),
+        (b"*.d.example", TYPE_NS, Seen::Referral(wildcard_cut, 1)),
+        (b"x.*.d.example", TYPE_A, Seen::Referral(wildcard_cut, 1)),
         // the cut nearest the apex, and glue below it
-        (b"deep.cut.example", NS, Seen::Referral(cut, 1)),
-        (b"a.deep.cut.example", A, Seen::Referral(cut, 1)),
-        (b"ns.cut.example", A, Seen::Referral(cut, 1)),
+        (b"deep.cut.example", TYPE_NS, Seen::Referral(cut, 1)),
+        (b"a.deep.cut.example", TYPE_A, Seen::Referral(cut, 1)),
+        (b"ns.cut.example", TYPE_A, Seen::Referral(cut, 1)),
         // an empty name shadows the wildcard beside it
-        (b"q.w.example", A, Seen::Alias(named(&rt, b"*.w.example"))),
-        (b"y.w.example", A, Seen::NoData),
-        (b"z.y.w.example", A, Seen::NoName),
-        (b"f.g.example", ANY, Seen::NoData),
-        (b"h.f.g.example", A, Seen::NoName),
+        (
+            b"q.w.example",
+            TYPE_A,
+            Seen::Alias(named(&rt, b"*.w.example")),
+        ),
+        (b"y.w.example", TYPE_A, Seen::NoData),
+        (b"z.y.w.example", TYPE_A, Seen::NoName),
+        (b"f.g.example", TYPE_ANY, Seen::NoData),
+        (b"h.f.g.example", TYPE_A, Seen::NoName),
         // all types, signatures among them
-        (b"b.example", ANY, Seen::Here(b, 2)),
-        (b"a.example", ANY, Seen::Here(named(&rt, b"a.example"), 2)),
-        (b"b.example", RRSIG, Seen::Here(b, 1)),
+        (b"b.example", TYPE_ANY, Seen::Here(b, 2)),
+        (
+            b"a.example",
+            TYPE_ANY,
+            Seen::Here(named(&rt, b"a.example"), 2),
+        ),
+        (b"b.example", TYPE_RRSIG, Seen::Here(b, 1)),
     ];
     for (name, kind, wanted) in rows {
-        expect(&rt, rt.alloc(), &version, name, kind, wanted)?;
-    }
-    Ok(())
-}
-
-#[test]
-fn searches_and_plain_programs_find_the_same(rt: HostRuntime) -> Result<(), Fail> {
-    let labels: [&[u8]; 9] = [b"a", b"b", b"*", b"w", b"d", b"ns", b"cut", b"deep", b"f"];
-    let version = zone(&rt, rt.alloc(), b"example", &MIXED)?;
-    for first in labels {
-        for second in labels {
-            let mut text = vec![in rt.alloc(); b'.'; 1]?;
-            text.extend_from_slice(first)?;
-            text.push(b'.')?;
-            text.extend_from_slice(second)?;
-            text.extend_from_slice(b".example")?;
-            let name = named(&rt, &text);
-            for kind in [A, NS, CNAME, TXT, RRSIG, ANY] {
-                compare(&rt, rt.alloc(), &version, &name, kind)?;
-            }
-        }
+        expect(&rt, &version, name, kind, wanted);
     }
     Ok(())
 }
@@ -414,11 +300,11 @@ fn searches_and_plain_programs_find_the_same(rt: HostRuntime) -> Result<(), Fail
 fn records_stand_by_owner_and_by_type(rt: HostRuntime) -> Result<(), Fail> {
     let version = zone(&rt, rt.alloc(), b"example", &WILDCARDS)?;
     let rows: [(&[u8], u16, usize, usize); 4] = [
-        (b"example", NS, 3, 2),
-        (b"*.example", MX, 2, 1),
-        (b"host1.example", MX, 1, 0),
+        (b"example", TYPE_NS, 3, 2),
+        (b"*.example", TYPE_MX, 2, 1),
+        (b"host1.example", TYPE_MX, 1, 0),
         // a name that exists without records
-        (b"host2.example", SRV, 0, 0),
+        (b"host2.example", TYPE_SRV, 0, 0),
     ];
     for (owner, kind, all, wanted) in rows {
         let owner = named(&rt, owner);
@@ -440,12 +326,7 @@ type Links = (
     Option<(Seen, Name)>,
 );
 
-fn expect_chain(
-    rt: &impl Abort,
-    alloc: Global,
-    version: &Version,
-    (name, kind, names, last): &Links,
-) -> Result<(), AllocError> {
+fn expect_chain(rt: &impl Abort, version: &Version, (name, kind, names, last): &Links) {
     let asked = named(rt, name);
     assert!(rt; asked.is_within(version.apex()));
     let mut chain = Chain::empty();
@@ -458,9 +339,8 @@ fn expect_chain(
     for (number, name) in names.iter().enumerate() {
         assert!(rt; number < chain.len());
         assert_eq!(rt; *chain.name(number), named(rt, name), "of {number}");
-        assert_eq!(rt; chain.record(number).kind(), CNAME, "of {number}");
+        assert_eq!(rt; chain.record(number).kind(), TYPE_CNAME, "of {number}");
     }
-    compare(rt, alloc, version, &asked, *kind)
 }
 
 /// One record of the last name.
@@ -478,27 +358,37 @@ fn aliases_are_followed(rt: HostRuntime) -> Result<(), Fail> {
     let no_name = Some((Seen::NoName, named(&rt, b"q.w.y.example")));
     let referral = Some((Seen::Referral(cut, 1), named(&rt, b"x.cut.example")));
     let rows: [Links; 11] = [
-        (b"b.example", A, &[], one_of(b)),
-        (b"a.example", A, &[b"a.example"], one_of(b)),
-        (b"a.example", TXT, &[b"a.example"], no_data),
-        (b"a.example", CNAME, &[], one_of(a)),
+        (b"b.example", TYPE_A, &[], one_of(b)),
+        (b"a.example", TYPE_A, &[b"a.example"], one_of(b)),
+        (b"a.example", TYPE_TXT, &[b"a.example"], no_data),
+        (b"a.example", TYPE_CNAME, &[], one_of(a)),
         // the wildcard's alias stands with the asked name
         (
             b"q.w.example",
-            A,
+            TYPE_A,
             &[b"q.w.example", b"a.example"],
             one_of(b),
         ),
-        (b"lost.example", A, &[b"lost.example"], no_name),
-        (b"far.example", A, &[b"far.example"], referral),
+        (b"lost.example", TYPE_A, &[b"lost.example"], no_name),
+        (b"far.example", TYPE_A, &[b"far.example"], referral),
         // outside the zone, and names that were looked up
-        (b"out.example", A, &[b"out.example"], None),
-        (b"itself.example", A, &[b"itself.example"], None),
-        (b"one.example", A, &[b"one.example", b"two.example"], None),
-        (b"q.s.example", A, &[b"q.s.example", b"t.s.example"], None),
+        (b"out.example", TYPE_A, &[b"out.example"], None),
+        (b"itself.example", TYPE_A, &[b"itself.example"], None),
+        (
+            b"one.example",
+            TYPE_A,
+            &[b"one.example", b"two.example"],
+            None,
+        ),
+        (
+            b"q.s.example",
+            TYPE_A,
+            &[b"q.s.example", b"t.s.example"],
+            None,
+        ),
     ];
     for row in &rows {
-        expect_chain(&rt, rt.alloc(), &version, row)?;
+        expect_chain(&rt, &version, row);
     }
     Ok(())
 }
@@ -515,18 +405,24 @@ fn link(rt: &impl Abort, number: u8) -> Name {
 fn alias_zone(rt: &impl Abort, alloc: Global, aliases: u8) -> Result<Version, AllocError> {
     let apex = named(rt, b"z");
     let mut records = Vec::new(alloc);
-    records.push(record(rt, alloc, &apex, SOA, b"z")?)?;
-    records.push(record(rt, alloc, &apex, NS, b"ns.example")?)?;
+    records.push(record(rt, alloc, &apex, TYPE_SOA, b"z")?)?;
+    records.push(record(rt, alloc, &apex, TYPE_NS, b"ns.example")?)?;
     for number in 0..aliases {
         let mut target = Vec::new(alloc);
         target.extend_from_slice(link(rt, number.saturating_add(1)).wire())?;
-        match Rr::make(link(rt, number), CNAME, 60, Octets::from_vec(target)) {
+        match Rr::make(
+            alloc,
+            link(rt, number),
+            TYPE_CNAME,
+            60,
+            Octets::from_vec(target),
+        ) {
             Ok(rr) => records.push(rr)?,
             Err(error) => panic!(rt; "{error:?}"),
         }
     }
-    records.push(record(rt, alloc, &link(rt, aliases), A, b"\xc0\x00\x02\x01")?)?;
-    Ok(version(rt, &apex, records))
+    records.push(record(rt, alloc, &link(rt, aliases), TYPE_A, b"\xc0\x00\x02\x01")?)?;
+    Ok(version(rt, alloc, &apex, records))
 }
 
 #[test]
@@ -544,8 +440,8 @@ fn sixteen_aliases_are_followed(rt: HostRuntime) -> Result<(), Fail> {
     ];
     for (aliases, count, wanted) in &rows {
         let version = alias_zone(&rt, rt.alloc(), *aliases)?;
-        let row: Links = (b"c00.z", A, names.split_at(*count).0, *wanted);
-        expect_chain(&rt, rt.alloc(), &version, &row)?;
+        let row: Links = (b"c00.z", TYPE_A, names.split_at(*count).0, *wanted);
+        expect_chain(&rt, &version, &row);
     }
     Ok(())
 }

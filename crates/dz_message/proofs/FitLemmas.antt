@@ -3,15 +3,16 @@ use Rattle.std.proofs.Common.{◌≡◌, ℕ, ◌-◌, ◌+◌, ◌≤◌, List,
 use Rattle.std.specs.Prelude.{nat_le, nat_lt, ◌==◌, slice_index, if◌then◌else◌}
 use Rattle.std.proofs.lemmas.List.{length-take-le, length-drop, get_or-take, get_or-drop, get_or_append_left, get_or-append-add}
 use Rattle.std.proofs.lemmas.Bool.Decides.{nat_tests, leb_tells, eqb_tells}
-use Rattle.dz_name.specs.Labels.{wire_of}
-use Rattle.dz_name.specs.Reading.{Reading, name_at}
+use Rattle.dz_name.specs.Name.{wire_of}
+use Rattle.dz_name.specs.Reading.{name_at}
 use Rattle.dz_name.proofs.ReadingLemmas.{name_at_name, name_at_within}
 use Rattle.dz_name.proofs.CanonicalLemmas.{canonical_end_wire}
-use Rattle.dz_record.specs.declared.table.Field.{Field}
-use Rattle.dz_record.specs.declared.table.Field.TheVariants.{Octets, DomainName, CharacterString, Remainder}
+use Rattle.dz_record.specs.declared.fields.Field.{Field}
+use Rattle.dz_record.specs.declared.fields.Field.TheVariants.{FixedLength, DomainName, CharacterString, Remainder}
 use Rattle.dz_record.specs.Fields.{fields_of, field_end, fits, is_rdata}
 use Rattle.dz_message.specs.declared.fault.MessageFault.{MessageFault}
 use Rattle.dz_message.specs.declared.fault.MessageFault.TheVariants.{BadRdata}
+use Rattle.dz_name.specs.declared.reading.WireFault.{WireFault}
 use Rattle.dz_message.specs.Reading.{◌>>=◌, named, octets_at, name_within, field_at, rdata_at}
 
 -- what stands behind an Ok of two readers
@@ -49,7 +50,7 @@ pub record IsNameRead (m : List ℕ) (at end : ℕ) (piece : List ℕ) (next : �
   pub within : next ≤ end
   pub piece_is : piece ≡ wire_of labels
 
-pub named_ok : (r : Reading) (x : List (List ℕ) × ℕ) → named r ≡ Ok x → r ≡ Ok x
+pub named_ok : {X : Type 0} (r : Result X WireFault) (x : X) → named r ≡ Ok x → r ≡ Ok x
 named_ok (Ok name) x h = cc
 named_ok (Err fault) x h = absurd (cc)
 
@@ -91,7 +92,7 @@ nothing_left (field ∷ fields) m end rest le h =
         (omega (arith, is.few), omega (arith, is.few, is.next_is))
 
     no_piece : (field : Field) (m : List ℕ) (end : ℕ) (x : List ℕ × ℕ) → end ≤ length m → field_at m end end field ≡ Ok x → (length x.0 ≡ 0) × (x.1 ≡ end)
-    no_piece (Octets count) m end x le h = none_taken m end count x le h
+    no_piece (FixedLength count) m end x le h = none_taken m end count x le h
     no_piece DomainName m end x le h = let is = name_read m end end x h in absurd (omega (arith, is.within, (name_at_within m end x.1 is.labels is.read).0))
     no_piece CharacterString m end x le h = none_taken m end (slice_index m end + 1) x le h
     no_piece Remainder m end x le h = none_taken m end (end - end) x le h
@@ -100,7 +101,7 @@ nothing_left (field ∷ fields) m end rest le h =
 piece_found : (field : Field) (fields : List Field) (m : List ℕ) (at end : ℕ) (x : List ℕ × ℕ) (front rest : List ℕ) → end ≤ length m → at ≤ end → field_at m at end field ≡ Ok x → rdata_at m x.1 end fields ≡ Ok rest
     → (field_end field (front ++ (x.0 ++ rest)) (length front) ≡ Some (length front + length x.0)) × (x.1 ≤ end)
 unfolding field_end
-piece_found (Octets count) fields m at end x front rest le start h more =
+piece_found (FixedLength count) fields m at end x front rest le start h more =
     let is = taken m at end count x h in
     let long = length_taken m at end count x.0 x.1 le start is in
     let t : nat_le count (length (front ++ (x.0 ++ rest)) - length front) ≡ true = grind (arith, nat_tests, length-append front (x.0 ++ rest), length-append x.0 rest) in

@@ -2,8 +2,8 @@
 use Rattle.std.proofs.Common.{◌≡◌, ℕ, suc, ◌-◌, ◌+◌, ◌≤◌, ◌<◌, List, [], ◌∷◌, ◌++◌, Result, Ok, Err, refl, sym, ap, ◌∙◌, append_assoc, arith}
 use Rattle.std.proofs.lemmas.List.{append-nil}
 use Rattle.dz_message.specs.declared.fault.MessageFault.{MessageFault}
-use Rattle.dz_message.specs.declared.fault.ReadError.{ReadError}
-use Rattle.dz_message.specs.declared.fault.ReadError.TheVariants as errors
+use Rattle.dz_message.specs.declared.fault.MessageError.{MessageError}
+use Rattle.dz_message.specs.declared.fault.MessageError.TheVariants as errors
 use Rattle.dz_message.specs.Reading.{◌>>=◌, Fails, many}
 
 -- a reading with what was read before in front
@@ -22,7 +22,7 @@ one_more one front count i at first next whole lt is so_far =
     let step : after front (many one (count - i) at) ≡ after (front ++ first ∷ []) (many one (count - (i + 1)) next) = rw (k, is) (regroup front first (many one (count - (i + 1)) next)) in
     sym step ∙ so_far
 
-pub one_fails : {X : Type 0} (one : ℕ → Result (X × ℕ) MessageFault) (e : ReadError) (front : List X) (count i at : ℕ) (whole : Result (List X × ℕ) MessageFault) → i < count → Fails e (one at)
+pub one_fails : {X : Type 0} (one : ℕ → Result (X × ℕ) MessageFault) (e : MessageError) (front : List X) (count i at : ℕ) (whole : Result (List X × ℕ) MessageFault) → i < count → Fails e (one at)
     → after front (many one (count - i) at) ≡ whole → Fails e whole
 unfolding many
 one_fails one errors.OutOfMemory front count i at whole lt is so_far = tt

@@ -3,28 +3,21 @@ use Rattle.std.proofs.Common.{inl, inr, ◌≡◌, ℕ, suc, ◌+◌, ◌-◌, �
 use Rattle.std.specs.Prelude.{slice_index, nat_lt}
 use Rattle.std.specs.Option.{option_map_or}
 use Rattle.std.specs.List.{AllByRecursion, flat_map}
-use Rattle.std.proofs.lemmas.List.{drop_at, drop_all, drop-drop, take-append-drop, get_or_append_left}
+use Rattle.std.proofs.lemmas.List.{drop_all, drop-drop, take-append-drop, get_or_append_left}
 use Rattle.std.proofs.lemmas.List.{take-append-le}
 use Rattle.std.proofs.lemmas.Bool.Decides.{nat_tests, eqb_tells, leb_tells}
-use Rattle.dz_name.specs.Labels.{wire_of}
+use Rattle.dz_name.specs.Name.{wire_of}
 use Rattle.dz_name.specs.Numbers.{two, four, number_of_two, number_of_four}
 use Rattle.dz_name.specs.Reading.{Reads}
 use Rattle.dz_name.proofs.NumberLemmas.{length_two, length_four, number-two, number-four}
 use Rattle.dz_name.proofs.CanonicalLemmas.{canonical_end_found, drop_between, end_of_between, reads_wire}
-use Rattle.dz_record.specs.declared.table.Field.{Field}
-use Rattle.dz_record.specs.declared.table.Field.TheVariants.{Octets, DomainName, CharacterString, Remainder}
+use Rattle.dz_record.specs.declared.fields.Field.{Field}
+use Rattle.dz_record.specs.declared.fields.Field.TheVariants.{FixedLength, DomainName, CharacterString, Remainder}
 use Rattle.dz_record.specs.Fields.{fields_of, field_end, fits}
 use Rattle.dz_record.specs.Record.{Record, IsRecord, ttl_of}
 use Rattle.dz_record.proofs.FieldLemmas.{fits_record}
+use Rattle.dz_header.proofs.PlaceLemmas.{length_there, drop_there}
 use Rattle.dz_message.specs.Spelling.{AreOctets, IsField, AreFields, no_field, one_field, IsRecordAt, Each, no_one, one_first}
-
--- how many octets a part and the rest have
-pub length_there : (m : List ℕ) (at : ℕ) (part rest : List ℕ) → drop at m ≡ part ++ rest → length m - at ≡ length part + length rest
-length_there m at part rest is = sym (length-drop at m) ∙ (ap length is ∙ length-append part rest)
-
--- what stands behind a part
-pub drop_there : (m : List ℕ) (at n : ℕ) (part rest : List ℕ) → drop at m ≡ part ++ rest → length part ≡ n → drop (at + n) m ≡ rest
-drop_there m at n part rest is count = sym (drop-drop n at m) ∙ (ap (drop n) is ∙ drop_at part rest n count)
 
 -- the octets of RDATA from a place on, in the whole message
 rdata_there : (m : List ℕ) (base at : ℕ) (rdata more : List ℕ) → drop base m ≡ rdata ++ more → at ≤ length rdata → drop (base + at) m ≡ drop at rdata ++ more
@@ -58,7 +51,7 @@ some_is a b e = cc
 field_there : (field : Field) (m : List ℕ) (base at end : ℕ) (rdata more : List ℕ) → drop base m ≡ rdata ++ more → at ≤ length rdata → field_end field rdata at ≡ Some end
     → FieldThere m base at end rdata field
 unfolding field_end
-field_there (Octets n) m base at end rdata more is le ends = elim (leb_tells n (length rdata - at)) [
+field_there (FixedLength n) m base at end rdata more is le ends = elim (leb_tells n (length rdata - at)) [
   | inr w ↦ let q = rw w.0 at ends in absurd (cc)
   | inl w ↦
       let e : at + n ≡ end = some_is (at + n) end (rw w.0 at ends) in

@@ -3,12 +3,12 @@ use Rattle.std.proofs.Common.{◌≡◌, ℕ, ◌-◌, ◌+◌, ◌≤◌, ◌<�
 use Rattle.std.specs.Prelude.{nat_le, ◌==◌, true, false, ◌≢◌}
 use Rattle.std.proofs.lemmas.List.{append-nil, drop_more, drop_all}
 use Rattle.std.proofs.lemmas.Bool.Decides.{nat_tests}
-use Rattle.dz_record.specs.declared.table.Field.{Field}
-use Rattle.dz_record.specs.declared.table.Field.TheVariants.{Octets}
+use Rattle.dz_record.specs.declared.fields.Field.{Field}
+use Rattle.dz_record.specs.declared.fields.Field.TheVariants.{FixedLength}
 use Rattle.dz_message.specs.declared.fault.MessageFault.{MessageFault}
 use Rattle.dz_message.specs.declared.fault.MessageFault.TheVariants.{BadRdata}
-use Rattle.dz_message.specs.declared.fault.ReadError.{ReadError}
-use Rattle.dz_message.specs.declared.fault.ReadError.TheVariants as errors
+use Rattle.dz_message.specs.declared.fault.MessageError.{MessageError}
+use Rattle.dz_message.specs.declared.fault.MessageError.TheVariants as errors
 use Rattle.dz_message.specs.Reading.{◌>>=◌, Fails, octets_at, field_at, rdata_at}
 
 pub no_octets : (m : List ℕ) (at end count : ℕ) → end ≤ at → octets_at m at end (count + 1) ≡ Err BadRdata
@@ -38,11 +38,11 @@ regroup front piece (Ok rest) = ap (λ xs. Ok xs) (sym (append_assoc front piece
 regroup front piece (Err f) = refl
 
 pub one_read : (m : List ℕ) (at end : ℕ) (fields : List Field) (old new more : List ℕ) (offset i next : ℕ) (piece : List ℕ) → AreRead m at end fields old new offset i → i < length fields
-    → field_at m offset end (get_or fields i (Octets 0)) ≡ Ok (piece, next) → more ≡ new ++ piece → next ≤ end → AreRead m at end fields old more next (i + 1)
+    → field_at m offset end (get_or fields i (FixedLength 0)) ≡ Ok (piece, next) → more ≡ new ++ piece → next ≤ end → AreRead m at end fields old more next (i + 1)
 unfolding rdata_at
 one_read m at end fields old new more offset i next piece so_far lt is more_is le =
     let step : behind so_far.front (rdata_at m offset end (drop i fields)) ≡ behind (so_far.front ++ piece) (rdata_at m next end (drop (i + 1) fields)) =
-    rw (drop_more fields i (Octets 0) lt, is) (regroup so_far.front piece (rdata_at m next end (drop (i + 1) fields))) in
+    rw (drop_more fields i (FixedLength 0) lt, is) (regroup so_far.front piece (rdata_at m next end (drop (i + 1) fields))) in
     record {
       front = so_far.front ++ piece;
       within = le;
@@ -50,12 +50,12 @@ one_read m at end fields old new more offset i next piece so_far lt is more_is l
       whole = sym step ∙ so_far.whole;
     }
 
-pub field_fails : (m : List ℕ) (at end : ℕ) (fields : List Field) (old new : List ℕ) (offset i : ℕ) (e : ReadError) → AreRead m at end fields old new offset i → i < length fields
-    → Fails e (field_at m offset end (get_or fields i (Octets 0))) → Fails e (rdata_at m at end fields)
+pub field_fails : (m : List ℕ) (at end : ℕ) (fields : List Field) (old new : List ℕ) (offset i : ℕ) (e : MessageError) → AreRead m at end fields old new offset i → i < length fields
+    → Fails e (field_at m offset end (get_or fields i (FixedLength 0))) → Fails e (rdata_at m at end fields)
 unfolding rdata_at
 field_fails m at end fields old new offset i errors.OutOfMemory so_far lt is = tt
 field_fails m at end fields old new offset i (errors.Fault f) so_far lt is =
-    let step : behind so_far.front (rdata_at m offset end (drop i fields)) ≡ Err f = rw (drop_more fields i (Octets 0) lt, is) refl in
+    let step : behind so_far.front (rdata_at m offset end (drop i fields)) ≡ Err f = rw (drop_more fields i (FixedLength 0) lt, is) refl in
     sym so_far.whole ∙ step
 
 pub all_read : (m : List ℕ) (at end : ℕ) (fields : List Field) (old new : List ℕ) (offset i : ℕ) → AreRead m at end fields old new offset i → length fields ≤ i → offset ≡ end

@@ -4,20 +4,21 @@ use Rattle.std.specs.Prelude.{slice_index, Result, OnOk}
 use Rattle.std.specs.List.{All, AllByRecursion, flat_map}
 use Rattle.std.proofs.lemmas.List.{append-nil, drop_more}
 use Rattle.std.proofs.lemmas.Bool.{cases_lt}
-use Rattle.dz_name.specs.Labels.{wire_of}
+use Rattle.dz_name.specs.Name.{wire_of}
 use Rattle.dz_name.specs.Numbers.{two}
 use Rattle.dz_name.proofs.NumberLemmas.{length_two}
 use Rattle.dz_name.proofs.CanonicalLemmas.{reads_wire}
 use Rattle.dz_header.specs.declared.header.Header.{Header}
 use Rattle.dz_header.specs.declared.question.Question.{Question}
 use Rattle.dz_header.specs.Header.{header_in, header_octets}
-use Rattle.dz_header.specs.Shape.{skipped}
+use Rattle.dz_header.specs.Shape.{behind_records}
 use Rattle.dz_header.proofs.HeaderLemmas.{four_items}
-use Rattle.dz_record.specs.Record.{Record, record_octets}
-use Rattle.dz_message.specs.Content.{Content}
+use Rattle.dz_record.specs.Record.{Record, IsRecord, record_octets}
+use Rattle.dz_message.specs.Message.{Content}
 use Rattle.dz_message.specs.Spelling.{IsQuestion, IsRecordAt, Spells}
-use Rattle.dz_message.specs.Writing.{IsAsking, IsAnswer, IsHeader, IsHeldMessage, CountsAgree, question_octets, message_octets}
-use Rattle.dz_message.proofs.PlaceLemmas.{length_there, drop_there, two_there, fixed_octets, record_there, each_there}
+use Rattle.dz_message.specs.Writing.{IsAsking, IsHeader, IsHeldMessage, CountsAgree, question_octets, message_octets}
+use Rattle.dz_header.proofs.PlaceLemmas.{length_there, drop_there}
+use Rattle.dz_message.proofs.PlaceLemmas.{two_there, fixed_octets, record_there, each_there}
 
 -- a question that is written reads as the question
 question_there : (m : List ℕ) (q : Question) (more : List ℕ) (at : ℕ) → IsAsking q → 0 ≤ at → drop at m ≡ question_octets q ++ more
@@ -43,17 +44,17 @@ question_there m q more at is low there =
     }
 
 -- an answer record that is written reads as the record
-answer_there : (m : List ℕ) (r : Record) (more : List ℕ) (at : ℕ) → IsAnswer r → 0 ≤ at → drop at m ≡ record_octets r ++ more
+answer_there : (m : List ℕ) (r : Record) (more : List ℕ) (at : ℕ) → IsRecord r → 0 ≤ at → drop at m ≡ record_octets r ++ more
     → IsRecordAt m at r (at + length (record_octets r))
 answer_there m r more at is low there =
     let split : drop at m ≡ wire_of r.owner ++ (fixed_octets r ++ more) = there ∙ append_assoc (wire_of r.owner) (fixed_octets r) more in
-    record_there m (wire_of r.owner) r more at is.kind is.is (reads_wire m r.owner _ at 0 at is.owner.each (omega (arith, is.owner.short)) split) there
+    record_there m (wire_of r.owner) r more at is.number is (reads_wire m r.owner _ at 0 at is.owner.each (omega (arith, is.owner.short)) split) there
 
 -- the header that is written is the header that is read
-record HeaderThere (m : List ℕ) (header : Header) (rest : List ℕ) : Type 0 where
-  is : header ≡ header_in m
-  long : 12 ≤ length m
-  behind : drop 12 m ≡ rest
+pub record HeaderThere (m : List ℕ) (header : Header) (rest : List ℕ) : Type 0 where
+  pub is : header ≡ header_in m
+  pub long : 12 ≤ length m
+  pub behind : drop 12 m ≡ rest
 
 four_counts : (header : Header) (a b c d : ℕ) → header.counts ≡ a ∷ b ∷ c ∷ d ∷ [] → header_octets header ≡ two header.id ++ (two header.flags ++ (two a ++ (two b ++ (two c ++ (two d ++ [])))))
 unfolding header_octets
@@ -62,7 +63,7 @@ four_counts header a b c d is = rw is refl
 same_header : (header other : Header) → other.id ≡ header.id → other.flags ≡ header.flags → other.counts ≡ header.counts → header ≡ other
 same_header header other id flags counts = rw (sym id, sym flags, sym counts) refl
 
-header_there : (m : List ℕ) (header : Header) (a b c d : ℕ) (rest : List ℕ) → IsHeader header → header.counts ≡ a ∷ b ∷ c ∷ d ∷ []
+pub header_there : (m : List ℕ) (header : Header) (a b c d : ℕ) (rest : List ℕ) → IsHeader header → header.counts ≡ a ∷ b ∷ c ∷ d ∷ []
     → m ≡ header_octets header ++ rest → HeaderThere m header rest
 unfolding header_in
 header_there m header a b c d rest is counts there =
@@ -93,8 +94,8 @@ header_there m header a b c d rest is counts there =
     }
 
 -- nothing stands behind the answers
-no_others : (c d : ℕ) (octets : List ℕ) → c ≡ 0 → d ≡ 0 → octets ≡ [] → skipped (c + d) octets ≡ Some []
-unfolding skipped
+no_others : (c d : ℕ) (octets : List ℕ) → c ≡ 0 → d ≡ 0 → octets ≡ [] → behind_records (c + d) octets ≡ Some []
+unfolding behind_records
 no_others c d octets first second is = rw (first, second, is) refl
 
 -- a fact on each, by place and one behind the other
@@ -146,6 +147,6 @@ message_spells m agree held =
       question_count = rw agree refl;
       questions = each_there IsAsking (IsQuestion octets) question_octets octets 0 (question_there octets) m.questions answers 12 (each IsAsking m.questions held.questions) (omega arith) head.behind;
       answer_count = rw agree refl;
-      answers = each_there IsAnswer (IsRecordAt octets) record_octets octets 0 (answer_there octets) m.answers [] p1 (each IsAnswer m.answers held.answers) (omega arith) d1';
+      answers = each_there IsRecord (IsRecordAt octets) record_octets octets 0 (answer_there octets) m.answers [] p1 (each IsRecord m.answers held.answers) (omega arith) d1';
       others = no_others _ _ (drop p2 octets) (ap (λ ns. slice_index ns 2) agree) (ap (λ ns. slice_index ns 3) agree) d2;
     }

@@ -1,5 +1,6 @@
-pub mod Content
-pub mod Number
+pub mod Examples
+pub mod Fault
+pub mod Message
 pub mod Reading
 pub mod Spelling
 pub mod Writing

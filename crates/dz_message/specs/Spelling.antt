@@ -1,27 +1,29 @@
--- What octets spell: a message part by part as the standard lays it out (RFC 1035 section 4.1).
+-- Meaning: what octets spell, a message part by part as the standard lays it out (RFC 1035 section 4.1).
 use Rattle.std.specs.Prelude.{◌≡◌, ℕ, ◌+◌, ◌-◌, ◌≤◌, false, List, [], ◌∷◌, ◌++◌, length, take, drop, slice_index, Ok, Some}
-use Rattle.dz_name.specs.Labels.{wire_of}
+use Rattle.dz_name.specs.Name.{wire_of}
 use Rattle.dz_name.specs.Numbers.{number_of_two, number_of_four}
 use Rattle.dz_name.specs.Reading.{Reads}
 use Rattle.dz_header.specs.Header.{header_in}
-use Rattle.dz_header.specs.Shape.{skipped}
-use Rattle.dz_record.specs.declared.table.Field.{Field}
-use Rattle.dz_record.specs.declared.table.Field.TheVariants.{Octets, DomainName, CharacterString, Remainder}
+use Rattle.dz_header.specs.Shape.{behind_records}
+use Rattle.dz_record.specs.declared.fields.Field.{Field}
+use Rattle.dz_record.specs.declared.fields.Field.TheVariants.{FixedLength, DomainName, CharacterString, Remainder}
 use Rattle.dz_record.specs.Fields.{fields_of}
 use Rattle.dz_record.specs.Record.{Record, is_bad_type, ttl_of}
 use Rattle.dz_header.specs.declared.question.Question.{Question}
-use Rattle.dz_message.specs.declared.fault.ReadError.{ReadError}
-use Rattle.dz_message.specs.declared.fault.ReadError.TheVariants.{OutOfMemory}
-use Rattle.dz_message.specs.declared.fault.ReadError.TheVariants as errors
-use Rattle.dz_message.specs.Content.{Content}
+use Rattle.dz_message.specs.declared.fault.MessageError.{MessageError}
+use Rattle.dz_message.specs.declared.fault.MessageError.TheVariants.{OutOfMemory}
+use Rattle.dz_message.specs.declared.fault.MessageError.TheVariants as errors
+use Rattle.dz_message.specs.Message.{Content}
 use Rattle.dz_message.specs.Reading.{count_in}
+use Rattle.dz_name.specs.declared.dns.TheConstants.{CLASS_IN, HEADER_OCTETS, MESSAGE_OCTETS}
+use Rattle.dz_name.specs.Words.{Name, Octets}
 
 -- a name, its pointers followed and in lower case, stands from `at` up to `next`
-abbrev pub IsNameAt : List ℕ → ℕ → List (List ℕ) → ℕ → Type 0
+abbrev pub IsNameAt : Octets → ℕ → Name → ℕ → Type 0
 IsNameAt m at name next = Reads m at 0 at (Ok (name, next))
 
 -- a question: a name, and its type and class behind it (section 4.1.2)
-pub record IsQuestion (m : List ℕ) (at : ℕ) (q : Question) (next : ℕ) : Type 0 where
+pub record IsQuestion (m : Octets) (at : ℕ) (q : Question) (next : ℕ) : Type 0 where
   pub behind : ℕ
   pub name : IsNameAt m at q.name behind
   pub kind : q.kind ≡ number_of_two (drop behind m)
@@ -30,44 +32,44 @@ pub record IsQuestion (m : List ℕ) (at : ℕ) (q : Question) (next : ℕ) : Ty
   pub within : next ≤ length m
 
 -- so many octets as they are, in RDATA that ends at `end`
-pub record AreOctets (m : List ℕ) (at end count : ℕ) (piece : List ℕ) (next : ℕ) : Type 0 where
+pub record AreOctets (m : Octets) (at end count : ℕ) (piece : Octets) (next : ℕ) : Type 0 where
   pub next_is : next ≡ at + count
   pub within : next ≤ end
   pub piece_is : piece ≡ take count (drop at m)
 
 -- a name in RDATA that ends at `end`; its canonical form is its wire form in lower case and without pointers
-pub record IsNameWithin (m : List ℕ) (at end : ℕ) (piece : List ℕ) (next : ℕ) : Type 0 where
-  pub labels : List (List ℕ)
+pub record IsNameWithin (m : Octets) (at end : ℕ) (piece : Octets) (next : ℕ) : Type 0 where
+  pub labels : Name
   pub name : IsNameAt m at labels next
   pub within : next ≤ end
   pub piece_is : piece ≡ wire_of labels
 
 -- a field of RDATA that ends at `end` stands from `at` up to `next`, and has this canonical form
-abbrev pub IsField : List ℕ → ℕ → ℕ → Field → List ℕ → ℕ → Type 0
-IsField m at end (Octets count) piece next = AreOctets m at end count piece next
+abbrev pub IsField : Octets → ℕ → ℕ → Field → Octets → ℕ → Type 0
+IsField m at end (FixedLength count) piece next = AreOctets m at end count piece next
 IsField m at end DomainName piece next = IsNameWithin m at end piece next
 IsField m at end CharacterString piece next = AreOctets m at end (slice_index m at + 1) piece next
 IsField m at end Remainder piece next = AreOctets m at end (end - at) piece next
 
 -- the fields of RDATA one behind the other up to `end`, and their canonical form
-pub data AreFields (m : List ℕ) (end : ℕ) : List Field → ℕ → List ℕ → Type 0 where
+pub data AreFields (m : Octets) (end : ℕ) : List Field → ℕ → Octets → Type 0 where
   no_field : AreFields m end [] end []
-  one_field : {field : Field} {fields : List Field} {at next : ℕ} (piece rest : List ℕ) → IsField m at end field piece next
+  one_field : {field : Field} {fields : List Field} {at next : ℕ} (piece rest : Octets) → IsField m at end field piece next
       → AreFields m end fields next rest → AreFields m end (field ∷ fields) at (piece ++ rest)
 
 -- a record of class IN and of a type that a zone may hold: its owner, ten octets with type, class, TTL and length of
 -- RDATA, and so much RDATA, which is kept in canonical form (section 4.1.3)
-pub record IsRecordAt (m : List ℕ) (at : ℕ) (r : Record) (next : ℕ) : Type 0 where
+pub record IsRecordAt (m : Octets) (at : ℕ) (r : Record) (next : ℕ) : Type 0 where
   pub behind : ℕ
   pub owner : IsNameAt m at r.owner behind
   pub kind : r.kind ≡ number_of_two (drop behind m)
-  pub class : number_of_two (drop (behind + 2) m) ≡ 1
+  pub class : number_of_two (drop (behind + 2) m) ≡ CLASS_IN
   pub ttl : r.ttl ≡ ttl_of (number_of_four (drop (behind + 4) m))
   pub next_is : next ≡ behind + 10 + number_of_two (drop (behind + 8) m)
   pub within : next ≤ length m
   pub held : is_bad_type r.kind ≡ false
   pub rdata : AreFields m next (fields_of r.kind) (behind + 10) r.rdata
-  pub short : length r.rdata ≤ 65535
+  pub short : length r.rdata ≤ MESSAGE_OCTETS
 
 -- each of these stands behind the one before it, from `at` up to `end`
 pub data Each {X : Type 0} (One : ℕ → X → ℕ → Type 0) : ℕ → List X → ℕ → Type 0 where
@@ -76,18 +78,18 @@ pub data Each {X : Type 0} (One : ℕ → X → ℕ → Type 0) : ℕ → List X
 
 -- the octets spell the message: its header in the first twelve, as many questions behind it as the header says, as many
 -- answer records behind them, and as many authority and additional records, by their shape, behind those; and no more
-pub record Spells (octets : List ℕ) (m : Content) : Type 0 where
+pub record Spells (octets : Octets) (m : Content) : Type 0 where
   pub answers_at : ℕ
   pub others_at : ℕ
-  pub long : 12 ≤ length octets
+  pub long : HEADER_OCTETS ≤ length octets
   pub header : m.header ≡ header_in octets
   pub question_count : length m.questions ≡ count_in m.header 0
-  pub questions : Each (IsQuestion octets) 12 m.questions answers_at
+  pub questions : Each (IsQuestion octets) HEADER_OCTETS m.questions answers_at
   pub answer_count : length m.answers ≡ count_in m.header 1
   pub answers : Each (IsRecordAt octets) answers_at m.answers others_at
-  pub others : skipped (count_in m.header 2 + count_in m.header 3) (drop others_at octets) ≡ Some []
+  pub others : behind_records (count_in m.header 2 + count_in m.header 3) (drop others_at octets) ≡ Some []
 
 -- a fault is told where the octets spell no message; want of memory tells nothing
-abbrev pub SpellsNone : List ℕ → ReadError → Type 0
+abbrev pub SpellsNone : Octets → MessageError → Type 0
 SpellsNone octets OutOfMemory = Unit {0}
 SpellsNone octets (errors.Fault fault) = (m : Content) → ¬ (Spells octets m)

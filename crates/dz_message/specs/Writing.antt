@@ -1,20 +1,22 @@
--- A message as octets, names without pointers (RFC 1035 section 4.1).
-use Rattle.std.specs.Prelude.{◌≡◌, ℕ, List, [], ◌∷◌, ◌++◌, length, Result, Ok, Err, ◌<◌, ◌≤◌, ◌^◌}
+-- Meaning: a message as octets, names without pointers (RFC 1035 section 4.1).
+use Rattle.std.specs.Prelude.{◌≡◌, [], ◌∷◌, ◌++◌, length, Result, Ok, Err, ◌<◌, ◌≤◌, ◌^◌}
 use Rattle.std.specs.List.{flat_map, All, AllByRecursion}
-use Rattle.dz_name.specs.Labels.{wire_of, IsName}
+use Rattle.dz_name.specs.Name.{wire_of, IsName}
 use Rattle.dz_name.specs.Numbers.{two}
 use Rattle.dz_header.specs.declared.header.Header.{Header}
 use Rattle.dz_header.specs.Header.{header_octets}
-use Rattle.dz_record.specs.Record.{Record, IsRecord, record_octets}
+use Rattle.dz_record.specs.Record.{IsRecord, record_octets}
 use Rattle.dz_header.specs.declared.question.Question.{Question}
 use Rattle.dz_message.specs.declared.fault.WriteError.{WriteError}
 use Rattle.dz_message.specs.declared.fault.WriteError.TheVariants as errors
-use Rattle.dz_message.specs.Content.{Content}
+use Rattle.dz_message.specs.Message.{Content}
+use Rattle.dz_name.specs.declared.dns.TheConstants.{MESSAGE_OCTETS}
+use Rattle.dz_name.specs.Words.{Octets}
 
-unfoldable pub question_octets : Question → List ℕ
+unfoldable pub question_octets : Question → Octets
 question_octets q = wire_of q.name ++ (two q.kind ++ two q.class)
 
-unfoldable pub message_octets : Content → List ℕ
+unfoldable pub message_octets : Content → Octets
 message_octets m = header_octets m.header ++ (flat_map question_octets m.questions ++ flat_map record_octets m.answers)
 
 -- the counts are the numbers of questions and answers, and there are no other records
@@ -22,9 +24,9 @@ abbrev pub CountsAgree : Content → Type 0
 CountsAgree m = m.header.counts ≡ length m.questions ∷ length m.answers ∷ 0 ∷ 0 ∷ []
 
 -- a message of at most 65,535 octets is written; TooLong comes for a longer one alone
-abbrev pub IsWritten : Content → Result (List ℕ) WriteError → Type 0
-IsWritten m (Ok octets) = (octets ≡ message_octets m) × (length octets ≤ 65535)
-IsWritten m (Err errors.TooLong) = 65535 < length (message_octets m)
+abbrev pub IsWritten : Content → Result Octets WriteError → Type 0
+IsWritten m (Ok octets) = (octets ≡ message_octets m) × (length octets ≤ MESSAGE_OCTETS)
+IsWritten m (Err errors.TooLong) = MESSAGE_OCTETS < length (message_octets m)
 IsWritten m (Err errors.OutOfMemory) = Unit {0}
 
 -- a question in memory: a name, and two numbers of two octets
@@ -32,12 +34,6 @@ pub record IsAsking (q : Question) : Type 0 where
   pub name : IsName q.name
   pub kind : q.kind < 2 ^ 16
   pub class : q.class < 2 ^ 16
-
--- an answer record in memory: its owner is a name, its type a number of two octets
-pub record IsAnswer (r : Record) : Type 0 where
-  pub owner : IsName r.owner
-  pub kind : r.kind < 2 ^ 16
-  pub is : IsRecord r
 
 -- the six numbers of a header have two octets each
 pub record IsHeader (header : Header) : Type 0 where
@@ -49,4 +45,4 @@ pub record IsHeader (header : Header) : Type 0 where
 pub record IsHeldMessage (m : Content) : Type 0 where
   pub header : IsHeader m.header
   pub questions : All IsAsking m.questions
-  pub answers : All IsAnswer m.answers
+  pub answers : All IsRecord m.answers

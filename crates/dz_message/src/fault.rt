@@ -2,9 +2,9 @@
 
 ghost use Rattle.std.specs.Prelude.{◌≡◌};
 ghost use Rattle.dz_message.specs.declared.fault.MessageFault.TheVariants.{Wire};
-ghost use Rattle.dz_message.specs.declared.fault.ReadError.TheVariants as errors;
+ghost use Rattle.dz_message.specs.declared.fault.MessageError.TheVariants as errors;
 ghost use Rattle.dz_message.specs.declared.fault.WriteError.TheVariants as write_errors;
-ghost use Rattle.dz_message.specs.Number.{fault_number};
+ghost use Rattle.dz_message.specs.Fault.{fault_number};
 
 use dz_name::WireFault;
 use std::alloc::{AllocError, AllocFailed};
@@ -41,7 +41,7 @@ impl MessageFault {
 
 /// Why a message was not read.
 #[derive(Clone, Copy, Debug, PartialEq, Eq)]
-pub enum ReadError {
+pub enum MessageError {
     Fault(MessageFault),
     OutOfMemory,
 }
@@ -62,35 +62,35 @@ impl From<WireFault> for MessageFault {
     }
 }
 
-impl From<WireFault> for ReadError {
+impl From<WireFault> for MessageError {
     ghost from_gives = { λ _ e. e ≡ errors.Fault Wire };
 
-    fn from(_fault: WireFault) -> ReadError {
-        ReadError::Fault(MessageFault::Wire)
+    fn from(_fault: WireFault) -> MessageError {
+        MessageError::Fault(MessageFault::Wire)
     }
 }
 
-impl From<MessageFault> for ReadError {
+impl From<MessageFault> for MessageError {
     ghost from_gives = { λ f e. e ≡ errors.Fault f };
 
-    fn from(fault: MessageFault) -> ReadError {
-        ReadError::Fault(fault)
+    fn from(fault: MessageFault) -> MessageError {
+        MessageError::Fault(fault)
     }
 }
 
-impl From<AllocError> for ReadError {
+impl From<AllocError> for MessageError {
     ghost from_gives = { λ _ e. e ≡ errors.OutOfMemory };
 
-    fn from(_error: AllocError) -> ReadError {
-        ReadError::OutOfMemory
+    fn from(_error: AllocError) -> MessageError {
+        MessageError::OutOfMemory
     }
 }
 
-impl<T: Drop> From<AllocFailed<T>> for ReadError {
+impl<T: Drop> From<AllocFailed<T>> for MessageError {
     ghost from_gives = { λ _ e. e ≡ errors.OutOfMemory };
 
-    fn from(_error: AllocFailed<T>) -> ReadError {
-        ReadError::OutOfMemory
+    fn from(_error: AllocFailed<T>) -> MessageError {
+        MessageError::OutOfMemory
     }
 }
 

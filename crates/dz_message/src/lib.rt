@@ -8,7 +8,8 @@ mod reading;
 mod tests;
 mod writing;
 
-pub use fault::{MessageFault, ReadError, WriteError};
+pub use dz_header::{Header, Question};
+pub use fault::{MessageError, MessageFault, WriteError};
 pub use message::Message;
 pub use reading::read_message;
 pub use writing::write_message;

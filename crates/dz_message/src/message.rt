@@ -13,7 +13,7 @@ pub struct Message {
 }
 
 impl Model for Message {
-    ghost use Rattle.dz_message.specs.Content.{Content};
+    ghost use Rattle.dz_message.specs.Message.{Content};
 
     ghost Value = { Content };
 

@@ -1,17 +1,19 @@
 ghost use Rattle.std.specs.Prelude.{◌≡◌, ◌≤◌, ◌+◌, ◌++◌, length, drop, true, false, IfOk, IfErr, OnOk};
 ghost use Rattle.dz_record.specs.Fields.{is_rdata};
 ghost use Rattle.dz_record.specs.Record.{is_bad_type};
-ghost use Rattle.dz_header.specs.Shape.{skipped};
-ghost use Rattle.dz_message.specs.Content.{Content};
-ghost use Rattle.dz_message.specs.Reading.{Gives, Appends, AppendsOne, EndsWell, question_at, fixed_at, octets_at, name_within, field_at, rdata_at, rdata_of, record_at, many, ended, content_of, message_of};
+ghost use Rattle.dz_header.specs.Shape.{behind_records};
+ghost use Rattle.dz_message.specs.Message.{Content};
+ghost use Rattle.dz_message.specs.Reading.{Gives, Appends, AppendsOne, EndsWell, question_in, head_at, octets_at, name_within, field_at, rdata_at, rdata_of, record_at, many, ended, content_of, message_of};
 ghost use Rattle.dz_message.specs.Spelling.{Spells, SpellsNone};
 
-use crate::fault::{MessageFault, ReadError};
+use crate::fault::{MessageError, MessageFault};
 use crate::message::Message;
-use dz_header::{Header, Question, read_header, skip_records};
-use dz_name::numbers::{number_of_four, number_of_two};
+use dz_header::{
+    HEAD_OCTETS, Header, Question, RecordHead, read_head, read_header, read_question, skip_records,
+};
+use dz_name::dns::{CLASS_IN, HEADER_OCTETS, MESSAGE_OCTETS};
 use dz_name::{Name, Octets};
-use dz_record::{Field, Rr, fields, is_bad_type};
+use dz_record::{Field, Rr, fields_of, is_bad_type};
 use std::alloc::Global;
 
 /// Reads the message that the octets spell (RFC 1035 section 4.1): names with their pointers followed and in lower
@@ -21,7 +23,7 @@ use std::alloc::Global;
 ///
 /// The first fault from left to right.
 #[tactic(auto, using(crate::proofs::SpellingLemmas::read_spells, crate::proofs::SpellingLemmas::read_once, crate::proofs::SpellingLemmas::read_none))]
-pub fn read_message(alloc: Global, octets: &[u8]) -> Result<Message, ReadError>
+pub fn read_message(alloc: Global, octets: &[u8]) -> Result<Message, MessageError>
     ensures reads { Gives (λ m. m) result (message_of octets.now) }
     ensures spells { IfOk result (λ m. Spells octets.now m) }
     ensures once { IfOk result (λ m. (other : Content) → Spells octets.now other → other ≡ m) }
@@ -32,21 +34,21 @@ pub fn read_message(alloc: Global, octets: &[u8]) -> Result<Message, ReadError>
 
 /// The header, and what stands behind it.
 #[tactic(auto, unfolding(crate::specs::Reading::message_of))]
-fn read_whole(alloc: Global, octets: &[u8]) -> Result<Message, ReadError>
+fn read_whole(alloc: Global, octets: &[u8]) -> Result<Message, MessageError>
     ensures { Gives (λ m. m) result (message_of octets.now) }
 {
     match read_header(octets) {
-        None => Err(ReadError::Fault(MessageFault::ShortHeader)),
+        None => Err(MessageError::Fault(MessageFault::ShortHeader)),
         Some(header) => read_content(alloc, octets, header),
     }
 }
 
 #[tactic(auto, unfolding(crate::specs::Reading::content_of))]
-fn read_content(alloc: Global, octets: &[u8], header: Header) -> Result<Message, ReadError>
-    requires { 12 ≤ length octets.now }
+fn read_content(alloc: Global, octets: &[u8], header: Header) -> Result<Message, MessageError>
+    requires { HEADER_OCTETS ≤ length octets.now }
     ensures { Gives (λ m. m) result (content_of octets.now header) }
 {
-    let (questions, at) = read_questions(alloc, octets, header.counts[0], 12)?;
+    let (questions, at) = read_questions(alloc, octets, header.counts[0], HEADER_OCTETS)?;
     let (answers, at) = read_answers(alloc, octets, header.counts[1], at)?;
     read_end(octets, at, header.counts[2], header.counts[3])?;
     Ok(Message::new(header, questions, answers))
@@ -55,7 +57,7 @@ fn read_content(alloc: Global, octets: &[u8], header: Header) -> Result<Message,
 /// The records that aren't answers are skipped, and then the message ends.
 fn read_end(octets: &[u8], at: usize, authority: u16, additional: u16) -> Result<(), MessageFault>
     requires { at ≤ length octets.now }
-    ensures { EndsWell result (ended (skipped (authority + additional) (drop at octets.now))) }
+    ensures { EndsWell result (ended (behind_records (authority + additional) (drop at octets.now))) }
 {
     match skip_records(octets.split_at(at).1, authority as u32 + additional as u32) {
         None => Err(MessageFault::Wire),
@@ -69,33 +71,30 @@ fn read_questions(
     message: &[u8],
     count: u16,
     at: usize,
-) -> Result<(Vec<Question>, usize), ReadError>
+) -> Result<(Vec<Question>, usize), MessageError>
     requires { at ≤ length message.now }
-    ensures reads { Gives (λ x. (x.0.items, x.1)) result (many (question_at message.now) count at) }
+    ensures reads { Gives (λ x. (x.0.items, x.1)) result (many (question_in message.now) count at) }
     ensures within { IfOk result (λ x. x.1 ≤ length message.now) }
 {
     let mut questions = Vec::new(alloc);
     let mut offset = at;
     'questions: for _ in 0..count {
-        let (question, behind) = read_question(message, offset)?;
+        let (question, behind) = read_question_in(message, offset)?;
         questions.push(question)?;
         offset = behind;
     }
     Ok((questions, offset))
 }
 
-#[tactic(auto, unfolding(crate::specs::Reading::question_at))]
-fn read_question(message: &[u8], at: usize) -> Result<(Question, usize), MessageFault>
-    ensures reads { result ≡ question_at message.now at }
+#[tactic(auto, unfolding(crate::specs::Reading::question_in))]
+fn read_question_in(message: &[u8], at: usize) -> Result<(Question, usize), MessageFault>
+    ensures reads { result ≡ question_in message.now at }
     ensures within { IfOk result (λ x. x.1 ≤ length message.now) }
 {
-    let (name, at) = Name::read_at(message, at)?;
-    if message.len() - at < 4 {
-        return Err(MessageFault::Wire);
+    match read_question(message, at) {
+        Ok(found) => Ok(found),
+        Err(_) => Err(MessageFault::Wire),
     }
-    let kind = number_of_two(message.split_at(at).1);
-    let class = number_of_two(message.split_at(at + 2).1);
-    Ok((Question { name, kind, class }, at + 4))
 }
 
 fn read_answers(
@@ -103,7 +102,7 @@ fn read_answers(
     message: &[u8],
     count: u16,
     at: usize,
-) -> Result<(Vec<Rr>, usize), ReadError>
+) -> Result<(Vec<Rr>, usize), MessageError>
     requires { at ≤ length message.now }
     ensures reads { Gives (λ x. (x.0.items, x.1)) result (many (record_at message.now) count at) }
     ensures within { IfOk result (λ x. x.1 ≤ length message.now) }
@@ -119,65 +118,57 @@ fn read_answers(
 }
 
 #[tactic(auto, unfolding(crate::specs::Reading::record_at))]
-fn read_record(alloc: Global, message: &[u8], at: usize) -> Result<(Rr, usize), ReadError>
+fn read_record(alloc: Global, message: &[u8], at: usize) -> Result<(Rr, usize), MessageError>
     ensures reads { Gives (λ x. (x.0, x.1)) result (record_at message.now at) }
     ensures within { IfOk result (λ x. x.1 ≤ length message.now) }
 {
     let (owner, at) = Name::read_at(message, at)?;
-    let fixed = read_fixed(message, at)?;
-    let rdata = read_rdata(alloc, message, at + 10, fixed)?;
+    let head = read_head_at(message, at)?;
+    let rdata = read_rdata(alloc, message, at + HEAD_OCTETS, head)?;
     Ok((
-        Rr::from_parts(owner, fixed.kind, fixed.ttl, rdata),
-        at + 10 + fixed.size as usize,
+        Rr::from_parts(alloc, &owner, head.kind, head.ttl, rdata.as_slice())?,
+        at + HEAD_OCTETS + head.size as usize,
     ))
 }
 
-/// Type, class, TTL and length of RDATA.
-#[derive(Clone, Copy)]
-struct Fixed {
-    kind: u16,
-    class: u16,
-    ttl: u32,
-    size: u16,
-}
-
-#[tactic(auto, unfolding(crate::specs::Reading::fixed_at))]
-fn read_fixed(message: &[u8], at: usize) -> Result<Fixed, MessageFault>
+/// Type, class, TTL and length of RDATA behind an owner.
+#[tactic(auto, unfolding(crate::specs::Reading::head_at))]
+fn read_head_at(message: &[u8], at: usize) -> Result<RecordHead, MessageFault>
     requires { at ≤ length message.now }
-    ensures reads { result ≡ fixed_at message.now at }
-    ensures within { OnOk result (at + 10 ≤ length message.now) }
+    ensures reads { result ≡ head_at message.now at }
+    ensures within { OnOk result (at + HEAD_OCTETS ≤ length message.now) }
 {
-    if message.len() - at < 10 {
-        return Err(MessageFault::Wire);
+    match read_head(message.split_at(at).1) {
+        None => Err(MessageFault::Wire),
+        Some(head) => Ok(head),
     }
-    Ok(Fixed {
-        kind: number_of_two(message.split_at(at).1),
-        class: number_of_two(message.split_at(at + 2).1),
-        ttl: number_of_four(message.split_at(at + 4).1),
-        size: number_of_two(message.split_at(at + 8).1),
-    })
 }
 
 /// The RDATA that begins at an offset, in canonical form.
 #[tactic(auto, unfolding(crate::specs::Reading::rdata_of))]
-fn read_rdata(alloc: Global, message: &[u8], at: usize, fixed: Fixed) -> Result<Octets, ReadError>
+fn read_rdata(
+    alloc: Global,
+    message: &[u8],
+    at: usize,
+    head: RecordHead,
+) -> Result<Octets, MessageError>
     requires { at ≤ length message.now }
-    ensures reads { Gives (λ x. x) result (rdata_of message.now at fixed) }
-    ensures fits { IfOk result (λ x. is_rdata fixed.kind x ≡ true) }
-    ensures kind { OnOk result (is_bad_type fixed.kind ≡ false) }
-    ensures within { OnOk result (at + fixed.size ≤ length message.now) }
+    ensures reads { Gives (λ x. x) result (rdata_of message.now at head) }
+    ensures fits { IfOk result (λ x. is_rdata head.kind x ≡ true) }
+    ensures kind { OnOk result (is_bad_type head.kind ≡ false) }
+    ensures within { OnOk result (at + head.size ≤ length message.now) }
 {
-    if fixed.class != 1 || is_bad_type(fixed.kind) {
-        return Err(ReadError::Fault(MessageFault::BadType));
+    if head.class != CLASS_IN || is_bad_type(head.kind) {
+        return Err(MessageError::Fault(MessageFault::BadType));
     }
-    let size = fixed.size as usize;
+    let size = head.size as usize;
     if message.len() - at < size {
-        return Err(ReadError::Fault(MessageFault::Wire));
+        return Err(MessageError::Fault(MessageFault::Wire));
     }
     let mut out = Vec::with_capacity(alloc, size)?;
-    read_fields(message, at, at + size, fields(fixed.kind), &mut out)?;
-    if out.len() > 65_535 {
-        return Err(ReadError::Fault(MessageFault::BadRdata));
+    read_fields(message, at, at + size, fields_of(head.kind), &mut out)?;
+    if out.len() > MESSAGE_OCTETS {
+        return Err(MessageError::Fault(MessageFault::BadRdata));
     }
     Ok(Octets::from_vec(out))
 }
@@ -189,7 +180,7 @@ fn read_fields(
     end: usize,
     fields: &[Field],
     out: &mut Vec<u8>,
-) -> Result<(), ReadError>
+) -> Result<(), MessageError>
     requires start { at ≤ end }
     requires end { end ≤ length message.now }
     ensures { Appends out.old.items out.new.items result (rdata_at message.now at end fields.now) }
@@ -201,7 +192,7 @@ fn read_fields(
     if offset == end {
         Ok(())
     } else {
-        Err(ReadError::Fault(MessageFault::BadRdata))
+        Err(MessageError::Fault(MessageFault::BadRdata))
     }
 }
 
@@ -212,14 +203,14 @@ fn read_field(
     end: usize,
     field: Field,
     out: &mut Vec<u8>,
-) -> Result<usize, ReadError>
+) -> Result<usize, MessageError>
     requires start { at ≤ end }
     requires end { end ≤ length message.now }
     ensures reads { AppendsOne out.old.items out.new.items result (field_at message.now at end field) }
     ensures within { IfOk result (λ next. next ≤ end) }
 {
     match field {
-        Field::Octets(count) => read_octets(message, at, end, count as usize, out),
+        Field::FixedLength(count) => read_octets(message, at, end, count as usize, out),
         Field::DomainName => read_name(message, at, end, out),
         Field::CharacterString if at < end => read_octets(
             message,
@@ -228,7 +219,7 @@ fn read_field(
             message[at] as usize + 1,
             out,
         ),
-        Field::CharacterString => Err(ReadError::Fault(MessageFault::BadRdata)),
+        Field::CharacterString => Err(MessageError::Fault(MessageFault::BadRdata)),
         Field::Remainder => read_octets(message, at, end, end - at, out),
     }
 }
@@ -240,21 +231,26 @@ fn read_octets(
     end: usize,
     count: usize,
     out: &mut Vec<u8>,
-) -> Result<usize, ReadError>
+) -> Result<usize, MessageError>
     requires start { at ≤ end }
     requires end { end ≤ length message.now }
     ensures reads { AppendsOne out.old.items out.new.items result (octets_at message.now at end count) }
     ensures within { IfOk result (λ next. next ≤ end) }
 {
     if end - at < count {
-        return Err(ReadError::Fault(MessageFault::BadRdata));
+        return Err(MessageError::Fault(MessageFault::BadRdata));
     }
     out.extend_from_slice(message.split_at(at).1.split_at(count).0)?;
     Ok(at + count)
 }
 
 #[tactic(auto, unfolding(crate::specs::Reading::name_within))]
-fn read_name(message: &[u8], at: usize, end: usize, out: &mut Vec<u8>) -> Result<usize, ReadError>
+fn read_name(
+    message: &[u8],
+    at: usize,
+    end: usize,
+    out: &mut Vec<u8>,
+) -> Result<usize, MessageError>
     requires start { at ≤ end }
     requires end { end ≤ length message.now }
     ensures reads { AppendsOne out.old.items out.new.items result (name_within message.now at end) }
@@ -262,7 +258,7 @@ fn read_name(message: &[u8], at: usize, end: usize, out: &mut Vec<u8>) -> Result
 {
     let (name, next) = Name::read_at(message, at)?;
     if end < next {
-        return Err(ReadError::Fault(MessageFault::BadRdata));
+        return Err(MessageError::Fault(MessageFault::BadRdata));
     }
     out.extend_from_slice(name.wire())?;
     Ok(next)

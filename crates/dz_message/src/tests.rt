@@ -1,4 +1,4 @@
-use crate::{Message, MessageFault, ReadError, WriteError, read_message, write_message};
+use crate::{Message, MessageError, MessageFault, WriteError, read_message, write_message};
 use dz_header::Header;
 use dz_name::{Name, Octets};
 use dz_record::Rr;
@@ -45,7 +45,7 @@ fn names_may_be_pointers_and_come_in_lower_case(rt: HostRuntime) {
     }
     match message.answers() {
         [record] => {
-            assert!(rt; record.owner().wire() == b"\x07example\0".as_slice());
+            assert!(rt; record.owner_ref().wire() == b"\x07example\0".as_slice());
             assert!(rt; record.kind() == 2 && record.ttl() == 86_400);
             assert!(rt; record.rdata() == b"\x03ns1\x07example\0".as_slice());
         }
@@ -117,7 +117,7 @@ fn each_fault_comes_where_it_is_the_first(rt: HostRuntime) {
     for (front, answer, fault) in cases {
         let octets = joined(&rt, alloc, &[front, answer]);
         match read_message(alloc, octets.as_slice()) {
-            Err(ReadError::Fault(found)) => assert!(rt;
+            Err(MessageError::Fault(found)) => assert!(rt;
                 found == fault,
                 "{:?} gives {:?}",
                 answer,
@@ -155,7 +155,7 @@ fn authority_and_additional_records_are_skipped_by_their_shape(rt: HostRuntime) 
     assert!(rt;
         matches!(
             read_message(alloc, octets.as_slice()),
-            Err(ReadError::Fault(MessageFault::Wire))
+            Err(MessageError::Fault(MessageFault::Wire))
         )
     );
 }
@@ -201,7 +201,7 @@ fn a_message_has_at_most_65535_octets(rt: HostRuntime) -> Result<(), AllocError>
         for _ in 0..size {
             assert!(rt; rdata.push(0u8).is_ok());
         }
-        let record = match Rr::make(Name::root(), 65_280, 0, Octets::from_vec(rdata)) {
+        let record = match Rr::make(alloc, Name::root(), 65_280, 0, Octets::from_vec(rdata)) {
             Ok(record) => record,
             Err(_) => panic!(rt; "no record"),
         };

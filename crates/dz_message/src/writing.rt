@@ -1,14 +1,15 @@
 ghost use Rattle.std.specs.Prelude.{◌≡◌, ◌++◌, IfOk, OnOk, Ok, Err};
 ghost use Rattle.std.specs.List.{flat_map, All};
 ghost use Rattle.dz_header.specs.Header.{header_octets};
-ghost use Rattle.dz_record.specs.Record.{record_octets};
+ghost use Rattle.dz_record.specs.Record.{record_octets, IsRecord};
 ghost use Rattle.dz_message.specs.Spelling.{Spells};
-ghost use Rattle.dz_message.specs.Writing.{question_octets, message_octets, CountsAgree, IsAnswer, IsAsking, IsHeader, IsHeldMessage, IsWritten};
+ghost use Rattle.dz_message.specs.Writing.{question_octets, message_octets, CountsAgree, IsAsking, IsHeader, IsHeldMessage, IsWritten};
 
 use crate::fault::WriteError;
 use crate::message::Message;
 use dz_header::{Header, Question, write_header};
 use dz_name::Octets;
+use dz_name::dns::MESSAGE_OCTETS;
 use dz_name::numbers::two;
 use dz_record::Rr;
 use std::alloc::{AllocError, Global};
@@ -25,7 +26,7 @@ pub fn write_message(alloc: Global, message: &Message) -> Result<Octets, WriteEr
 {
     let mut out = Vec::new(alloc);
     write_all(message, &mut out)?;
-    if out.len() > 65_535 {
+    if out.len() > MESSAGE_OCTETS {
         return Err(WriteError::TooLong);
     }
     Ok(Octets::from_vec(out))
@@ -70,7 +71,7 @@ fn write_questions(questions: &[Question], out: &mut Vec<u8>) -> Result<(), Allo
 
 fn write_answers(answers: &[Rr], out: &mut Vec<u8>) -> Result<(), AllocError>
     ensures octets { OnOk result (out.new.items ≡ out.old.items ++ flat_map record_octets answers.now) }
-    ensures held { OnOk result (All IsAnswer answers.now) }
+    ensures held { OnOk result (All IsRecord answers.now) }
 {
     'answers: for answer in answers {
         write_answer(answer, out)?;
@@ -80,10 +81,8 @@ fn write_answers(answers: &[Rr], out: &mut Vec<u8>) -> Result<(), AllocError>
 
 fn write_answer(answer: &Rr, out: &mut Vec<u8>) -> Result<(), AllocError>
     ensures octets { OnOk result (out.new.items ≡ out.old.items ++ record_octets answer.now) }
-    ensures held { OnOk result (IsAnswer answer.now) }
+    ensures held { OnOk result (IsRecord answer.now) }
 {
-    prove!(answer.owner().wire().len() <= 255);
-    prove!(answer.kind() <= 65_535 && answer.rdata().len() <= 65_535);
     answer.encode(out)
 }
 

@@ -1,15 +1,15 @@
 -- Labels at their places in the wire form.
-use Rattle.std.proofs.Common.{◌≡◌, ℕ, ◌+◌, ◌-◌, ◌*◌, ◌<◌, ◌≤◌, ◌≢◌, zero, suc, List, [], ◌∷◌, ◌++◌, length, take, drop, refl, sym, ◌∙◌, ap, arith, length-append, length-drop, add-one, get_or, set, drop-drop, below_more, get_or-set_same, get_or-set_other, length-set, inl, inr}
+use Rattle.std.proofs.Common.{◌≡◌, ℕ, ◌+◌, ◌-◌, ◌*◌, ◌<◌, ◌≤◌, ◌≢◌, zero, suc, List, [], ◌∷◌, ◌++◌, length, take, drop, refl, sym, ◌∙◌, ap, arith, length-append, length-drop, get_or, set, drop-drop, below_more, get_or-set_same, get_or-set_other, length-set, inl, inr}
 use Rattle.std.specs.List.{AllByRecursion}
 use Rattle.std.proofs.lemmas.List.{get_or-drop, drop_at, take_at, length-reverse, length-take-le}
 use Rattle.std.specs.Prelude.{reverse, ◌⊎◌}
 use Rattle.std.specs.Cmp.Lexicographic.{slice_cmp}
 use Rattle.std.specs.Ordering.{nat_cmp}
 use Rattle.std.proofs.lemmas.Bool.Decides.{nat_tests}
-use Rattle.dz_name.specs.Labels.{wire_of, IsLabel, IsName}
-use Rattle.dz_name.specs.Order.{offset_of, AreStarts}
+use Rattle.dz_name.specs.Name.{wire_of, IsLabel, IsName}
+use Rattle.dz_name.specs.inner.Starts.{offset_of, AreStarts}
 use Rattle.dz_name.proofs.KeptLemmas.{wire_some}
-use Rattle.dz_name.proofs.PartLemmas.{behind_step, first_in, wire_drop_le, is_more, is_all, name_drop}
+use Rattle.dz_name.proofs.PartLemmas.{behind_step, first_in, wire_drop_le, is_more, is_all}
 
 pub labels_few : (labels : List (List ℕ)) → AllByRecursion IsLabel labels → 2 * length labels < length (wire_of labels)
 unfolding wire_of
@@ -45,7 +45,7 @@ pub label_within : (labels : List (List ℕ)) (k : ℕ) → k ≤ length labels 
 label_within labels k h = omega (arith, first_at labels k h, first_in (drop k labels), wire_drop_le k labels)
 
 -- the label that stands at its place
-label_in_wire : (labels : List (List ℕ)) (k : ℕ) → k < length labels → take (get_or (wire_of (drop k labels)) 0 0) (drop 1 (wire_of (drop k labels))) ≡ get_or labels k []
+pub label_in_wire : (labels : List (List ℕ)) (k : ℕ) → k < length labels → take (get_or (wire_of (drop k labels)) 0 0) (drop 1 (wire_of (drop k labels))) ≡ get_or labels k []
 unfolding wire_of
 label_in_wire [] k h = absurd (omega arith)
 label_in_wire (label ∷ labels) zero h = take_at label (wire_of labels) (length label) refl

@@ -1,8 +1,10 @@
 //! Domain names (RFC 1034 section 3.1, RFC 1035 section 3.1, RFC 4034 section 6.1).
 #![tactic(auto)]
 
+pub mod dns;
 mod label;
 mod name;
+mod name_ref;
 pub mod numbers;
 mod octets;
 mod order;
@@ -18,6 +20,7 @@ mod text;
 
 pub use label::Label;
 pub use name::Name;
+pub use name_ref::NameRef;
 pub use octets::Octets;
 pub use reading::{WireFault, canonical_name_end};
 pub use text::NameError;

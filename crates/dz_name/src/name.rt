@@ -1,8 +1,10 @@
 ghost use Rattle.std.specs.Prelude.{◌≡◌, ℕ, ◌+◌, ◌-◌, ◌<◌, ◌≤◌, ◌↔◌, List, [], ◌∷◌, ◌++◌, length, take, drop, IsTrue};
-ghost use Rattle.dz_name.specs.Labels.{lower, wire_of, wildcard_of, IsLabel, IsName};
-ghost use Rattle.dz_name.specs.Child.{child_of};
+ghost use Rattle.dz_name.specs.Name.{lower, wire_of, wildcard_of, IsLabel, IsName};
+ghost use Rattle.dz_name.specs.Name.{child_of};
+ghost use Rattle.dz_name.specs.inner.Kept.{labels_of, IsWire};
 
 use crate::label::Label;
+use crate::name_ref::NameRef;
 use crate::text::NameError;
 use std::marker::Model;
 
@@ -16,11 +18,12 @@ pub struct Name {
 }
 
 impl Model for Name {
-    ghost use Rattle.std.specs.Prelude.{List, ℕ, length};
-    ghost use Rattle.dz_name.specs.Labels.{wire_of};
-    ghost use Rattle.dz_name.specs.Kept.{labels_in, padded, IsKept};
+    ghost use Rattle.std.specs.Prelude.{length};
+    ghost use Rattle.dz_name.specs.Words.{Name};
+    ghost use Rattle.dz_name.specs.Name.{wire_of};
+    ghost use Rattle.dz_name.specs.inner.Kept.{labels_in, padded, IsKept};
 
-    ghost Value = { List (List ℕ) };
+    ghost Value = { Name };
 
     ghost view = { λ n. labels_in n.len n.octets };
 
@@ -48,6 +51,26 @@ impl Name {
         &self.octets[..self.len as usize]
     }
 
+    /// The name on its own octets.
+    pub fn as_ref(&self) -> NameRef<'_>
+        ensures { result ≡ self.now }
+    {
+        NameRef::of_wire(self.wire())
+    }
+
+    /// The name whose wire form these octets are.
+    pub(crate) fn of_wire(wire: &[u8]) -> Name
+        requires { IsWire wire.now }
+        ensures { result ≡ labels_of wire.now }
+    {
+        let mut octets = [0; 255];
+        write_at(&mut octets, 0, wire);
+        Name {
+            octets,
+            len: wire.len() as u8,
+        }
+    }
+
     /// Puts a label behind the last one, with its ASCII letters in lower case.
     pub fn push_label(&mut self, label: &[u8])
         requires some { 0 < length label.now }
@@ -73,6 +96,14 @@ impl Name {
             octets,
             len: wire.len() as u8,
         }
+    }
+
+    /// The same on the octets of this name.
+    pub fn ancestor_ref(&self, skip: usize) -> NameRef<'_>
+        requires { skip ≤ length self.now }
+        ensures { result ≡ drop skip self.now }
+    {
+        NameRef::of_wire(self.as_ref().behind(skip))
     }
 
     /// The name with one more label in front, where there is room for it.

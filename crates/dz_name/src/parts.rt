@@ -1,7 +1,8 @@
 //! Parts of names, and names made of parts.
 
 ghost use Rattle.std.specs.Prelude.{◌≡◌, ℕ, ◌+◌, ◌-◌, ◌<◌, ◌≤◌, ◌↔◌, List, [], ◌∷◌, ◌++◌, length, take, drop, IsTrue, slice_index, slice_index_or, slice_range};
-ghost use Rattle.dz_name.specs.Labels.{wire_of, IsLabel, IsName, IsWithin, same_name, is_within, parent_of, first_label};
+ghost use Rattle.dz_name.specs.Name.{wire_of, IsLabel, IsName, IsWithin, same_name, is_within, parent_of, first_label};
+ghost use Rattle.dz_name.specs.Words.{Octets};
 
 use crate::label::Label;
 use crate::name::Name;
@@ -11,13 +12,7 @@ impl Name {
     pub fn label_count(&self) -> usize
         ensures { result ≡ length self.now }
     {
-        let mut rest = self.wire();
-        let mut count = 0;
-        'labels: while rest[0] != 0 {
-            rest = behind_label(rest);
-            count += 1;
-        }
-        count
+        self.as_ref().label_count()
     }
 
     /// The wire form of the name that stands behind the first labels.
@@ -26,20 +21,16 @@ impl Name {
         ensures wire { result.now ≡ wire_of (drop skip self.now) }
         ensures name { IsName (drop skip self.now) }
     {
-        let mut rest = self.wire();
-        'labels: for _ in 0..skip {
-            rest = behind_label(rest);
-        }
-        rest
+        self.as_ref().behind(skip)
     }
 
     /// A label behind its length octet, as it stands in the wire form; 0 is the first.
     pub fn piece(&self, number: usize) -> &[u8]
         requires { number < length self.now }
-        ensures piece { (d : List ℕ) → result.now ≡ length (slice_index_or self.now number d) ∷ slice_index_or self.now number d }
-        ensures label { (d : List ℕ) → IsLabel (slice_index_or self.now number d) }
+        ensures piece { (d : Octets) → result.now ≡ length (slice_index_or self.now number d) ∷ slice_index_or self.now number d }
+        ensures label { (d : Octets) → IsLabel (slice_index_or self.now number d) }
     {
-        first_piece(self.behind(number))
+        self.as_ref().piece(number)
     }
 
     /// Whether the two names are one.
@@ -47,7 +38,7 @@ impl Name {
         ensures value { result ≡ same_name self.now other.now }
         ensures equal { IsTrue result ↔ (self.now ≡ other.now) }
     {
-        self.wire() == other.wire()
+        self.as_ref().same(&other.as_ref())
     }
 
     /// Whether the name is the other one or stands below it.
@@ -55,7 +46,7 @@ impl Name {
         ensures value { result ≡ is_within self.now above.now }
         ensures suffix { IsTrue result ↔ IsWithin self.now above.now }
     {
-        self.is_within_part(above, 0)
+        self.as_ref().is_within(&above.as_ref())
     }
 
     /// Whether the name is within what stands behind the first labels of the other.
@@ -64,9 +55,7 @@ impl Name {
         ensures value { result ≡ is_within self.now (drop skip above.now) }
         ensures suffix { IsTrue result ↔ IsWithin self.now (drop skip above.now) }
     {
-        let mine = self.label_count();
-        let theirs = above.label_count() - skip;
-        theirs <= mine && self.behind(mine - theirs) == above.behind(skip)
+        self.as_ref().is_within_part(&above.as_ref(), skip)
     }
 
     /// The label on the left; none for the root alone.
@@ -76,7 +65,7 @@ impl Name {
         if self.label_count() == 0 {
             None
         } else {
-            Label::make(self.piece(0).split_at(1).1)
+            Label::new(self.piece(0).split_at(1).1)
         }
     }
 
@@ -90,22 +79,4 @@ impl Name {
             Some(self.ancestor(1))
         }
     }
-}
-
-/// What stands behind the first label of a wire form.
-fn behind_label(wire: &[u8]) -> &[u8]
-    requires some { 0 < length wire.now }
-    requires whole { slice_index wire.now 0 < length wire.now }
-    ensures { result.now ≡ drop (slice_index wire.now 0 + 1) wire.now }
-{
-    &wire[wire[0] as usize + 1..]
-}
-
-/// The first label of a wire form behind its length octet.
-fn first_piece(wire: &[u8]) -> &[u8]
-    requires some { 0 < length wire.now }
-    requires whole { slice_index wire.now 0 < length wire.now }
-    ensures { result.now ≡ take (slice_index wire.now 0 + 1) wire.now }
-{
-    &wire[..wire[0] as usize + 1]
 }

@@ -1,7 +1,7 @@
 //! NOTIFY requests.
 
 ghost use Rattle.std.specs.Prelude.{◌≡◌};
-ghost use Rattle.dz_notify.specs.Notify.{notified_in};
+ghost use Rattle.dz_notify.specs.Notify.{notify_zone_in};
 
 use dz_name::Name;
 use dz_request::{Request, read_request};
@@ -20,7 +20,7 @@ pub enum Heard {
 /// The zone that a NOTIFY request tells of: the name of its question. None where the request isn't a NOTIFY of class IN
 /// and type SOA that can be read (RFC 1996 section 3.7).
 pub fn read_notify(request: &[u8]) -> Option<Name>
-    ensures { result ≡ notified_in request.now }
+    ensures { result ≡ notify_zone_in request.now }
 {
     match read_request(request) {
         Request::Notify(asked) => Some(asked.question.name),

@@ -1,3 +1,5 @@
+pub mod Examples
 pub mod Fields
 pub mod Record
-pub mod Zone
+pub mod Records
+pub mod inner

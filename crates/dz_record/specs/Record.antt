@@ -1,30 +1,37 @@
--- Resource records of class IN (RFC 1035 section 3.2.1, RFC 2181 section 8).
-use Rattle.std.specs.Prelude.{◌≡◌, ℕ, ◌+◌, ◌-◌, ◌<◌, ◌^◌, Bool, true, false, ◌==◌, ◌&&◌, ◌||◌, nat_le, nat_lt, List, ◌++◌, length, drop, take, IsTrue, Option, Some, None, Result, Ok, Err, if◌then◌else◌}
+-- Meaning: resource records of class IN (RFC 1035 section 3.2.1, RFC 2181 section 8).
+use Rattle.std.specs.Prelude.{⊤, ◌≡◌, ℕ, ◌-◌, ◌<◌, ◌^◌, Bool, true, false, ◌==◌, ◌&&◌, ◌||◌, nat_le, nat_lt, ◌++◌, length, drop, Option, Some, None, Result, Ok, Err, if◌then◌else◌}
 use Rattle.std.specs.Str.{bytes_eq}
 use Rattle.std.specs.Ordering.{nat_cmp, on, then_cmp}
 use Rattle.std.specs.Cmp.Lexicographic.{slice_cmp}
 use Rattle.std.specs.declared.cmp.Ordering.{Ordering}
-use Rattle.dz_name.specs.Labels.{same_name, canonical_order, wire_of}
-use Rattle.dz_name.specs.Kept.{labels_in}
-use Rattle.dz_name.specs.Numbers.{two, four, number_of_two, number_of_four}
+use Rattle.dz_name.specs.Name.{same_name, canonical_order, wire_of, IsName}
+use Rattle.dz_name.specs.inner.Kept.{labels_in}
+use Rattle.dz_name.specs.Numbers.{two, four, number_of_four}
 use Rattle.dz_record.specs.Fields.{is_rdata}
 use Rattle.dz_record.specs.declared.rr.Soa.{Soa}
+use Rattle.dz_record.specs.declared.rr.RrFault.{RrFault}
+use Rattle.dz_record.specs.declared.rr.RrFault.TheVariants.{BadRdata, BadType}
 use Rattle.dz_record.specs.declared.rr.RrError.{RrError}
-use Rattle.dz_record.specs.declared.rr.RrError.TheVariants.{BadRdata, BadType}
+use Rattle.dz_record.specs.declared.rr.RrError.TheVariants as errors
+use Rattle.dz_name.specs.Words.{Name, Octets, Kind}
+use Rattle.dz_name.specs.declared.dns.TheConstants.{TYPE_NS, TYPE_CNAME, TYPE_SOA, TYPE_PTR, TYPE_SIG, TYPE_NXT, TYPE_A6, TYPE_DNAME, TYPE_OPT, TYPE_TKEY, TYPE_ANY, CLASS_IN}
 
 -- owner, type number, TTL in seconds, and RDATA
 pub record Record : Type 0 where
-  pub owner : List (List ℕ)
-  pub kind : ℕ
+  pub owner : Name
+  pub kind : Kind
   pub ttl : ℕ
-  pub rdata : List ℕ
+  pub rdata : Octets
 
 -- types that no zone holds: SIG, NXT, A6, OPT, and those of questions and of transactions (RFC 6895 section 3.1)
-abbrev pub is_bad_type : ℕ → Bool
-is_bad_type kind = kind == 24 || (kind == 30 || (kind == 38 || (kind == 41 || (nat_le 249 kind && nat_le kind 255))))
+abbrev pub is_bad_type : Kind → Bool
+is_bad_type kind = kind == TYPE_SIG || (kind == TYPE_NXT || (kind == TYPE_A6 || (kind == TYPE_OPT || (nat_le TYPE_TKEY kind && nat_le kind TYPE_ANY))))
 
--- a record that a zone may hold: its TTL is below 2^31 (RFC 2181 section 8), its RDATA in canonical form
+-- a record that a zone may hold: its owner is a name, its type a number of two octets, its TTL below 2^31 (RFC 2181
+-- section 8), its RDATA in canonical form
 pub record IsRecord (r : Record) : Type 0 where
+  pub owner : IsName r.owner
+  pub number : r.kind < 2 ^ 16
   pub kind : is_bad_type r.kind ≡ false
   pub ttl : r.ttl < 2 ^ 31
   pub rdata : is_rdata r.kind r.rdata ≡ true
@@ -34,11 +41,17 @@ abbrev pub ttl_of : ℕ → ℕ
 ttl_of ttl = if nat_lt ttl (2 ^ 31) then ttl else 0
 
 -- the record of these parts, or why there is none
-abbrev pub made : List (List ℕ) → ℕ → ℕ → List ℕ → Result Record RrError
-made owner kind ttl rdata =
+abbrev pub record_of : Name → Kind → ℕ → Octets → Result Record RrFault
+record_of owner kind ttl rdata =
     if is_bad_type kind then Err BadType
     else if is_rdata kind rdata then Ok (record { owner = owner; kind = kind; ttl = ttl_of ttl; rdata = rdata })
     else Err BadRdata
+
+-- what a call made: this record, or why there is none; want of memory tells nothing
+abbrev pub Makes : Result Record RrError → Result Record RrFault → Type 0
+Makes (Ok r) record_is = record_is ≡ Ok r
+Makes (Err (errors.Fault fault)) record_is = record_is ≡ Err fault
+Makes (Err errors.OutOfMemory) record_is = ⊤
 
 -- two records are the same where owner, type and RDATA agree; the TTL isn't looked at (RFC 2181 section 5)
 abbrev pub same_record : Record → Record → Bool
@@ -52,12 +65,16 @@ record_order = then_cmp (then_cmp (on (λ r. r.owner) canonical_order) (on (λ r
 abbrev pub full_order : Record → Record → Ordering
 full_order = then_cmp record_order (on (λ r. r.ttl) nat_cmp)
 
+-- what stands behind an owner: type, class IN, TTL, length of RDATA, RDATA (RFC 1035 section 4.1.3)
+abbrev pub octets_behind_owner : Record → Octets
+octets_behind_owner r = two r.kind ++ (two CLASS_IN ++ (four r.ttl ++ (two (length r.rdata) ++ r.rdata)))
+
 -- a record without pointers: owner, type, class IN, TTL, length of RDATA, RDATA (RFC 1035 section 4.1.3)
-abbrev pub record_octets : Record → List ℕ
-record_octets r = wire_of r.owner ++ (two r.kind ++ (two 1 ++ (four r.ttl ++ (two (length r.rdata) ++ r.rdata))))
+abbrev pub record_octets : Record → Octets
+record_octets r = wire_of r.owner ++ octets_behind_owner r
 
 -- the numbers of an SOA, its last 20 octets (RFC 1035 section 3.3.13)
-abbrev pub soa_numbers : List ℕ → Soa
+abbrev pub soa_numbers : Octets → Soa
 soa_numbers octets = record {
   serial = number_of_four octets;
   refresh = number_of_four (drop 4 octets);
@@ -67,11 +84,11 @@ soa_numbers octets = record {
 }
 
 abbrev pub soa_of : Record → Option Soa
-soa_of r = if r.kind == 6 then Some (soa_numbers (drop (length r.rdata - 20) r.rdata)) else None
+soa_of r = if r.kind == TYPE_SOA then Some (soa_numbers (drop (length r.rdata - 20) r.rdata)) else None
 
 -- NS, CNAME, PTR and DNAME lead to a name, which is their whole RDATA
-abbrev pub has_target : ℕ → Bool
-has_target kind = kind == 2 || (kind == 5 || (kind == 12 || kind == 39))
+abbrev pub has_target : Kind → Bool
+has_target kind = kind == TYPE_NS || (kind == TYPE_CNAME || (kind == TYPE_PTR || kind == TYPE_DNAME))
 
-abbrev pub target_of : Record → Option (List (List ℕ))
+abbrev pub target_of : Record → Option Name
 target_of r = if has_target r.kind then Some (labels_in (length r.rdata) r.rdata) else None

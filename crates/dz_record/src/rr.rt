@@ -1,24 +1,41 @@
 //! Resource records.
 
-ghost use Rattle.std.specs.Prelude.{◌≡◌, ◌≤◌, length, ◌++◌, IsTrue, IfOk, OnOk, OnErr, Ok, Err, true, false};
+ghost use Rattle.std.specs.Prelude.{◌≡◌, ◌<◌, ◌≤◌, ◌⊎◌, length, ◌++◌, IsTrue, IfOk, OnOk, OnErr, IfErr, Ok, Err, true, false, is_ok, if◌then◌else◌, All};
+ghost use Rattle.dz_record.specs.inner.Kept.{octets_of};
+ghost use Rattle.dz_name.specs.Name.{wire_of, is_within, same_name, canonical_order};
 ghost use Rattle.std.specs.Ordering.{nat_cmp};
 ghost use Rattle.dz_record.specs.Fields.{is_rdata};
-ghost use Rattle.dz_record.specs.Record.{Record, IsRecord, same_record, record_order, full_order, record_octets, soa_numbers, soa_of, target_of, has_target, is_bad_type, ttl_of, made};
+ghost use Rattle.dz_record.specs.Record.{Record, IsRecord, same_record, record_order, full_order, record_octets, soa_numbers, soa_of, target_of, has_target, is_bad_type, ttl_of, record_of, Makes};
+ghost use Rattle.dz_name.specs.Numbers.{two};
 
-use crate::table::is_rdata;
+use crate::fields::is_rdata;
+use dz_name::dns::{
+    CLASS_IN, MESSAGE_OCTETS, TYPE_A6, TYPE_ANY, TYPE_CNAME, TYPE_DNAME, TYPE_NS, TYPE_NXT,
+    TYPE_OPT, TYPE_PTR, TYPE_SIG, TYPE_SOA, TYPE_TKEY,
+};
 use dz_name::numbers::{four, number_of_four, two};
-use dz_name::{Name, Octets};
-use std::alloc::AllocError;
+use dz_name::{Name, NameRef, Octets};
+use smallvec::SmallVec;
+use std::alloc::{AllocError, Global};
 use std::cmp::Ordering;
 use std::marker::Model;
+use std::sync::Arc;
 
-/// Why there is no such record.
+/// What is wrong with the parts of a record.
 #[derive(Clone, Copy, Debug, PartialEq, Eq)]
-pub enum RrError {
+pub enum RrFault {
     /// The RDATA isn't the canonical form of its type, or has more than 65,535 octets.
     BadRdata,
     /// No zone holds records of this type: SIG, NXT, A6, OPT, and the types of questions and of transactions.
     BadType,
+}
+
+/// Why no record was made.
+#[derive(Clone, Copy, Debug, PartialEq, Eq)]
+pub enum RrError {
+    /// There is no such record.
+    Fault(RrFault),
+    OutOfMemory,
 }
 
 /// The numbers of an SOA record: the serial, and times in seconds (RFC 1035 section 3.3.13).
@@ -31,63 +48,146 @@ pub struct Soa {
     pub minimum: u32,
 }
 
+/// Records of so many octets stand in the shared allocation itself.
+const INLINE: usize = 48;
+
 /// A resource record of class IN whose RDATA is in the canonical form of its type (RFC 1035 section 3.2.1, RFC 4034
 /// section 6.2), and whose TTL is below 2^31 seconds (RFC 2181 section 8).
 #[derive(Debug, Drop)]
 pub struct Rr {
-    owner: Name,
+    octets: Arc<SmallVec<u8, INLINE>>,
+    owner_len: u8,
     kind: u16,
-    ttl: u32,
-    rdata: Octets,
 }
 
 impl Model for Rr {
-    ghost use Rattle.dz_record.specs.Record.{Record, IsRecord};
+    ghost use Rattle.dz_record.specs.Record.{Record};
+    ghost use Rattle.dz_record.specs.inner.Kept.{record_in, IsKept};
 
     ghost Value = { Record };
 
-    ghost view = { λ r. record { owner = r.owner; kind = r.kind; ttl = r.ttl; rdata = r.rdata } };
+    ghost view = { λ r. record_in (r.octets.value.items) r.owner_len r.kind };
 
-    ghost invariant = { λ r. IsRecord record { owner = r.owner; kind = r.kind; ttl = r.ttl; rdata = r.rdata } };
+    ghost invariant = { λ r. IsKept (r.octets.value.items) r.owner_len r.kind };
 }
 
 impl Rr {
     /// A record of these parts. A TTL whose top bit is set is kept as 0.
-    pub fn make(owner: Name, kind: u16, ttl: u32, rdata: Octets) -> Result<Rr, RrError>
-        ensures { result ≡ made owner kind ttl rdata }
+    ///
+    /// # Errors
+    ///
+    /// A fault where there is no such record: its type is judged before its RDATA; or want of memory.
+    pub fn make(
+        alloc: Global,
+        owner: Name,
+        kind: u16,
+        ttl: u32,
+        rdata: Octets,
+    ) -> Result<Rr, RrError>
+        ensures { Makes result (record_of owner kind ttl rdata) }
     {
         if is_bad_type(kind) {
-            return Err(RrError::BadType);
+            return Err(RrError::Fault(RrFault::BadType));
         }
         if !is_rdata(kind, rdata.as_slice()) {
-            return Err(RrError::BadRdata);
+            return Err(RrError::Fault(RrFault::BadRdata));
         }
+        match Rr::from_parts(alloc, &owner, kind, ttl, rdata.as_slice()) {
+            Ok(record) => Ok(record),
+            Err(_) => Err(RrError::OutOfMemory),
+        }
+    }
+
+    /// The record of parts that are known to be one's. A TTL whose top bit is set is kept as 0.
+    ///
+    /// # Errors
+    ///
+    /// `AllocError` where there is no memory for its octets.
+    pub fn from_parts(
+        alloc: Global,
+        owner: &Name,
+        kind: u16,
+        ttl: u32,
+        rdata: &[u8],
+    ) -> Result<Rr, AllocError>
+        requires kind { is_bad_type kind ≡ false }
+        requires rdata { is_rdata kind rdata.now ≡ true }
+        ensures { IfOk result (λ r. record_of owner.now kind ttl rdata.now ≡ Ok r) }
+    {
+        let wire = owner.wire();
+        let mut octets = SmallVec::with_capacity(alloc, wire.len() + 10 + rdata.len())?;
+        put_record(&mut octets, wire, kind, ttl_of(ttl), rdata)?;
+        let octets = Arc::new(alloc, octets)?;
         Ok(Rr {
-            owner,
+            octets,
+            owner_len: wire.len() as u8,
             kind,
-            ttl: ttl_of(ttl),
-            rdata,
         })
     }
 
-    /// The record of parts that are known to be one's.
-    pub fn from_parts(owner: Name, kind: u16, ttl: u32, rdata: Octets) -> Rr
-        requires kind { is_bad_type kind ≡ false }
-        requires rdata { is_rdata kind rdata ≡ true }
-        ensures { made owner kind ttl rdata ≡ Ok result }
+    /// The same record once more: it shares the octets.
+    ///
+    /// # Errors
+    ///
+    /// `AllocError` where one owner more of the octets can't be counted.
+    pub fn share(&self) -> Result<Rr, AllocError>
+        ensures { IfOk result (λ r. r ≡ self.now) }
     {
-        Rr {
-            owner,
-            kind,
-            ttl: ttl_of(ttl),
-            rdata,
-        }
+        Ok(Rr {
+            octets: self.octets.clone()?,
+            owner_len: self.owner_len,
+            kind: self.kind,
+        })
     }
 
-    pub fn owner(&self) -> &Name
-        ensures { result.now ≡ self.now.owner }
+    /// The record without pointers: owner, type, class IN, TTL, length of RDATA, RDATA (RFC 1035 section 4.1.3).
+    pub fn octets(&self) -> &[u8]
+        ensures octets { result.now ≡ record_octets self.now }
+        ensures valid { IsRecord self.now }
     {
-        &self.owner
+        self.octets.as_slice()
+    }
+
+    /// How many octets the owner has.
+    fn owner_size(&self) -> usize
+        ensures size { result ≡ length (wire_of self.now.owner) }
+        ensures small { result < 256 }
+    {
+        self.owner_len as usize
+    }
+
+    /// The owner, where it stands.
+    pub fn owner_ref(&self) -> NameRef<'_>
+        ensures { result ≡ self.now.owner }
+    {
+        NameRef::of_wire(self.octets().split_at(self.owner_size()).0)
+    }
+
+    pub fn owner(&self) -> Name
+        ensures { result ≡ self.now.owner }
+    {
+        self.owner_ref().to_name()
+    }
+
+    /// Whether the owner is this name.
+    pub fn is_owned_by(&self, name: &Name) -> bool
+        ensures { result ≡ same_name self.now.owner name.now }
+    {
+        self.owner_ref().same(&name.as_ref())
+    }
+
+    /// Whether the owner is this name or stands below it.
+    pub fn is_within(&self, above: &Name) -> bool
+        ensures { result ≡ is_within self.now.owner above.now }
+    {
+        self.owner_ref().is_within(&above.as_ref())
+    }
+
+    /// The owner before, at or behind a name in canonical order (RFC 4034 section 6.1).
+    pub fn owner_cmp(&self, name: &Name) -> Ordering
+        ensures { result ≡ canonical_order self.now.owner name.now }
+    {
+        self.owner_ref().canonical_cmp(&name.as_ref())
     }
 
     /// The type's number.
@@ -101,7 +201,7 @@ impl Rr {
     pub fn ttl(&self) -> u32
         ensures { result ≡ self.now.ttl }
     {
-        self.ttl
+        number_of_four(self.octets().split_at(self.owner_size() + 4).1)
     }
 
     /// The RDATA in canonical form, at most 65,535 octets.
@@ -109,22 +209,45 @@ impl Rr {
         ensures rdata { result.now ≡ self.now.rdata }
         ensures valid { IsRecord self.now }
     {
-        self.rdata.as_slice()
+        self.octets().split_at(self.owner_size() + 10).1
+    }
+
+    /// Type and class, as they stand behind the owner: four octets.
+    pub fn kind_and_class(&self) -> &[u8]
+        ensures { result.now ≡ two self.now.kind ++ two CLASS_IN }
+    {
+        self.octets().split_at(self.owner_size()).1.split_at(4).0
+    }
+
+    /// The RDATA behind its length in two octets, as it stands behind the TTL.
+    pub fn sized_rdata(&self) -> &[u8]
+        ensures { result.now ≡ two (length self.now.rdata) ++ self.now.rdata }
+    {
+        self.octets().split_at(self.owner_size() + 8).1
+    }
+
+    /// What is known of every record. It does nothing.
+    pub fn look(&self)
+        ensures { IsRecord self.now }
+    {
+        let _kind = &self.kind;
     }
 
     /// Whether owner, type and RDATA agree (RFC 2181 section 5).
     pub fn same(&self, other: &Rr) -> bool
         ensures { result ≡ same_record self.now other.now }
     {
-        self.owner == other.owner && self.kind == other.kind && self.rdata() == other.rdata()
+        self.owner_ref().same(&other.owner_ref())
+            && self.kind == other.kind
+            && self.rdata() == other.rdata()
     }
 
     /// The order of a zone's records: owner, type, RDATA. It ties the records that are the same.
     pub fn record_cmp(&self, other: &Rr) -> Ordering
         ensures { result ≡ record_order self.now other.now }
     {
-        self.owner
-            .canonical_cmp(&other.owner)
+        self.owner_ref()
+            .canonical_cmp(&other.owner_ref())
             .then(self.kind.cmp(&other.kind))
             .then(self.rdata().cmp(other.rdata()))
     }
@@ -133,14 +256,14 @@ impl Rr {
     pub fn canonical_cmp(&self, other: &Rr) -> Ordering
         ensures { result ≡ full_order self.now other.now }
     {
-        self.record_cmp(other).then(self.ttl.cmp(&other.ttl))
+        self.record_cmp(other).then(self.ttl().cmp(&other.ttl()))
     }
 
     /// The numbers of an SOA; none for every other type.
     pub fn soa(&self) -> Option<Soa>
         ensures { result ≡ soa_of self.now }
     {
-        if self.kind() != 6 {
+        if self.kind() != TYPE_SOA {
             return None;
         }
         let rdata = self.rdata();
@@ -160,33 +283,58 @@ impl Rr {
         }
     }
 
-    /// Appends the record without pointers (RFC 1035 section 4.1.3). Where memory is wanting, a part of it may have
-    /// been appended.
+    /// Appends the record without pointers (RFC 1035 section 4.1.3), or nothing where memory is wanting.
     pub fn encode(&self, out: &mut Vec<u8>) -> Result<(), AllocError>
-        ensures { OnOk result (out.new.items ≡ out.old.items ++ record_octets self.now) }
+        ensures octets { out.new.items ≡ (if is_ok result then out.old.items ++ record_octets self.now else out.old.items) }
+        ensures valid { IsRecord self.now }
     {
-        let rdata = self.rdata();
-        out.extend_from_slice(self.owner.wire())?;
-        out.extend_from_slice(&two(self.kind))?;
-        out.extend_from_slice(&two(1))?;
-        out.extend_from_slice(&four(self.ttl))?;
-        out.extend_from_slice(&two(rdata.len() as u16))?;
-        out.extend_from_slice(rdata)
+        out.extend_from_slice(self.octets())
     }
+}
+
+/// What is known of every record, of all of some. It does nothing.
+pub fn look_at_all(records: &[Rr])
+    ensures { All IsRecord records.now }
+{
+    'records: for record in records {
+        record.look();
+    }
+}
+
+/// Appends the octets of a record.
+fn put_record(
+    out: &mut SmallVec<u8, INLINE>,
+    owner: &[u8],
+    kind: u16,
+    ttl: u32,
+    rdata: &[u8],
+) -> Result<(), AllocError>
+    requires { length rdata.now ≤ MESSAGE_OCTETS }
+    ensures { OnOk result (out.new.items ≡ out.old.items ++ octets_of owner.now kind ttl rdata.now) }
+{
+    out.extend_from_slice(owner)?;
+    out.extend_from_slice(&two(kind))?;
+    out.extend_from_slice(&two(CLASS_IN))?;
+    out.extend_from_slice(&four(ttl))?;
+    out.extend_from_slice(&two(rdata.len() as u16))?;
+    out.extend_from_slice(rdata)
 }
 
 /// Whether no zone holds records of the type (RFC 6895 section 3.1).
 pub fn is_bad_type(kind: u16) -> bool
     ensures { result ≡ is_bad_type kind }
 {
-    matches!(kind, 24 | 30 | 38 | 41 | 249..=255)
+    matches!(
+        kind,
+        TYPE_SIG | TYPE_NXT | TYPE_A6 | TYPE_OPT | TYPE_TKEY..=TYPE_ANY
+    )
 }
 
 /// Whether records of the type lead to a name, which is their whole RDATA.
 fn has_target(kind: u16) -> bool
     ensures { result ≡ has_target kind }
 {
-    matches!(kind, 2 | 5 | 12 | 39)
+    matches!(kind, TYPE_NS | TYPE_CNAME | TYPE_PTR | TYPE_DNAME)
 }
 
 /// A TTL whose top bit is set counts as 0 (RFC 2181 section 8).

@@ -1,8 +1,9 @@
-use crate::{Field, Rr, RrError, Soa, fields, is_bad_type, is_rdata};
+use crate::{Field, Rr, RrError, RrFault, Soa, fields_of, is_bad_type, is_rdata};
 use dz_name::{Name, Octets};
 use std::alloc::{AllocError, Global};
 use std::cmp::Ordering;
 use std::process::Abort;
+use std::test::Fail;
 
 const SOA: &[u8] =
     b"\x02ns\x00\x05admin\x00\x78\x48\xb9\x1c\0\0\x07\x08\0\0\x03\x84\0\x09\x3a\x80\0\0\x01\x2c";
@@ -19,7 +20,7 @@ fn record(rt: &impl Abort, alloc: Global, owner: &[u8], kind: u16, ttl: u32, rda
         Ok(octets) => Octets::from_vec(octets),
         Err(_) => panic!(rt; "no memory"),
     };
-    match Rr::make(name(rt, owner), kind, ttl, octets) {
+    match Rr::make(alloc, name(rt, owner), kind, ttl, octets) {
         Ok(record) => record,
         Err(error) => panic!(rt; "type {} gives {:?}", kind, error),
     }
@@ -96,8 +97,8 @@ fn rdata_that_is_not_the_canonical_form_of_its_type(rt: HostRuntime) {
 
 #[test]
 fn a_type_without_a_row_is_one_remainder(rt: HostRuntime) {
-    assert!(rt; fields(99) == [Field::Remainder].as_slice());
-    assert!(rt; fields(33) == [Field::Octets(6), Field::DomainName].as_slice());
+    assert!(rt; fields_of(99) == [Field::Remainder].as_slice());
+    assert!(rt; fields_of(33) == [Field::FixedLength(6), Field::DomainName].as_slice());
 }
 
 #[test]
@@ -107,8 +108,8 @@ fn no_zone_holds_records_of_these_types(rt: HostRuntime) -> Result<(), AllocErro
         let rdata = Octets::from_vec(Vec::from_slice(rt.alloc(), b"x")?);
         assert!(rt;
             matches!(
-                Rr::make(Name::root(), kind, 0, rdata),
-                Err(RrError::BadType)
+                Rr::make(rt.alloc(), Name::root(), kind, 0, rdata),
+                Err(RrError::Fault(RrFault::BadType))
             )
         );
     }
@@ -116,7 +117,12 @@ fn no_zone_holds_records_of_these_types(rt: HostRuntime) -> Result<(), AllocErro
         assert!(rt; !is_bad_type(kind));
     }
     let rdata = Octets::from_vec(Vec::from_slice(rt.alloc(), b"\x01\x02\x03")?);
-    assert!(rt; matches!(Rr::make(Name::root(), 1, 0, rdata), Err(RrError::BadRdata)));
+    assert!(rt;
+        matches!(
+            Rr::make(rt.alloc(), Name::root(), 1, 0, rdata),
+            Err(RrError::Fault(RrFault::BadRdata))
+        )
+    );
     Ok(())
 }
 
@@ -205,4 +211,36 @@ fn a_record_is_encoded_without_pointers(rt: HostRuntime) -> Result<(), AllocErro
             == b"-\x03ns1\x07example\x00\0\x01\0\x01\0\0\x0e\x10\0\x04\xcb\x00\x71\x3f".as_slice()
     );
     Ok(())
+}
+
+fn is_send<T: Send>(_x: &T) {}
+
+fn is_sync<T: Sync>(_x: &T) {}
+
+#[test]
+fn a_share_is_the_record_and_threads_may_take_it(rt: HostRuntime) -> Result<(), AllocError> {
+    let alloc = rt.alloc();
+    let one = record(&rt, alloc, b"ns1.example.", 1, 3600, b"\xcb\x00\x71\x3f");
+    let two = one.share()?;
+    assert!(rt; one.same(&two) && two.ttl() == 3600 && one.octets() == two.octets());
+    is_send(&two);
+    is_sync(&two);
+    let mut both = Vec::new(alloc);
+    both.push(one)?;
+    both.push(two)?;
+    is_send(&both);
+    is_sync(&both);
+    Ok(())
+}
+
+#[test]
+fn owners_against_names(rt: HostRuntime) {
+    let one = record(&rt, rt.alloc(), b"a.Example.", 1, 1, b"\x0a\0\0\x01");
+    assert!(rt; one.owner().same(&name(&rt, b"a.example.")));
+    assert!(rt; one.is_owned_by(&name(&rt, b"a.example.")));
+    assert!(rt; !one.is_owned_by(&name(&rt, b"example.")));
+    assert!(rt; one.is_within(&name(&rt, b"example.")));
+    assert!(rt; !one.is_within(&name(&rt, b"b.example.")));
+    assert!(rt; one.owner_cmp(&name(&rt, b"example.")) == Ordering::Greater);
+    assert!(rt; one.owner_cmp(&name(&rt, b"b.example.")) == Ordering::Less);
 }

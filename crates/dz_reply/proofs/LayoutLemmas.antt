@@ -1,15 +1,14 @@
 -- The pieces of a reply, one behind another.
-use Rattle.std.proofs.Common.{◌≡◌, ℕ, ◌+◌, ◌<◌, ◌≤◌, ◌%◌, ◌/◌, List, [], ◌∷◌, ◌++◌, length, drop, refl, sym, ◌∙◌, ap, arith, Option, Some, None, get_or}
-use Rattle.std.specs.Prelude.{true, false, Bool, ◌==◌, ◌≢◌, not, is_some}
+use Rattle.std.proofs.Common.{◌≡◌, ℕ, ◌+◌, ◌<◌, ◌≤◌, List, [], ◌∷◌, ◌++◌, length, drop, refl, sym, ◌∙◌, ap, arith, append_assoc, Option, Some, None, get_or}
+use Rattle.std.specs.Prelude.{true, false, ◌==◌, ◌≢◌, not, is_some}
 use Rattle.std.specs.List.{flat_map}
 use Rattle.std.proofs.lemmas.List.{drop_more, drop_all, length-drop}
-use Rattle.dz_name.specs.Labels.{is_within}
-use Rattle.dz_name.specs.Numbers.{two}
+use Rattle.dz_name.specs.Name.{is_within}
+use Rattle.dz_name.specs.Numbers.{two, four}
 use Rattle.dz_record.specs.Record.{Record}
-use Rattle.dz_reply.specs.Layout.{owner_octets, pointer_to, shown_octets, all_octets, opt_octets, bit, head_octets, Query, reply_flags}
-use Rattle.dz_header.specs.declared.edns.Edns.{Edns}
+use Rattle.dz_reply.specs.Layout.{owner_octets, pointer_to, entry_octets, entries_octets}
 use Rattle.std.proofs.lemmas.List.Folds.{flat_map-map}
-use Rattle.dz_reply.specs.Shown.{shown, shown_as, shown_ttl, least_ttl}
+use Rattle.dz_reply.specs.Layout.{entries, entry, entry_ttl, least_ttl}
 use Rattle.std.proofs.lemmas.Bool.Decides.{nat_tests}
 use Rattle.dz_header.specs.Writing.{Writing, also}
 use Rattle.dz_header.proofs.WriterLemmas.{also_append, also_nil, also_over}
@@ -51,13 +50,6 @@ owner_root w w' w'' question owner k all before is =
     let e = drop_all k owner all in
     is ∙ rw e at before
 
-pub two_low : (count more : ℕ) → more ≤ 1 → two ((count % 65536 + more) % 65536) ≡ two (count + more)
-unfolding two
-two_low count more h =
-    let high : (count % 65536 + more) % 65536 / 256 % 256 ≡ (count + more) / 256 % 256 = omega arith in
-    let low : (count % 65536 + more) % 65536 % 256 ≡ (count + more) % 256 = omega arith in
-    cc
-
 -- records, of which the first are written
 pub also_more : (w w' w'' : Writing) (octets : Record → List ℕ) (rs : List Record) (i : ℕ) (r : Record) → i < length rs → r ≡ get_or rs i r
     → also w' (flat_map octets (drop i rs)) ≡ also w (flat_map octets rs) → w'' ≡ also w' (octets r)
@@ -79,39 +71,30 @@ pub also_full : (w w' : Writing) (a b : List ℕ) → not (is_some w'.octets) �
 also_full w w' a b full before = sym (also_over w' a (none_left w'.octets full)) ∙ before
 
 -- a record of a list, under an owner
-abbrev pub shown_in : List (List ℕ) → List (List ℕ) → List Record → Record → List ℕ
-shown_in question owner rs r = shown_octets question (shown_as owner (shown_ttl rs r) r)
+abbrev pub entry_in : List (List ℕ) → List (List ℕ) → List Record → Record → List ℕ
+entry_in question owner rs r = entry_octets question (entry owner (entry_ttl rs r) r)
 
-pub shown_least : (rs : List Record) (kind ttl : ℕ) (r : Record) → kind ≡ r.kind → ttl ≡ shown_ttl rs r → kind ≢ 46 → ttl ≡ least_ttl kind rs
-shown_least rs kind ttl r same is ne =
+pub entry_least : (rs : List Record) (kind ttl : ℕ) (r : Record) → kind ≡ r.kind → ttl ≡ entry_ttl rs r → kind ≢ 46 → ttl ≡ least_ttl kind rs
+entry_least rs kind ttl r same is ne =
     let f : (r.kind == 46) ≡ false = grind (arith, nat_tests) in
     rw (f, ← same) at is
 
-pub all_shown : (question owner : List (List ℕ)) (rs : List Record)
-    → all_octets question (shown owner rs) ≡ flat_map (shown_in question owner rs) rs
-unfolding all_octets shown
-all_shown question owner rs = flat_map-map (shown_octets question) (λ r. shown_as owner (shown_ttl rs r) r) rs
+pub all_entries : (question owner : List (List ℕ)) (rs : List Record)
+    → entries_octets question (entries owner rs) ≡ flat_map (entry_in question owner rs) rs
+unfolding entries_octets entries
+all_entries question owner rs = flat_map-map (entry_octets question) (λ r. entry owner (entry_ttl rs r) r) rs
 
-pub opt_written : (code : ℕ) (edns : Edns) (w w1 w2 w3 w4 w5 w6 : Writing) → w1 ≡ also w (0 ∷ []) → w2 ≡ also w1 (two 41) → w3 ≡ also w2 (two 1232)
-    → w4 ≡ also w3 (code / 16 ∷ 0 ∷ []) → w5 ≡ also w4 (two (bit edns.dnssec_ok 32768)) → w6 ≡ also w5 (two 0) → w6 ≡ also w (opt_octets code (Some edns))
-unfolding opt_octets
-opt_written code edns w w1 w2 w3 w4 w5 w6 e1 e2 e3 e4 e5 e6 =
-    let tail : List ℕ = two (bit edns.dnssec_ok 32768) ++ two 0 in
-    let middle = also_append w3 (code / 16 ∷ 0 ∷ []) tail in
-    let front = also_append w (0 ∷ []) (two 41 ++ (two 1232 ++ ((code / 16 ∷ 0 ∷ []) ++ tail))) in
-    let fields = also_append w1 (two 41) (two 1232 ++ ((code / 16 ∷ 0 ∷ []) ++ tail)) in
-    let size = also_append w2 (two 1232) ((code / 16 ∷ 0 ∷ []) ++ tail) in
-    let end = also_append w4 (two (bit edns.dnssec_ok 32768)) (two 0) in
-    cc
-
-pub opt_none : (code : ℕ) (w : Writing) → w ≡ also w (opt_octets code None)
-unfolding opt_octets
-opt_none code w = sym (also_nil w)
-
-pub head_written : (query : Query) (code : ℕ) (authoritative truncated : Bool) (answers authority additional : ℕ) (w w1 w2 w3 w4 w5 w6 w7 : Writing)
-    → w1 ≡ also w (two query.id) → w2 ≡ also w1 (two (reply_flags query.flags code authoritative truncated)) → w3 ≡ also w2 (two 1)
-    → w4 ≡ also w3 (two answers) → w5 ≡ also w4 (two authority) → w6 ≡ also w5 (two additional) → w7 ≡ also w6 query.echo
-    → w7 ≡ also w (head_octets query code authoritative truncated answers authority additional)
-unfolding head_octets
-head_written query code authoritative truncated answers authority additional w w1 w2 w3 w4 w5 w6 w7 e1 e2 e3 e4 e5 e6 e7 =
-    rw (also_append, also_append, also_append, also_append, also_append, also_append, ← e1, ← e2, ← e3, ← e4, ← e5, ← e6) e7
+-- a record under an owner, piece by piece
+pub entry_written : (question owner : List (List ℕ)) (ttl : ℕ) (r : Record) (w w1 w2 w3 w4 : Writing) → w1 ≡ also w (owner_octets question owner) → w2 ≡ also w1 (two r.kind ++ two 1)
+    → w3 ≡ also w2 (four ttl) → w4 ≡ also w3 (two (length r.rdata) ++ r.rdata) → w4 ≡ also w (entry_octets question (entry owner ttl r))
+unfolding entry_octets entry
+entry_written question owner ttl r w w1 w2 w3 w4 e1 e2 e3 e4 =
+    let head : List ℕ = owner_octets question owner in
+    let kind : List ℕ = two r.kind ++ two 1 in
+    let size : List ℕ = two (length r.rdata) ++ r.rdata in
+    let steps : w4 ≡ also (also (also (also w head) kind) (four ttl)) size =
+    e4 ∙ ap (λ x. also x size) (e3 ∙ ap (λ x. also x (four ttl)) (e2 ∙ ap (λ x. also x kind) e1)) in
+    let joins : also w (head ++ (kind ++ (four ttl ++ size))) ≡ also (also (also (also w head) kind) (four ttl)) size =
+    also_append w head (kind ++ (four ttl ++ size)) ∙ also_append (also w head) kind (four ttl ++ size) ∙ also_append (also (also w head) kind) (four ttl) size in
+    let split : kind ++ (four ttl ++ size) ≡ two r.kind ++ (two 1 ++ (four ttl ++ size)) = append_assoc (two r.kind) (two 1) (four ttl ++ size) in
+    steps ∙ sym joins ∙ ap (λ xs. also w (head ++ xs)) split

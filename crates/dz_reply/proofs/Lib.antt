@@ -1,10 +1,8 @@
 pub mod LayoutLemmas
-pub mod ReplyLemmas
-pub mod ChainLemmas
+pub mod AnswerLemmas
 pub mod TurnLemmas
 pub mod ReadBackNames
 pub mod ReadBackRecords
 pub mod ReadBackReplies
-pub mod ReadBackRequests
 pub mod ReadBackSections
 pub mod ReadBack

@@ -1,30 +1,35 @@
 -- Every reply that is written reads back.
+use Rattle.dz_record.specs.Record.{IsRecord}
 use Rattle.std.proofs.Common.{inl, inr, ◌≡◌, ℕ, ◌<◌, ◌^◌, Bool, List, [], ◌∷◌, length, take, drop, get_or, refl, ◌∙◌, ap, subst, arith, Option, Some, None}
 use Rattle.std.specs.Prelude.{map}
 use Rattle.std.specs.List.{AllByRecursion, All}
 use Rattle.std.proofs.lemmas.Bool.{cases_Bool}
-use Rattle.dz_name.specs.Labels.{lower, IsLabel, IsName}
+use Rattle.dz_name.specs.Name.{lower, IsLabel, IsName}
 use Rattle.dz_name.specs.Numbers.{number_of_two}
 use Rattle.dz_name.proofs.KeptLemmas.{lower_label}
 use Rattle.dz_header.specs.declared.question.Question.{Question}
-use Rattle.dz_zone.specs.Valid.{Zone}
-use Rattle.dz_zone.specs.Held.{IsHeld}
-use Rattle.dz_table.specs.Slots.{SlotOf, is_live, closest}
+use Rattle.dz_zone.specs.Version.{Zone}
+use Rattle.dz_table.specs.Slot.{SlotOf, is_live}
+use Rattle.dz_table.specs.Table.{closest}
 use Rattle.dz_header.specs.Code.{number_of}
-use Rattle.dz_reply.specs.Layout.{Sections}
-use Rattle.dz_reply.specs.Replies.{bare}
-use Rattle.dz_reply.specs.Reply.{Reply, written, query_of, at_version, at_slot, reply_for, reply_of, IsReply}
+use Rattle.dz_header.specs.Header.{header_in}
+use Rattle.dz_header.specs.declared.header.Header.{Header}
+use Rattle.dz_header.specs.declared.code.ResponseCode.TheVariants.{BadVers}
+use Rattle.dz_header.specs.declared.code.ResponseCode.TheVariants as codes
+use Rattle.dz_header.proofs.QuestionLemmas.{IsRaw, IsEcho, length_wire_lower}
+use Rattle.dz_request.specs.Frame.{query_of}
+use Rattle.dz_request.proofs.RequestLemmas.{EchoesIn, request_echo}
+use Rattle.dz_reply.specs.Answer.{Sections, bare}
+use Rattle.dz_reply.specs.Reply.{Reply, written, at_version, at_slot, reply_for, reply_of, IsReply}
 use Rattle.dz_request.specs.Request.{request}
 use Rattle.dz_header.specs.Writing.{Writing}
 use Rattle.dz_reply.specs.declared.reply.Turn.{Turn}
 use Rattle.dz_reply.specs.declared.reply.Turn.TheVariants.{Written}
 use Rattle.dz_request.specs.declared.request.Request.{Request}
-use Rattle.dz_request.specs.declared.request.Request.TheVariants.{Silent, Curt, NewerEdns, NotBuilt, Notify, Asks}
+use Rattle.dz_request.specs.declared.request.Request.TheVariants.{Silent, Curt, NewerEdns, NotImp, Notify, Asks}
 use Rattle.dz_reply.specs.ReadsBack.{ReadsBack, ReadsBackFor, SpellsReply, SpellsCurt}
-use Rattle.dz_reply.specs.Answering.{AnswersHeld, AnswersHeldFor}
-use Rattle.dz_reply.proofs.ReadBackNames.{IsRaw, length_wire_lower}
-use Rattle.dz_reply.proofs.ReadBackReplies.{IsEcho, AreHeld, reply_spells, curt_spells}
-use Rattle.dz_reply.proofs.ReadBackRequests.{EchoesIn, request_echo}
+use Rattle.dz_reply.specs.inner.AnswersHeld.{AnswersHeld, AnswersHeldFor}
+use Rattle.dz_reply.proofs.ReadBackReplies.{AreHeld, reply_spells, curt_spells}
 use Rattle.dz_reply.proofs.ReadBackSections.{each_held, sections_held}
 
 -- a number of two octets has 16 bits
@@ -46,7 +51,7 @@ none_held : (code : ℕ) → AreHeld (bare code)
 none_held code = record { answer = tt; authority = tt; additional = tt }
 
 -- what answers shows records that are records
-version_held : (version : Option Zone) (name : List (List ℕ)) (kind : ℕ) → ((v : Zone) → version ≡ Some v → All IsHeld v.records) → IsName name → AreHeld (at_version version name kind)
+version_held : (version : Option Zone) (name : List (List ℕ)) (kind : ℕ) → ((v : Zone) → version ≡ Some v → All IsRecord v.records) → IsName name → AreHeld (at_version version name kind)
 version_held None name kind held is = none_held 2
 version_held (Some zone) name kind held is = sections_held zone name kind (each_held zone.records (held zone refl)) is
 
@@ -62,23 +67,30 @@ slot_held (Some slot) moment name kind held is = elim (cases_Bool (is_live slot 
 text_is : (a b : List ℕ) → ◌≡◌ {A = Reply} (written a) (written b) → a ≡ b
 text_is a b e = cc
 
+-- a header that was read has an ID of 16 bits
+id_small : (octets : List ℕ) (header : Header) → number_of_two octets < 2 ^ 16 → header ≡ header_in octets → header.id < 2 ^ 16
+unfolding header_in
+id_small octets header small is = rw is small
+
 -- the reply to a request reads back, by what the request asks for
 reads_back_for : (slots : List SlotOf) (octets : List ℕ) (moment : ℕ) (tcp : Bool) (r : Request) (text : List ℕ) → number_of_two octets < 2 ^ 16 → EchoesIn octets r → AnswersHeldFor slots moment r
     → reply_for slots octets moment tcp r ≡ written text → ReadsBackFor slots octets moment tcp r text
 unfolding reply_for
 reads_back_for slots octets moment tcp Silent text small echo held is = tt
-reads_back_for slots octets moment tcp (Curt code) text small echo held is =
-    subst (λ m. SpellsCurt octets (number_of code) m) (text_is _ text is) (curt_spells octets (number_of code) small)
+reads_back_for slots octets moment tcp (Curt header code) text small echo held is =
+    subst (λ m. SpellsCurt header (number_of code) m) (text_is _ text is) (curt_spells header (number_of code) (id_small octets header small echo))
 reads_back_for slots octets moment tcp (NewerEdns asked) text small echo held is =
-    subst (λ m. SpellsReply tcp (query_of octets asked) asked.question (bare 16) m) (text_is _ text is) (reply_spells tcp (query_of octets asked) asked.question (bare 16) small echo refl (none_held 16))
-reads_back_for slots octets moment tcp (NotBuilt asked) text small echo held is =
-    subst (λ m. SpellsReply tcp (query_of octets asked) asked.question (bare 4) m) (text_is _ text is) (reply_spells tcp (query_of octets asked) asked.question (bare 4) small echo refl (none_held 4))
+    let code : ℕ = number_of BadVers in
+    subst (λ m. SpellsReply tcp (query_of octets asked) asked.question (bare code) m) (text_is _ text is) (reply_spells tcp (query_of octets asked) asked.question (bare code) (id_small octets asked.header small echo.header) echo.echo refl (none_held code))
+reads_back_for slots octets moment tcp (NotImp asked) text small echo held is =
+    let code : ℕ = number_of codes.NotImp in
+    subst (λ m. SpellsReply tcp (query_of octets asked) asked.question (bare code) m) (text_is _ text is) (reply_spells tcp (query_of octets asked) asked.question (bare code) (id_small octets asked.header small echo.header) echo.echo refl (none_held code))
 reads_back_for slots octets moment tcp (Notify asked) text small echo held is = tt
 reads_back_for slots octets moment tcp (Asks asked) text small echo held is =
     let name : List (List ℕ) = asked.question.name in
     let s : Sections = at_slot (closest slots name) moment name asked.question.kind in
-    let are : AreHeld s = slot_held (closest slots name) moment name asked.question.kind held (echo_name (take asked.size (drop 12 octets)) asked.question echo) in
-    subst (λ m. SpellsReply tcp (query_of octets asked) asked.question s m) (text_is _ text is) (reply_spells tcp (query_of octets asked) asked.question s small echo refl are)
+    let are : AreHeld s = slot_held (closest slots name) moment name asked.question.kind held (echo_name (take asked.size (drop 12 octets)) asked.question echo.echo) in
+    subst (λ m. SpellsReply tcp (query_of octets asked) asked.question s m) (text_is _ text is) (reply_spells tcp (query_of octets asked) asked.question s (id_small octets asked.header small echo.header) echo.echo refl are)
 
 -- what was written is the reply
 was_written : (w : Writing) (reply : Reply) (text : List ℕ) (turn : Turn) → IsReply turn w reply → w.octets ≡ Some text → turn ≡ Written (length text) → reply ≡ written text

@@ -1,125 +1,18 @@
 -- Names of a reply read back: the question's name in the letters of its request, and owners that point into it.
-use Rattle.std.proofs.Common.{inl, inr, ◌≡◌, ℕ, zero, suc, ◌+◌, ◌-◌, ◌/◌, ◌%◌, ◌<◌, ◌≤◌, Bool, true, false, List, [], ◌∷◌, ◌++◌, length, take, drop, refl, sym, ◌∙◌, ap, subst, arith, append_assoc, length-append, length-take-le, get_or, get_or-drop, Option, Some, None, Ok}
-use Rattle.std.specs.Prelude.{map, slice_index, slice_range, nat_lt, nat_le, ◌&&◌}
+use Rattle.std.proofs.Common.{inl, inr, ◌≡◌, ℕ, zero, suc, ◌+◌, ◌-◌, ◌/◌, ◌%◌, ◌<◌, ◌≤◌, true, List, [], ◌∷◌, ◌++◌, length, drop, refl, sym, ◌∙◌, ap, subst, arith, append_assoc, length-append, Ok}
+use Rattle.std.specs.Prelude.{map, slice_index}
 use Rattle.std.specs.List.{AllByRecursion}
-use Rattle.std.proofs.lemmas.List.{take_at, drop_at, take-append-drop, drop-map}
+use Rattle.std.proofs.lemmas.List.{drop_at, drop-map}
 use Rattle.std.proofs.lemmas.Bool.{cases_Bool}
-use Rattle.std.proofs.lemmas.Bool.Decides.{nat_tests, eqb_tells}
-use Rattle.dz_name.specs.Labels.{lower, wire_of, is_within, IsLabel}
+use Rattle.dz_name.specs.Name.{lower, wire_of, is_within, IsLabel}
 use Rattle.dz_name.specs.Numbers.{two}
 use Rattle.dz_name.specs.Reading.{Reads, at_root, at_label, at_pointer, label_end, label_at, target_at}
-use Rattle.dz_name.proofs.KeptLemmas.{wire_some, length-lower}
+use Rattle.dz_name.proofs.KeptLemmas.{wire_some}
 use Rattle.dz_name.proofs.NumberLemmas.{length_two}
 use Rattle.dz_name.proofs.PartLemmas.{within_suffix, wire_drop_le}
-use Rattle.dz_message.proofs.PlaceLemmas.{length_there, drop_there}
+use Rattle.dz_header.proofs.PlaceLemmas.{length_there, drop_there, index_there, range_there}
 use Rattle.dz_reply.specs.Layout.{owner_octets}
-use Rattle.dz_request.specs.Request.{name_of, with_label}
-
--- the octets from an offset on, by what stands there
-pub index_there : (m : List ℕ) (at first : ℕ) (rest : List ℕ) → drop at m ≡ first ∷ rest → slice_index m at ≡ first
-index_there m at first rest is =
-    let e : get_or (drop at m) 0 0 ≡ slice_index m (at + 0) = get_or-drop at m 0 0 in
-    let z : at + 0 ≡ at = omega arith in
-    sym (rw z at e) ∙ ap (λ xs. get_or xs 0 0) is
-
--- the octets of a part
-range_there : (m : List ℕ) (at end : ℕ) (part rest : List ℕ) → drop at m ≡ part ++ rest → at + length part ≡ end → slice_range m at end ≡ part
-range_there m at end part rest is ends =
-    let n : length part ≡ end - at = omega arith in
-    ap (take (end - at)) is ∙ take_at part rest (end - at) n
-
--- a label as a request has it, its letters in any case
-pub record IsRaw (label : List ℕ) : Type 0 where
-  pub some : 0 < length label
-  pub short : length label < 64
-
--- a name in the letters of a request stands before the rest
-pub record IsAskedName (octets : List ℕ) (used : ℕ) (name : List (List ℕ)) (rest : List ℕ) : Type 0 where
-  pub raws : List (List ℕ)
-  pub octets_are : octets ≡ wire_of raws ++ rest
-  pub name_is : name ≡ map lower raws
-  pub each : AllByRecursion IsRaw raws
-  pub short : used + length (wire_of raws) ≤ 255
-
--- what stands behind a label in an option
-labelled : (label : List ℕ) (o : Option (List (List ℕ) × List ℕ)) (name : List (List ℕ)) (rest : List ℕ) → with_label label o ≡ Some (name, rest)
-    → (behind : List (List ℕ)) × (o ≡ Some (behind, rest)) × (name ≡ label ∷ behind)
-labelled label None name rest h = absurd (cc)
-labelled label (Some n) name rest h =
-    let e : ◌≡◌ {A = List (List ℕ) × List ℕ} (label ∷ n.0, n.1) (name, rest) = cc in
-    (n.0, ap (λ x. Some (n.0, x)) (ap (λ p. p.1) e), sym (ap (λ p. p.0) e))
-
--- three tests that all pass
-both : (a b c : Bool) → (a && (b && c)) ≡ true → (a ≡ true) × (b ≡ true) × (c ≡ true)
-both true true true h = (refl, refl, refl)
-both true true false h = absurd (cc)
-both true false c h = absurd (cc)
-both false b c h = absurd (cc)
-
--- the name of a question, by the labels that the request has
-pub asked_name : (left used : ℕ) (octets : List ℕ) (name : List (List ℕ)) (rest : List ℕ) → used < 255 → name_of left used octets ≡ Some (name, rest) → IsAskedName octets used name rest
-unfolding name_of wire_of
-asked_name zero used octets name rest room h = absurd (cc)
-asked_name (suc left) used [] name rest room h = absurd (cc)
-asked_name (suc left) used (size ∷ octets) name rest room h = elim (eqb_tells size 0) [
-  | inl w ↦
-      let q : ◌≡◌ {A = Option (List (List ℕ) × List ℕ)} (Some ([], octets)) (Some (name, rest)) = rw w.0 at h in
-      let e : ◌≡◌ {A = List (List ℕ) × List ℕ} ([], octets) (name, rest) = cc in
-      record { raws = []; octets_are = rw (w.1, ap (λ p. p.1) e) refl; name_is = sym (ap (λ p. p.0) e); each = tt; short = omega arith }
-  | inr w ↦
-      let q = rw w.0 at h in
-      elim (cases_Bool (nat_lt size 64 && (nat_le size (length octets) && nat_lt (used + (size + 1)) 255))) [
-        | inr bad ↦ let p = rw bad at q in absurd (cc)
-        | inl good ↦
-            let p = rw good at q in
-            let fits = both (nat_lt size 64) (nat_le size (length octets)) (nat_lt (used + (size + 1)) 255) good in
-            let short : size < 64 = grind (arith, nat_tests, fits.0) in
-            let within : size ≤ length octets = grind (arith, nat_tests, fits.1) in
-            let room_left : used + (size + 1) < 255 = grind (arith, nat_tests, fits.2) in
-            let behind = labelled (lower (take size octets)) (name_of left (used + (size + 1)) (drop size octets)) name rest p in
-            let others = asked_name left (used + (size + 1)) (drop size octets) behind.0 rest room_left behind.1 in
-            let long : length (take size octets) ≡ size = length-take-le size octets within in
-            let split : octets ≡ take size octets ++ (wire_of others.raws ++ rest) = sym (take-append-drop size octets) ∙ ap (λ xs. take size octets ++ xs) others.octets_are in
-            record {
-              raws = take size octets ∷ others.raws;
-              octets_are = ap (λ n. n ∷ octets) (sym long) ∙ ap (λ xs. length (take size octets) ∷ xs) (split ∙ sym (append_assoc (take size octets) (wire_of others.raws) rest));
-              name_is = behind.2 ∙ ap (λ ls. lower (take size octets) ∷ ls) others.name_is;
-              each = (record { some = omega (arith, long, w.1); short = omega (arith, long) }, others.each);
-              short = omega (arith, long, others.short, length-append (take size octets) (wire_of others.raws));
-            }
-      ]
-]
-
--- labels in any case read as the labels in lower case
-pub reads_raw : (m : List ℕ) (raws : List (List ℕ)) (more : List ℕ) (piece used at : ℕ) → AllByRecursion IsRaw raws → used + length (wire_of raws) ≤ 255
-    → drop at m ≡ wire_of raws ++ more → Reads m piece used at (Ok (map lower raws, at + length (wire_of raws)))
-unfolding wire_of
-reads_raw m [] more piece used at each fits is =
-    at_root (omega (arith, length_there m at (0 ∷ []) more is)) (index_there m at 0 more is)
-reads_raw m (label ∷ labels) more piece used at each fits is =
-    let k = index_there m at (length label) ((label ++ wire_of labels) ++ more) is in
-    let count = length_there m at (length label ∷ (label ++ wire_of labels)) more is in
-    let parts = length-append label (wire_of labels) in
-    let some = wire_some labels in
-    let split : drop at m ≡ (length label ∷ label) ++ (wire_of labels ++ more) =
-    is ∙ ap (λ xs. length label ∷ xs) (append_assoc label (wire_of labels) more) in
-    let next : drop (label_end m at) m ≡ wire_of labels ++ more = drop_there m at (slice_index m at + 1) (length label ∷ label) (wire_of labels ++ more) split (omega arith) in
-    let behind_first : drop (at + 1) m ≡ label ++ (wire_of labels ++ more) = drop_there m at 1 (length label ∷ []) (label ++ (wire_of labels ++ more)) split refl in
-    let is_label : label_at m at ≡ lower label =
-    ap lower (range_there m (at + 1) (label_end m at) label (wire_of labels ++ more) behind_first (omega arith)) in
-    let rest : Reads m piece (used + (slice_index m at + 1)) (label_end m at) (Ok (map lower labels, label_end m at + length (wire_of labels))) =
-    reads_raw m labels more piece (used + (slice_index m at + 1)) (label_end m at) each.1 (omega arith) next in
-    let end : label_end m at + length (wire_of labels) ≡ at + length (wire_of (label ∷ labels)) = omega arith in
-    let whole : Reads m piece used at (Ok (label_at m at ∷ map lower labels, label_end m at + length (wire_of labels))) =
-    at_label (omega arith) (omega (arith, each.0.some)) (omega (arith, each.0.short)) (omega arith) (omega arith) rest in
-    rw (is_label, end) at whole
-
--- a wire form keeps its length in lower case
-pub length_wire_lower : (raws : List (List ℕ)) → length (wire_of (map lower raws)) ≡ length (wire_of raws)
-unfolding wire_of
-length_wire_lower [] = refl
-length_wire_lower (label ∷ labels) =
-    omega (arith, length_wire_lower labels, length-lower label, length-append label (wire_of labels), length-append (lower label) (wire_of (map lower labels)))
+use Rattle.dz_header.proofs.QuestionLemmas.{IsRaw, reads_raw, length_wire_lower}
 
 -- the wire form of what stands behind some labels is the end of the wire form
 pub suffix_there : (m : List ℕ) (k : ℕ) (raws : List (List ℕ)) (more : List ℕ) (at : ℕ) → drop at m ≡ wire_of raws ++ more

@@ -4,24 +4,24 @@ use Rattle.std.specs.Prelude.{map, filter, find, fold, not, ◌==◌, ◌&&◌}
 use Rattle.std.specs.List.{AllByRecursion, All, flat_map}
 use Rattle.std.specs.Ordering.{is_gt}
 use Rattle.std.proofs.lemmas.Bool.{cases_Bool}
-use Rattle.dz_name.specs.Labels.{IsName, same_name, is_within}
-use Rattle.dz_name.specs.Kept.{labels_in}
+use Rattle.dz_name.specs.Name.{IsName, same_name, is_within}
+use Rattle.dz_name.specs.inner.Kept.{labels_in}
 use Rattle.dz_name.specs.Order.{same_decides}
 use Rattle.dz_name.proofs.ReadingLemmas.{name_at_name}
-use Rattle.dz_record.specs.Record.{Record, has_target, target_of, record_order}
-use Rattle.dz_record.specs.Zone.{placed, in_order}
+use Rattle.dz_record.specs.Record.{Record, has_target, target_of, record_order, IsRecord}
+use Rattle.dz_record.specs.Records.{insertion, in_order}
 use Rattle.dz_record.proofs.FieldLemmas.{target_read}
-use Rattle.dz_zone.specs.Valid.{Zone, at_apex, apex_soa}
-use Rattle.dz_zone.specs.Held.{IsHeld}
-use Rattle.dz_lookup.specs.Found.{Found, here, alias, no_data, no_name, referral, of_type, records_of, here_or, at_source, at_cut, source, cut, found}
-use Rattle.dz_lookup.specs.Chain.{Aliases, Chased, Ending, ended, stopped, was_looked_up, next_name, onward, followed, chain_from, chain_of}
-use Rattle.dz_reply.specs.Shown.{shown, shown_as, shown_ttl}
-use Rattle.dz_reply.specs.Replies.{negative_ttl}
-use Rattle.dz_reply.specs.Sections.{shown_aliases, shown_own, soa_under, shown_soa, inner_target, addresses_of, glue_of, glue, at_end, of_ending, of_chain, sections_of}
+use Rattle.dz_zone.specs.Valid.{at_apex}
+use Rattle.dz_zone.specs.Version.{Zone, apex_soa}
+use Rattle.dz_lookup.specs.Found.{Found, here, alias, no_data, no_name, referral, here_or, at_source, at_cut, source, cut, found}
+use Rattle.dz_lookup.specs.Runs.{of_type, records_of}
+use Rattle.dz_lookup.specs.Chain.{Aliases, Chased, Ending, ended, stopped, was_looked_up, next_name, onward, continuation, chain_from, chain_of}
+use Rattle.dz_reply.specs.Layout.{entries, entry, entry_ttl}
+use Rattle.dz_reply.specs.Answer.{negative_ttl, alias_entries, own_entries, soa_under, soa_entries, inner_target, addresses_of, glue_of, glue, at_end, of_ending, of_chain, sections_of}
 use Rattle.dz_reply.proofs.ReadBackReplies.{AreHeld}
 
 -- a fact of each, by index and by recursion
-pub each_held : (rs : List Record) → All IsHeld rs → AllByRecursion IsHeld rs
+pub each_held : (rs : List Record) → All IsRecord rs → AllByRecursion IsRecord rs
 each_held [] h = tt
 each_held (r ∷ rs) h = (h 0 r (omega arith), each_held rs (λ k d lt. h (suc k) d (omega arith)))
 
@@ -49,16 +49,16 @@ each_flat P Q f step [] a = tt
 each_flat P Q f step (x ∷ xs) a = each_append Q (f x) (flat_map f xs) (step x a.0) (each_flat P Q f step xs a.1)
 
 -- the first record that passes a test is held, and passes it
-found_held : (p : Record → Bool) (rs : List Record) (r : Record) → AllByRecursion IsHeld rs → find p rs ≡ Some r → IsHeld r × (p r ≡ true)
+found_held : (p : Record → Bool) (rs : List Record) (r : Record) → AllByRecursion IsRecord rs → find p rs ≡ Some r → IsRecord r × (p r ≡ true)
 found_held p [] r a h = absurd (cc)
 found_held p (x ∷ xs) r a h = elim (cases_Bool (p x)) [
-  | inl t ↦ let q : ◌≡◌ {A = Option Record} (Some x) (Some r) = rw t at h in let e : x ≡ r = cc in subst (λ y. IsHeld y × (p y ≡ true)) e (a.0, t)
+  | inl t ↦ let q : ◌≡◌ {A = Option Record} (Some x) (Some r) = rw t at h in let e : x ≡ r = cc in subst (λ y. IsRecord y × (p y ≡ true)) e (a.0, t)
   | inr f ↦ found_held p xs r a.1 (rw f at h)
 ]
 
 -- records in order
-each_placed : (r : Record) (rs : List Record) → IsHeld r → AllByRecursion IsHeld rs → AllByRecursion IsHeld (placed r rs)
-unfolding placed
+each_placed : (r : Record) (rs : List Record) → IsRecord r → AllByRecursion IsRecord rs → AllByRecursion IsRecord (insertion r rs)
+unfolding insertion
 each_placed r [] h a = (h, tt)
 each_placed r (s ∷ ss) h a = elim (cases_Bool (is_gt (record_order r s))) [
   | inl t ↦ rw t (a.0, each_placed r ss h a.1)
@@ -66,45 +66,45 @@ each_placed r (s ∷ ss) h a = elim (cases_Bool (is_gt (record_order r s))) [
 ]
 
 -- putting records in order leaves each as it is
-each_in_order : (rs : List Record) → AllByRecursion IsHeld rs → AllByRecursion IsHeld (in_order rs)
+each_in_order : (rs : List Record) → AllByRecursion IsRecord rs → AllByRecursion IsRecord (in_order rs)
 unfolding in_order
 each_in_order [] a = tt
 each_in_order (r ∷ rs) a = each_placed r (in_order rs) a.0 (each_in_order rs a.1)
 
 -- the records of a type
-each_of_type : (kind : ℕ) (rs : List Record) → AllByRecursion IsHeld rs → AllByRecursion IsHeld (of_type kind rs)
-each_of_type kind rs a = each_filter IsHeld (λ r. r.kind == kind) rs a
+each_of_type : (kind : ℕ) (rs : List Record) → AllByRecursion IsRecord rs → AllByRecursion IsRecord (of_type kind rs)
+each_of_type kind rs a = each_filter IsRecord (λ r. r.kind == kind) rs a
 
 -- the records of a name
-each_records_of : (zone : List Record) (name : List (List ℕ)) → AllByRecursion IsHeld zone → AllByRecursion IsHeld (records_of zone name)
-each_records_of zone name a = each_in_order (filter (λ r. same_name r.owner name) zone) (each_filter IsHeld (λ r. same_name r.owner name) zone a)
+each_records_of : (zone : List Record) (name : List (List ℕ)) → AllByRecursion IsRecord zone → AllByRecursion IsRecord (records_of zone name)
+each_records_of zone name a = each_in_order (filter (λ r. same_name r.owner name) zone) (each_filter IsRecord (λ r. same_name r.owner name) zone a)
 
 -- what is found
 pub record IsAliasHeld (a : List (List ℕ) × Record) : Type 0 where
   pub name : IsName a.0
-  pub is : IsHeld a.1
+  pub is : IsRecord a.1
 
 -- the records of what is found
 abbrev HoldsFound : Found → Type 0
-HoldsFound (here rs) = AllByRecursion IsHeld rs
-HoldsFound (alias r) = IsHeld r
+HoldsFound (here rs) = AllByRecursion IsRecord rs
+HoldsFound (alias r) = IsRecord r
 HoldsFound no_data = Unit {0}
 HoldsFound no_name = Unit {0}
-HoldsFound (referral rs) = AllByRecursion IsHeld rs
+HoldsFound (referral rs) = AllByRecursion IsRecord rs
 
 -- the records that answer, or the first alias
-here_or_held : (rs aliases : List Record) → AllByRecursion IsHeld rs → AllByRecursion IsHeld aliases → HoldsFound (here_or rs aliases)
+here_or_held : (rs aliases : List Record) → AllByRecursion IsRecord rs → AllByRecursion IsRecord aliases → HoldsFound (here_or rs aliases)
 here_or_held (r ∷ rs) aliases a b = a
 here_or_held [] (r ∷ rs) a b = b.0
 here_or_held [] [] a b = tt
 
 -- one of two lists
-each_if : (b : Bool) (xs ys : List Record) → AllByRecursion IsHeld xs → AllByRecursion IsHeld ys → AllByRecursion IsHeld (if b then xs else ys)
+each_if : (b : Bool) (xs ys : List Record) → AllByRecursion IsRecord xs → AllByRecursion IsRecord ys → AllByRecursion IsRecord (if b then xs else ys)
 each_if true xs ys a b = a
 each_if false xs ys a b = b
 
 -- what is found at a node
-at_source_held : (zone : List Record) (kind : ℕ) (node : Option (List (List ℕ))) → AllByRecursion IsHeld zone → HoldsFound (at_source zone kind node)
+at_source_held : (zone : List Record) (kind : ℕ) (node : Option (List (List ℕ))) → AllByRecursion IsRecord zone → HoldsFound (at_source zone kind node)
 at_source_held zone kind None a = tt
 at_source_held zone kind (Some node) a =
     let rs = each_records_of zone node a in
@@ -112,22 +112,22 @@ at_source_held zone kind (Some node) a =
     (each_if (kind == 255) (records_of zone node) (of_type kind (records_of zone node)) rs (each_of_type kind (records_of zone node) rs)) (each_of_type 5 (records_of zone node) rs)
 
 -- what is found at a node or at the cut above it
-at_cut_held : (zone : List Record) (name : List (List ℕ)) (kind : ℕ) (above : Option (List (List ℕ))) → AllByRecursion IsHeld zone → HoldsFound (at_cut zone name kind above)
+at_cut_held : (zone : List Record) (name : List (List ℕ)) (kind : ℕ) (above : Option (List (List ℕ))) → AllByRecursion IsRecord zone → HoldsFound (at_cut zone name kind above)
 at_cut_held zone name kind None a = at_source_held zone kind (source zone name) a
 at_cut_held zone name kind (Some above) a = each_of_type 2 (records_of zone above) (each_records_of zone above a)
 
 -- what is found in a zone
-found_is_held : (apex : List (List ℕ)) (zone : List Record) (name : List (List ℕ)) (kind : ℕ) → AllByRecursion IsHeld zone → HoldsFound (found apex zone name kind)
+found_is_held : (apex : List (List ℕ)) (zone : List Record) (name : List (List ℕ)) (kind : ℕ) → AllByRecursion IsRecord zone → HoldsFound (found apex zone name kind)
 unfolding found
 found_is_held apex zone name kind a = at_cut_held zone name kind (cut apex zone name) a
 
 -- a record leads to a name
-target_name : (r : Record) (name : List (List ℕ)) → IsHeld r → target_of r ≡ Some name → IsName name
+target_name : (r : Record) (name : List (List ℕ)) → IsRecord r → target_of r ≡ Some name → IsName name
 target_name r name held h = elim (cases_Bool (has_target r.kind)) [
   | inl t ↦
       let q : ◌≡◌ {A = Option (List (List ℕ))} (Some (labels_in (length r.rdata) r.rdata)) (Some name) = rw t at h in
       let e : labels_in (length r.rdata) r.rdata ≡ name = cc in
-      let read = target_read r held.is t in
+      let read = target_read r held t in
       subst (λ n. IsName n) e (name_at_name r.rdata 0 (length r.rdata) (labels_in (length r.rdata) r.rdata) read)
   | inr f ↦ let q = rw f at h in absurd (cc)
 ]
@@ -158,7 +158,7 @@ onward_held next aliases (Some name) a step = step name refl
 
 -- a chain by what is found for its last name
 followed_held : (next : Aliases → List (List ℕ) → Chased) (apex : List (List ℕ)) (aliases : Aliases) (name : List (List ℕ)) (f : Found) → AllByRecursion IsAliasHeld aliases → IsName name → HoldsFound f
-    → ((more : Aliases) (n : List (List ℕ)) → AllByRecursion IsAliasHeld more → IsName n → HoldsChase (next more n)) → HoldsChase (followed next apex aliases name f)
+    → ((more : Aliases) (n : List (List ℕ)) → AllByRecursion IsAliasHeld more → IsName n → HoldsChase (next more n)) → HoldsChase (continuation next apex aliases name f)
 followed_held next apex aliases name (alias r) a is h step =
     let more : Aliases = aliases ++ (name, r) ∷ [] in
     let held : AllByRecursion IsAliasHeld more = each_append IsAliasHeld aliases ((name, r) ∷ []) a (record { name = is; is = h }, tt) in
@@ -169,7 +169,7 @@ followed_held next apex aliases name no_name a is h step = record { aliases = a;
 followed_held next apex aliases name (referral rs) a is h step = record { aliases = a; ending = (h, is) }
 
 -- a chain from a name on
-chain_from_held : (left : ℕ) (apex : List (List ℕ)) (zone : List Record) (kind : ℕ) (aliases : Aliases) (name : List (List ℕ)) → AllByRecursion IsHeld zone → AllByRecursion IsAliasHeld aliases → IsName name
+chain_from_held : (left : ℕ) (apex : List (List ℕ)) (zone : List Record) (kind : ℕ) (aliases : Aliases) (name : List (List ℕ)) → AllByRecursion IsRecord zone → AllByRecursion IsAliasHeld aliases → IsName name
     → HoldsChase (chain_from left apex zone kind aliases name)
 unfolding chain_from
 chain_from_held zero apex zone kind aliases name z a is = record { aliases = a; ending = tt }
@@ -178,14 +178,14 @@ chain_from_held (suc left) apex zone kind aliases name z a is =
     (λ more n held named. chain_from_held left apex zone kind more n z held named)
 
 -- the chain of a name and a type
-chain_held : (apex : List (List ℕ)) (zone : List Record) (name : List (List ℕ)) (kind : ℕ) → AllByRecursion IsHeld zone → IsName name → HoldsChase (chain_of apex zone name kind)
+chain_held : (apex : List (List ℕ)) (zone : List Record) (name : List (List ℕ)) (kind : ℕ) → AllByRecursion IsRecord zone → IsName name → HoldsChase (chain_of apex zone name kind)
 unfolding chain_of
 chain_held apex zone name kind z is = chain_from_held 16 apex zone kind [] name z tt is
 
 -- records as they are shown
-shown_as_held : (owner : List (List ℕ)) (ttl : ℕ) (r : Record) → IsName owner → ttl < 2 ^ 31 → IsHeld r → IsHeld (shown_as owner ttl r)
-unfolding shown_as
-shown_as_held owner ttl r is small held = record { owner = is; kind = held.kind; is = record { kind = held.is.kind; ttl = small; rdata = held.is.rdata } }
+shown_as_held : (owner : List (List ℕ)) (ttl : ℕ) (r : Record) → IsName owner → ttl < 2 ^ 31 → IsRecord r → IsRecord (entry owner ttl r)
+unfolding entry
+shown_as_held owner ttl r is small held = record { owner = is; number = held.number; kind = held.kind; ttl = small; rdata = held.rdata }
 
 -- the least of some TTLs is no more than what the count begins with
 fold_least : (least : ℕ) (rs : List Record) → fold (λ l r. min l r.ttl) least rs ≤ least
@@ -193,37 +193,37 @@ fold_least least [] = omega arith
 fold_least least (r ∷ rs) = omega (arith, fold_least (min least r.ttl) rs)
 
 -- the TTL that is shown is below 2^31 (RFC 2181 section 8)
-shown_ttl_small : (rs : List Record) (r : Record) → IsHeld r → shown_ttl rs r < 2 ^ 31
+shown_ttl_small : (rs : List Record) (r : Record) → IsRecord r → entry_ttl rs r < 2 ^ 31
 shown_ttl_small rs r held = elim (cases_Bool (r.kind == 46)) [
-  | inl t ↦ rw t held.is.ttl
+  | inl t ↦ rw t held.ttl
   | inr f ↦ rw f (omega (arith, fold_least 2147483647 (filter (λ s. s.kind == r.kind) rs)))
 ]
 
 -- records as they are shown under a name
-shown_held : (owner : List (List ℕ)) (rs : List Record) → IsName owner → AllByRecursion IsHeld rs → AllByRecursion IsHeld (shown owner rs)
-unfolding shown
-shown_held owner rs is held = each_map IsHeld IsHeld (λ r. shown_as owner (shown_ttl rs r) r) (λ r h. shown_as_held owner (shown_ttl rs r) r is (shown_ttl_small rs r h) h) rs held
+shown_held : (owner : List (List ℕ)) (rs : List Record) → IsName owner → AllByRecursion IsRecord rs → AllByRecursion IsRecord (entries owner rs)
+unfolding entries
+shown_held owner rs is held = each_map IsRecord IsRecord (λ r. entry owner (entry_ttl rs r) r) (λ r h. shown_as_held owner (entry_ttl rs r) r is (shown_ttl_small rs r h) h) rs held
 
 -- an RRset as it is shown under its owner
-shown_own_held : (rs : List Record) → AllByRecursion IsHeld rs → AllByRecursion IsHeld (shown_own rs)
-unfolding shown_own
+shown_own_held : (rs : List Record) → AllByRecursion IsRecord rs → AllByRecursion IsRecord (own_entries rs)
+unfolding own_entries
 shown_own_held [] held = tt
 shown_own_held (r ∷ rs) held = shown_held r.owner (r ∷ rs) held.0.owner held
 
 -- the aliases of a chain as they are shown
-aliases_held : (aliases : Aliases) → AllByRecursion IsAliasHeld aliases → AllByRecursion IsHeld (shown_aliases aliases)
-unfolding shown_aliases
-aliases_held aliases held = each_map IsAliasHeld IsHeld (λ a. shown_as a.0 a.1.ttl a.1) (λ a h. shown_as_held a.0 a.1.ttl a.1 h.name h.is.is.ttl h.is) aliases held
+aliases_held : (aliases : Aliases) → AllByRecursion IsAliasHeld aliases → AllByRecursion IsRecord (alias_entries aliases)
+unfolding alias_entries
+aliases_held aliases held = each_map IsAliasHeld IsRecord (λ a. entry a.0 a.1.ttl a.1) (λ a h. shown_as_held a.0 a.1.ttl a.1 h.name h.is.ttl h.is) aliases held
 
 -- the SOA of a negative answer
-negative_small : (r : Record) → IsHeld r → negative_ttl r < 2 ^ 31
+negative_small : (r : Record) → IsRecord r → negative_ttl r < 2 ^ 31
 negative_small r held = elim (cases_Bool (r.kind == 6)) [
-  | inl t ↦ rw t (omega (arith, held.is.ttl))
-  | inr f ↦ rw f held.is.ttl
+  | inl t ↦ rw t (omega (arith, held.ttl))
+  | inr f ↦ rw f held.ttl
 ]
 
 -- the SOA as it is shown: its owner is the apex, so the apex is a name
-soa_under_held : (apex : List (List ℕ)) (rs : List Record) (o : Option Record) → AllByRecursion IsHeld rs → find (at_apex 6 apex) rs ≡ o → AllByRecursion IsHeld (soa_under apex o)
+soa_under_held : (apex : List (List ℕ)) (rs : List Record) (o : Option Record) → AllByRecursion IsRecord rs → find (at_apex 6 apex) rs ≡ o → AllByRecursion IsRecord (soa_under apex o)
 soa_under_held apex rs None held e = tt
 soa_under_held apex rs (Some soa) held e =
     let is = found_held (at_apex 6 apex) rs soa held e in
@@ -235,17 +235,17 @@ soa_under_held apex rs (Some soa) held e =
     second false t h = absurd (cc)
 
 -- the SOA of a zone as it is shown
-soa_held : (zone : Zone) → AllByRecursion IsHeld zone.records → AllByRecursion IsHeld (shown_soa zone)
-unfolding shown_soa
+soa_held : (zone : Zone) → AllByRecursion IsRecord zone.records → AllByRecursion IsRecord (soa_entries zone)
+unfolding soa_entries
 soa_held zone held = soa_under_held zone.apex zone.records (apex_soa zone) held refl
 
 -- glue
-addresses_held : (zone : Zone) (name : Option (List (List ℕ))) → AllByRecursion IsHeld zone.records → ((n : List (List ℕ)) → name ≡ Some n → IsName n) → AllByRecursion IsHeld (addresses_of zone name)
+addresses_held : (zone : Zone) (name : Option (List (List ℕ))) → AllByRecursion IsRecord zone.records → ((n : List (List ℕ)) → name ≡ Some n → IsName n) → AllByRecursion IsRecord (addresses_of zone name)
 unfolding addresses_of
 addresses_held zone None held is = tt
 addresses_held zone (Some name) held is =
     let rs = each_records_of zone.records name held in
-    each_append IsHeld (shown name (of_type 1 (records_of zone.records name))) (shown name (of_type 28 (records_of zone.records name)))
+    each_append IsRecord (entries name (of_type 1 (records_of zone.records name))) (entries name (of_type 28 (records_of zone.records name)))
     (shown_held name (of_type 1 (records_of zone.records name)) (is name refl) (each_of_type 1 (records_of zone.records name) rs))
     (shown_held name (of_type 28 (records_of zone.records name)) (is name refl) (each_of_type 28 (records_of zone.records name) rs))
 
@@ -263,20 +263,20 @@ inner_is zone server name h =
     ] h
 
 -- the addresses of one name server
-glue_of_held : (zone : Zone) (server : Record) → AllByRecursion IsHeld zone.records → IsHeld server → AllByRecursion IsHeld (glue_of zone server)
+glue_of_held : (zone : Zone) (server : Record) → AllByRecursion IsRecord zone.records → IsRecord server → AllByRecursion IsRecord (glue_of zone server)
 unfolding glue_of
 glue_of_held zone server held is = addresses_held zone (inner_target zone server) held (λ n e. target_name server n is (inner_is zone server n e))
 
 -- the glue of a referral
-glue_held : (zone : Zone) (servers : List Record) → AllByRecursion IsHeld zone.records → AllByRecursion IsHeld servers → AllByRecursion IsHeld (glue zone servers)
+glue_held : (zone : Zone) (servers : List Record) → AllByRecursion IsRecord zone.records → AllByRecursion IsRecord servers → AllByRecursion IsRecord (glue zone servers)
 unfolding glue
-glue_held zone servers held are = each_flat IsHeld IsHeld (glue_of zone) (λ server is. glue_of_held zone server held is) servers are
+glue_held zone servers held are = each_flat IsRecord IsRecord (glue_of zone) (λ server is. glue_of_held zone server held is) servers are
 
 -- the sections
-end_held : (zone : Zone) (aliases : Aliases) (f : Found) (name : List (List ℕ)) → AllByRecursion IsHeld zone.records → AllByRecursion IsAliasHeld aliases → HoldsFound f → IsName name → AreHeld (at_end zone aliases f name)
+end_held : (zone : Zone) (aliases : Aliases) (f : Found) (name : List (List ℕ)) → AllByRecursion IsRecord zone.records → AllByRecursion IsAliasHeld aliases → HoldsFound f → IsName name → AreHeld (at_end zone aliases f name)
 unfolding at_end
 end_held zone aliases (here rs) name held a h is =
-    record { answer = each_append IsHeld (shown_aliases aliases) (shown name rs) (aliases_held aliases a) (shown_held name rs is h); authority = tt; additional = tt }
+    record { answer = each_append IsRecord (alias_entries aliases) (entries name rs) (aliases_held aliases a) (shown_held name rs is h); authority = tt; additional = tt }
 end_held zone aliases no_data name held a h is = record { answer = aliases_held aliases a; authority = soa_held zone held; additional = tt }
 end_held zone aliases no_name name held a h is = record { answer = aliases_held aliases a; authority = soa_held zone held; additional = tt }
 end_held zone aliases (referral servers) name held a h is =
@@ -284,13 +284,13 @@ end_held zone aliases (referral servers) name held a h is =
 end_held zone aliases (alias r) name held a h is = record { answer = aliases_held aliases a; authority = tt; additional = tt }
 
 -- the sections by what a chain ends with
-ending_held : (zone : Zone) (aliases : Aliases) (ending : Ending) → AllByRecursion IsHeld zone.records → AllByRecursion IsAliasHeld aliases → HoldsEnding ending → AreHeld (of_ending zone aliases ending)
+ending_held : (zone : Zone) (aliases : Aliases) (ending : Ending) → AllByRecursion IsRecord zone.records → AllByRecursion IsAliasHeld aliases → HoldsEnding ending → AreHeld (of_ending zone aliases ending)
 unfolding of_ending
 ending_held zone aliases (ended f name) held a h = end_held zone aliases f name held a h.0 h.1
 ending_held zone aliases stopped held a h = record { answer = aliases_held aliases a; authority = tt; additional = tt }
 
 -- the sections of a zone's answer to a name
-pub sections_held : (zone : Zone) (name : List (List ℕ)) (kind : ℕ) → AllByRecursion IsHeld zone.records → IsName name → AreHeld (sections_of zone name kind)
+pub sections_held : (zone : Zone) (name : List (List ℕ)) (kind : ℕ) → AllByRecursion IsRecord zone.records → IsName name → AreHeld (sections_of zone name kind)
 unfolding sections_of of_chain
 sections_held zone name kind held is =
     let chased = chain_held zone.apex zone.records name kind held is in

@@ -1,84 +1,46 @@
--- The octets of a reply (RFC 1035 sections 4.1 and 4.1.4, RFC 6891 section 6.1).
-use Rattle.std.specs.Prelude.{ℕ, ◌+◌, ◌-◌, ◌*◌, ◌/◌, ◌%◌, nat_le, Bool, true, false, min, max, List, [], ◌∷◌, ◌++◌, length, Option, Some, None, if◌then◌else◌}
+-- Meaning: the records of a reply as octets (RFC 1035 sections 4.1.3 and 4.1.4), with the TTL that a reply shows (RFC 2181
+-- section 5.2, RFC 4035 section 2.2). A record as a reply has it, under an owner and with a TTL that may differ from its
+-- own, is called an entry.
+use Rattle.std.specs.Prelude.{ℕ, ◌+◌, ◌-◌, ◌==◌, min, List, [], ◌∷◌, ◌++◌, length, map, filter, fold, if◌then◌else◌}
 use Rattle.std.specs.List.{flat_map}
-use Rattle.dz_name.specs.Labels.{wire_of, is_within}
-use Rattle.dz_name.specs.Numbers.{two, four}
-use Rattle.dz_record.specs.Record.{Record}
-use Rattle.dz_header.specs.declared.edns.Edns.{Edns}
+use Rattle.dz_name.specs.Words.{Name, Octets, Kind}
+use Rattle.dz_name.specs.Name.{wire_of, is_within}
+use Rattle.dz_name.specs.Numbers.{two}
+use Rattle.dz_name.specs.declared.dns.TheConstants.{HEADER_OCTETS, TYPE_RRSIG}
+use Rattle.dz_record.specs.Record.{Record, octets_behind_owner}
+use Rattle.dz_reply.specs.declared.layout.TheConstants.{POINTER, LONGEST_TTL}
 
--- a pointer to a suffix of the question's name, which begins at offset 12
-abbrev pub pointer_to : List (List ℕ) → List (List ℕ) → List ℕ
-pointer_to question suffix = two (49152 + (12 + (length (wire_of question) - length (wire_of suffix))))
+-- a pointer to a suffix of the question's name, which stands behind the header
+abbrev pub pointer_to : Name → Name → Octets
+pointer_to question suffix = two (POINTER + (HEADER_OCTETS + (length (wire_of question) - length (wire_of suffix))))
 
 -- an owner: its labels up to the longest suffix that it shares with the question's name, other than the root, and then a
 -- pointer to that suffix
-unfoldable pub owner_octets : List (List ℕ) → List (List ℕ) → List ℕ
+unfoldable pub owner_octets : Name → Name → Octets
 owner_octets question [] = 0 ∷ []
 owner_octets question (label ∷ labels) =
     if is_within question (label ∷ labels) then pointer_to question (label ∷ labels)
     else length label ∷ (label ++ owner_octets question labels)
 
 -- RDATA stands without pointers
-unfoldable pub shown_octets : List (List ℕ) → Record → List ℕ
-shown_octets question r = owner_octets question r.owner ++ (two r.kind ++ (two 1 ++ (four r.ttl ++ (two (length r.rdata) ++ r.rdata))))
+unfoldable pub entry_octets : Name → Record → Octets
+entry_octets question r = owner_octets question r.owner ++ octets_behind_owner r
 
-unfoldable pub all_octets : List (List ℕ) → List Record → List ℕ
-all_octets question rs = flat_map (shown_octets question) rs
+unfoldable pub entries_octets : Name → List Record → Octets
+entries_octets question rs = flat_map (entry_octets question) rs
 
--- the OPT record of a reply: payload size 1232, the upper eight bits of the code, version 0, DO as it was asked
-unfoldable pub opt_octets : ℕ → Option Edns → List ℕ
-opt_octets code None = []
-opt_octets code (Some edns) = 0 ∷ (two 41 ++ (two 1232 ++ ((code / 16) ∷ (0 ∷ (two (if edns.dnssec_ok then 32768 else 0) ++ two 0)))))
+-- the least TTL of the records of a type; a TTL is below 2^31
+abbrev pub least_ttl : Kind → List Record → ℕ
+least_ttl kind rs = fold (λ least r. min least r.ttl) LONGEST_TTL (filter (λ r. r.kind == kind) rs)
 
--- what a reply takes over from a request: ID, flags, the octets of the question, its name, and EDNS
-pub record Query : Type 0 where
-  pub id : ℕ
-  pub flags : ℕ
-  pub echo : List ℕ
-  pub name : List (List ℕ)
-  pub edns : Option Edns
+-- the records of a type have their least TTL, and an RRSIG has its own
+abbrev pub entry_ttl : List Record → Record → ℕ
+entry_ttl rs r = if r.kind == TYPE_RRSIG then r.ttl else least_ttl r.kind rs
 
--- what a reply says: response code, AA, and the records of its three sections
-pub record Sections : Type 0 where
-  pub code : ℕ
-  pub authoritative : Bool
-  pub answer : List Record
-  pub authority : List Record
-  pub additional : List Record
+-- a record under an owner and with a TTL
+unfoldable pub entry : Name → ℕ → Record → Record
+entry owner ttl r = record { owner = owner; kind = r.kind; ttl = ttl; rdata = r.rdata }
 
--- QR, the request's opcode and RD, AA, TC, and the lower four bits of the code
-abbrev pub bit : Bool → ℕ → ℕ
-bit is_set value = if is_set then value else 0
-
-abbrev pub reply_flags : ℕ → ℕ → Bool → Bool → ℕ
-reply_flags asked code authoritative truncated =
-    32768 + (asked / 2048 % 16 * 2048 + (bit authoritative 1024 + (bit truncated 512 + (asked / 256 % 2 * 256 + code % 16))))
-
-abbrev pub opt_count : Option Edns → ℕ
-opt_count None = 0
-opt_count (Some edns) = 1
-
-unfoldable pub head_octets : Query → ℕ → Bool → Bool → ℕ → ℕ → ℕ → List ℕ
-head_octets query code authoritative truncated answers authority additional =
-    two query.id ++ (two (reply_flags query.flags code authoritative truncated)
-    ++ (two 1 ++ (two answers ++ (two authority ++ (two additional ++ query.echo)))))
-
--- the whole reply
-unfoldable pub whole_octets : Query → Sections → List ℕ
-whole_octets query s =
-    head_octets query s.code s.authoritative false (length s.answer) (length s.authority) (length s.additional + opt_count query.edns)
-    ++ (all_octets query.name s.answer ++ (all_octets query.name s.authority ++ (all_octets query.name s.additional ++ opt_octets s.code query.edns)))
-
--- the reply past its limit: header, question and OPT, with TC
-unfoldable pub cut_octets : Query → Sections → List ℕ
-cut_octets query s = head_octets query s.code s.authoritative true 0 0 (opt_count query.edns) ++ opt_octets s.code query.edns
-
--- 512 octets over UDP, with EDNS the size asked for held between 512 and 1232; 65,535 over TCP
-abbrev pub limit_of : Bool → Option Edns → ℕ
-limit_of true edns = 65535
-limit_of false None = 512
-limit_of false (Some edns) = min 1232 (max 512 edns.size)
-
-unfoldable pub octets_of : Bool → Query → Sections → List ℕ
-octets_of tcp query s =
-    if nat_le (length (whole_octets query s)) (limit_of tcp query.edns) then whole_octets query s else cut_octets query s
+-- records under one owner
+unfoldable pub entries : Name → List Record → List Record
+entries owner rs = map (λ r. entry owner (entry_ttl rs r) r) rs

@@ -1,11 +1,6 @@
-pub mod Answering
-pub mod Exchanges
+pub mod Answer
+pub mod Examples
 pub mod Layout
-pub mod Query
 pub mod ReadsBack
-pub mod Replies
 pub mod Reply
-pub mod Rows
-pub mod Sections
-pub mod Shown
-pub mod Transports
+pub mod inner

@@ -1,74 +1,67 @@
--- The reply to a request (RFC 1034 section 4.3.2, RFC 1035 section 4.1.1, RFC 1996 section 3).
-use Rattle.std.specs.Prelude.{◌≡◌, ◌≤◌, ⊤, ℕ, Bool, false, List, length, drop, take, ◌++◌, Option, Some, None, if◌then◌else◌}
-use Rattle.dz_name.specs.Numbers.{two, number_of_two}
-use Rattle.dz_zone.specs.Valid.{Zone}
-use Rattle.dz_table.specs.Slots.{SlotOf, is_live, closest}
+-- Meaning: the reply to a request (RFC 1034 section 4.3.2, RFC 1035 section 4.1.1, RFC 1996 section 3).
+use Rattle.std.specs.Prelude.{◌≡◌, ◌≤◌, ⊤, ℕ, Bool, List, length, Option, Some, None, if◌then◌else◌}
+use Rattle.dz_name.specs.Words.{Name, Octets, Kind}
 use Rattle.dz_header.specs.Code.{number_of}
-use Rattle.dz_reply.specs.Layout.{Query, Sections, reply_flags, octets_of}
-use Rattle.dz_reply.specs.Replies.{bare}
-use Rattle.dz_request.specs.Request.{request}
-use Rattle.dz_reply.specs.Sections.{sections_of}
 use Rattle.dz_header.specs.Writing.{Writing}
-use Rattle.dz_request.specs.declared.request.Asked.{Asked}
+use Rattle.dz_header.specs.declared.code.ResponseCode.TheVariants.{BadVers, ServFail, Refused}
+use Rattle.dz_header.specs.declared.code.ResponseCode.TheVariants as codes
+use Rattle.dz_header.specs.declared.writer.TheConstants.{BUFFER_OCTETS}
+use Rattle.dz_request.specs.Frame.{query_of, curt_octets}
+use Rattle.dz_request.specs.Request.{request}
 use Rattle.dz_request.specs.declared.request.Request.{Request}
-use Rattle.dz_request.specs.declared.request.Request.TheVariants.{Silent, Curt, NewerEdns, NotBuilt, Notify, Asks}
+use Rattle.dz_request.specs.declared.request.Request.TheVariants.{Silent, Curt, NewerEdns, NotImp, Notify, Asks}
+use Rattle.dz_zone.specs.Version.{Zone}
+use Rattle.dz_table.specs.Slot.{SlotOf, is_live}
+use Rattle.dz_table.specs.Table.{closest}
+use Rattle.dz_reply.specs.Answer.{Sections, bare, octets_of, sections_of}
 use Rattle.dz_reply.specs.declared.reply.Turn.{Turn}
 use Rattle.dz_reply.specs.declared.reply.Turn.TheVariants as turns
 
 -- no reply, these octets, or what is still to be decided of a NOTIFY for this name
 pub data Reply : Type 0 where
   nothing : Reply
-  written : List ℕ → Reply
-  notify : List (List ℕ) → Reply
+  written : Octets → Reply
+  notify : Name → Reply
 
--- what a reply takes over from its request
-abbrev pub query_of : List ℕ → Asked → Query
-query_of request asked = record {
-  id = number_of_two request;
-  flags = number_of_two (drop 2 request);
-  echo = take asked.size (drop 12 request);
-  name = asked.question.name;
-  edns = asked.edns;
-}
-
--- the answer of a version: SERVFAIL (2) where none is held
-abbrev pub at_version : Option Zone → List (List ℕ) → ℕ → Sections
-at_version None name kind = bare 2
+-- the answer of a version: SERVFAIL where none is held
+abbrev pub at_version : Option Zone → Name → Kind → Sections
+at_version None name kind = bare (number_of ServFail)
 at_version (Some zone) name kind = sections_of zone name kind
 
--- the answer of the closest enclosing zone: REFUSED (5) without one, SERVFAIL where it isn't live at the moment
-abbrev pub at_slot : Option SlotOf → ℕ → List (List ℕ) → ℕ → Sections
-at_slot None moment name kind = bare 5
-at_slot (Some slot) moment name kind = if is_live slot moment then at_version slot.version name kind else bare 2
+-- the answer of the closest enclosing zone: REFUSED without one, SERVFAIL where it isn't live at the moment
+abbrev pub at_slot : Option SlotOf → ℕ → Name → Kind → Sections
+at_slot None moment name kind = bare (number_of Refused)
+at_slot (Some slot) moment name kind =
+    if is_live slot moment then at_version slot.version name kind else bare (number_of ServFail)
 
--- a reply of twelve octets: ID, opcode and RD of the request, the code, and no counts
-unfoldable pub curt_octets : List ℕ → ℕ → List ℕ
-curt_octets request code =
-    two (number_of_two request) ++ (two (reply_flags (number_of_two (drop 2 request)) code false false)
-    ++ (two 0 ++ (two 0 ++ (two 0 ++ two 0))))
-
--- BADVERS is 16, NOTIMP is 4
-unfoldable pub reply_for : List SlotOf → List ℕ → ℕ → Bool → Request → Reply
-reply_for slots request moment tcp Silent = nothing
-reply_for slots request moment tcp (Curt code) = written (curt_octets request (number_of code))
-reply_for slots request moment tcp (NewerEdns asked) = written (octets_of tcp (query_of request asked) (bare 16))
-reply_for slots request moment tcp (NotBuilt asked) = written (octets_of tcp (query_of request asked) (bare 4))
-reply_for slots request moment tcp (Notify asked) = notify asked.question.name
-reply_for slots request moment tcp (Asks asked) =
-    written (octets_of tcp (query_of request asked) (at_slot (closest slots asked.question.name) moment asked.question.name asked.question.kind))
+unfoldable pub reply_for : List SlotOf → Octets → ℕ → Bool → Request → Reply
+reply_for slots octets moment tcp Silent = nothing
+reply_for slots octets moment tcp (Curt header code) = written (curt_octets header (number_of code))
+reply_for slots octets moment tcp (NewerEdns asked) = written (octets_of tcp (query_of octets asked) (bare (number_of BadVers)))
+reply_for slots octets moment tcp (NotImp asked) = written (octets_of tcp (query_of octets asked) (bare (number_of codes.NotImp)))
+reply_for slots octets moment tcp (Notify asked) = notify asked.question.name
+reply_for slots octets moment tcp (Asks asked) =
+    written (octets_of tcp (query_of octets asked) (at_slot (closest slots asked.question.name) moment asked.question.name asked.question.kind))
 
 -- the reply of these slots at a moment, over TCP or UDP
-unfoldable pub reply_of : List SlotOf → List ℕ → ℕ → Bool → Reply
+unfoldable pub reply_of : List SlotOf → Octets → ℕ → Bool → Reply
 reply_of slots octets moment tcp = reply_for slots octets moment tcp (request octets)
 
 -- what a call answers and what it wrote are the reply
 abbrev pub IsReply : Turn → Writing → Reply → Type 0
 IsReply turns.Silent w reply = reply ≡ nothing
-IsReply (turns.Written count) w reply = (text : List ℕ) × (w.octets ≡ Some text) × (count ≡ length text) × (reply ≡ written text)
+IsReply (turns.Written count) w reply = (text : Octets) × (w.octets ≡ Some text) × (count ≡ length text) × (reply ≡ written text)
 IsReply (turns.Notify name) w reply = reply ≡ notify name
 
 -- what was written fits in a buffer of 65,537 octets
 abbrev pub FitsBuffer : Turn → Type 0
 FitsBuffer turns.Silent = ⊤
-FitsBuffer (turns.Written count) = count ≤ 65537
+FitsBuffer (turns.Written count) = count ≤ BUFFER_OCTETS
 FitsBuffer (turns.Notify name) = ⊤
+
+-- whether a request is answered as a NOTIFY, and for which name, hangs neither on the slots nor on moment and transport
+abbrev pub IsNotifyAnyhow : Turn → Octets → Type 0
+IsNotifyAnyhow turns.Silent octets = ⊤
+IsNotifyAnyhow (turns.Written count) octets = ⊤
+IsNotifyAnyhow (turns.Notify name) octets =
+    (slots : List SlotOf) (moment : ℕ) (tcp : Bool) → reply_of slots octets moment tcp ≡ notify name

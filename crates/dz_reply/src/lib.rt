@@ -2,14 +2,13 @@
 //! allocated (RFC 1035 section 4.1, RFC 1034 section 4.3.2, RFC 6891).
 #![tactic(auto)]
 
-mod chained;
+mod answer;
 mod layout;
-mod query;
 mod reply;
 #[cfg(test)]
 mod tests;
 #[cfg(test)]
 mod tests_reply;
-mod whole;
 
-pub use reply::{Transport, Turn, reply_into};
+pub use dz_request::Transport;
+pub use reply::{Turn, reply_into, reply_to};

@@ -1,36 +1,22 @@
-//! The reply to a request.
+//! The reply to a request: who answers it.
 
-ghost use Rattle.std.specs.Prelude.{◌≡◌, ◌≤◌, ◌++◌, ℕ, List, IsSome, Some, length};
-ghost use Rattle.dz_table.specs.Slots.{closest};
-ghost use Rattle.dz_reply.specs.Answering.{AnswersHeld, AnswersHeldFor};
-ghost use Rattle.dz_reply.specs.ReadsBack.{ReadsBack};
+ghost use Rattle.std.specs.Prelude.{◌≡◌, IsSome, Some, length};
+ghost use Rattle.dz_name.specs.Name.{IsWithin};
+ghost use Rattle.dz_name.specs.Words.{Octets};
 ghost use Rattle.dz_header.specs.Code.{number_of};
-ghost use Rattle.dz_reply.specs.Layout.{octets_of};
-ghost use Rattle.dz_reply.specs.Query.{query_in};
-ghost use Rattle.dz_reply.specs.Reply.{written, query_of, at_slot, curt_octets, reply_for, reply_of, IsReply, FitsBuffer};
-ghost use Rattle.dz_name.specs.Labels.{IsWithin};
-ghost use Rattle.dz_name.specs.Numbers.{two};
-ghost use Rattle.dz_reply.specs.Replies.{bare};
+ghost use Rattle.dz_request.specs.Frame.{is_tcp, query_of, curt_octets};
 ghost use Rattle.dz_request.specs.Request.{FitsIn, IsWhole};
-ghost use Rattle.dz_reply.specs.Transports.{is_tcp};
-ghost use Rattle.dz_header.specs.Writing.{also};
+ghost use Rattle.dz_table.specs.Table.{closest};
+ghost use Rattle.dz_reply.specs.Answer.{bare, octets_of};
+ghost use Rattle.dz_reply.specs.Reply.{written, at_slot, reply_for, reply_of, IsReply, FitsBuffer, IsNotifyAnyhow};
+ghost use Rattle.dz_reply.specs.ReadsBack.{ReadsBack};
+ghost use Rattle.dz_reply.specs.inner.AnswersHeld.{AnswersHeld, AnswersHeldFor};
 
-use crate::chained::reply_zone;
-use crate::layout::{Heading, flags_of};
-use crate::query::QueryParts;
-use crate::whole::reply_bare;
-use dz_header::{ReplyBuffer, ResponseCode, Writer};
+use crate::answer::reply_zone;
+use dz_header::{Header, ReplyBuffer, ResponseCode, Writer};
 use dz_name::Name;
-use dz_name::numbers::{number_of_two, two};
-use dz_request::{Asked, Request, read_request};
+use dz_request::{Asked, Frame, Request, Transport, read_request, reply_curt};
 use dz_table::{Slot, Table};
-
-/// How a request came.
-#[derive(Clone, Copy, Debug, PartialEq, Eq)]
-pub enum Transport {
-    Udp,
-    Tcp,
-}
 
 /// What a request leads to.
 #[derive(Clone, Copy, Debug)]
@@ -45,7 +31,6 @@ pub enum Turn {
 
 /// Writes the reply to a request at a moment in seconds, from the closest enclosing zone of the table. It takes no memory.
 /// The octets of a reply are `buffer.reply(count)` where the answer is `Turn::Written(count)`.
-#[tactic(auto, unfolding(crate::specs::Reply::reply_of))]
 pub fn reply_into(
     table: &Table,
     octets: &[u8],
@@ -53,178 +38,135 @@ pub fn reply_into(
     transport: Transport,
     buffer: &mut ReplyBuffer,
 ) -> Turn
-    ensures reply { IsReply result buffer.new.reply (reply_of table.now octets.now moment (is_tcp transport)) }
+    ensures reply { IsReply result buffer.new.reply.writing (reply_of table.now octets.now moment (is_tcp transport)) }
     ensures size { FitsBuffer result }
-    ensures reads_back { (text : List ℕ) → buffer.new.reply.octets ≡ Some text → result ≡ Turn.Written (length text) → ReadsBack table.now octets.now moment (is_tcp transport) text }
+    ensures reads_back { (text : Octets) → buffer.new.reply.writing.octets ≡ Some text → result ≡ Turn.Written (length text) → ReadsBack table.now octets.now moment (is_tcp transport) text }
+    ensures notify { IsNotifyAnyhow result octets.now }
     ensures request { buffer.new.request ≡ buffer.old.request }
 {
-    let request = read_request(octets);
-    reply_request(
-        table,
-        octets,
-        moment,
-        is_tcp(transport),
-        &request,
-        buffer.writer(),
-    )
+    reply_to(table, octets, moment, transport, buffer.writer())
 }
 
-fn is_tcp(transport: Transport) -> bool
-    ensures { result ≡ is_tcp transport }
-{
-    match transport {
-        Transport::Udp => false,
-        Transport::Tcp => true,
-    }
-}
-
-#[tactic(auto, unfolding(crate::specs::Reply::reply_for))]
-fn reply_request(
+/// The same over the writer of a reply alone, so that the request may stand in the other half of the buffer.
+#[tactic(auto, unfolding(crate::specs::Reply::reply_of))]
+pub fn reply_to(
     table: &Table,
     octets: &[u8],
     moment: u64,
-    tcp: bool,
-    request: &Request,
+    transport: Transport,
     writer: &mut Writer,
 ) -> Turn
-    requires { FitsIn octets.now request.now }
-    ensures reply { IsReply result writer.new (reply_for table.now octets.now moment tcp request.now) }
-    ensures held { AnswersHeldFor table.now moment request.now }
+    ensures reply { IsReply result writer.new.writing (reply_of table.now octets.now moment (is_tcp transport)) }
+    ensures size { FitsBuffer result }
+    ensures reads_back { (text : Octets) → writer.new.writing.octets ≡ Some text → result ≡ Turn.Written (length text) → ReadsBack table.now octets.now moment (is_tcp transport) text }
+    ensures notify { IsNotifyAnyhow result octets.now }
+{
+    let exchange = Exchange {
+        table,
+        octets,
+        moment,
+        transport,
+    };
+    reply_request(&exchange, &read_request(octets), writer)
+}
+
+/// What a reply is made from: the table of zones, the octets of the request, the moment in seconds, and the transport.
+#[derive(Drop)]
+struct Exchange<'a> {
+    table: &'a Table,
+    octets: &'a [u8],
+    moment: u64,
+    transport: Transport,
+}
+
+#[tactic(auto, unfolding(crate::specs::Reply::reply_for))]
+fn reply_request(exchange: &Exchange<'_>, request: &Request, writer: &mut Writer) -> Turn
+    requires { FitsIn exchange.now.octets.now request.now }
+    ensures reply { IsReply result writer.new.writing (reply_for exchange.now.table.now exchange.now.octets.now exchange.now.moment (is_tcp exchange.now.transport) request.now) }
+    ensures held { AnswersHeldFor exchange.now.table.now exchange.now.moment request.now }
     ensures size { FitsBuffer result }
 {
     match request {
         Request::Silent => Turn::Silent,
         Request::Notify(asked) => Turn::Notify(asked.question.name),
-        Request::Curt(code) => reply_curt(writer, octets, *code),
-        Request::NewerEdns(asked) => reply_code(writer, octets, asked, ResponseCode::BadVers, tcp),
-        Request::NotBuilt(asked) => reply_code(writer, octets, asked, ResponseCode::NotImp, tcp),
-        Request::Asks(asked) => reply_question(table, octets, moment, tcp, asked, writer),
+        Request::Curt(header, code) => reply_header(header, *code, writer),
+        Request::NewerEdns(asked) => reply_code(exchange, asked, ResponseCode::BadVers, writer),
+        Request::NotImp(asked) => reply_code(exchange, asked, ResponseCode::NotImp, writer),
+        Request::Asks(asked) => reply_question(exchange, asked, writer),
     }
 }
 
 /// REFUSED without an enclosing zone.
-fn reply_question(
-    table: &Table,
-    octets: &[u8],
-    moment: u64,
-    tcp: bool,
-    asked: &Asked,
-    writer: &mut Writer,
-) -> Turn
-    requires { IsWhole octets.now asked.now.size }
-    ensures reply { IsReply result writer.new (written (octets_of tcp (query_of octets.now asked.now) (at_slot (closest table.now asked.now.question.name) moment asked.now.question.name asked.now.question.kind))) }
-    ensures held { AnswersHeld (closest table.now asked.now.question.name) moment }
+fn reply_question(exchange: &Exchange<'_>, asked: &Asked, writer: &mut Writer) -> Turn
+    requires { IsWhole exchange.now.octets.now asked.now.size }
+    ensures reply { IsReply result writer.new.writing (written (octets_of (is_tcp exchange.now.transport) (query_of exchange.now.octets.now asked.now) (at_slot (closest exchange.now.table.now asked.now.question.name) exchange.now.moment asked.now.question.name asked.now.question.kind))) }
+    ensures held { AnswersHeld (closest exchange.now.table.now asked.now.question.name) exchange.now.moment }
     ensures size { FitsBuffer result }
 {
-    match table.closest(&asked.question.name) {
-        None => reply_code(writer, octets, asked, ResponseCode::Refused, tcp),
-        Some(slot) => reply_slot(slot, octets, moment, tcp, asked, writer),
+    match exchange.table.closest(&asked.question.name) {
+        None => reply_code(exchange, asked, ResponseCode::Refused, writer),
+        Some(slot) => reply_slot(exchange, slot, asked, writer),
     }
 }
 
 /// SERVFAIL where the zone isn't live.
-fn reply_slot(
-    slot: &Slot,
-    octets: &[u8],
-    moment: u64,
-    tcp: bool,
-    asked: &Asked,
-    writer: &mut Writer,
-) -> Turn
-    requires whole { IsWhole octets.now asked.now.size }
+fn reply_slot(exchange: &Exchange<'_>, slot: &Slot, asked: &Asked, writer: &mut Writer) -> Turn
+    requires whole { IsWhole exchange.now.octets.now asked.now.size }
     requires within { IsWithin asked.now.question.name slot.now.zone }
-    ensures reply { IsReply result writer.new (written (octets_of tcp (query_of octets.now asked.now) (at_slot (Some slot.now) moment asked.now.question.name asked.now.question.kind))) }
-    ensures held { AnswersHeld (Some slot.now) moment }
+    ensures reply { IsReply result writer.new.writing (written (octets_of (is_tcp exchange.now.transport) (query_of exchange.now.octets.now asked.now) (at_slot (Some slot.now) exchange.now.moment asked.now.question.name asked.now.question.kind))) }
+    ensures held { AnswersHeld (Some slot.now) exchange.now.moment }
     ensures size { FitsBuffer result }
 {
-    if !slot.is_live(moment) {
-        return reply_code(writer, octets, asked, ResponseCode::ServFail, tcp);
+    if !slot.is_live(exchange.moment) {
+        return reply_code(exchange, asked, ResponseCode::ServFail, writer);
     }
     match slot.version() {
-        None => reply_code(writer, octets, asked, ResponseCode::ServFail, tcp),
+        None => reply_code(exchange, asked, ResponseCode::ServFail, writer),
         Some(version) => {
-            reply_zone(
-                writer,
-                octets,
-                &parts_of(octets, asked),
-                version,
-                asked.question.kind,
-                tcp,
-            );
+            let frame = Frame {
+                request: exchange.octets,
+                asked,
+                transport: exchange.transport,
+            };
+            reply_zone(&frame, version, writer);
             as_written(writer)
         }
     }
 }
 
-/// What a reply takes over from its request.
-fn parts_of(octets: &[u8], asked: &Asked) -> QueryParts
-    requires { IsWhole octets.now asked.now.size }
-    ensures query { query_in octets.now result ≡ query_of octets.now asked.now }
-    ensures size { result.size ≡ asked.now.size }
-    ensures name { result.name ≡ asked.now.question.name }
-{
-    QueryParts {
-        id: number_of_two(octets),
-        flags: number_of_two(octets.split_at(2).1),
-        size: asked.size,
-        name: asked.question.name,
-        edns: asked.edns,
-    }
-}
-
 /// Writes a reply of twelve octets (RFC 1035 section 4.1.1).
-#[tactic(auto, unfolding(crate::specs::Reply::curt_octets))]
-fn reply_curt(writer: &mut Writer, octets: &[u8], code: ResponseCode) -> Turn
-    requires { 12 ≤ length octets.now }
-    ensures reply { IsReply result writer.new (written (curt_octets octets.now (number_of code))) }
+fn reply_header(header: &Header, code: ResponseCode, writer: &mut Writer) -> Turn
+    ensures reply { IsReply result writer.new.writing (written (curt_octets header.now (number_of code))) }
     ensures size { FitsBuffer result }
 {
-    let heading = Heading {
-        code,
-        authoritative: false,
-        truncated: false,
-        answer: 0,
-        authority: 0,
-        additional: 0,
-    };
-    let flags = number_of_two(octets.split_at(2).1);
-    writer.begin(512);
-    writer.put(&two(number_of_two(octets)));
-    writer.put(&two(flags_of(flags, &heading)));
-    put_zeros(writer);
+    reply_curt(writer, header, code);
     as_written(writer)
-}
-
-/// Writes four counts of 0.
-fn put_zeros(writer: &mut Writer)
-    ensures { writer.new ≡ also writer.old (two 0 ++ (two 0 ++ (two 0 ++ two 0))) }
-{
-    writer.put(&two(0));
-    writer.put(&two(0));
-    writer.put(&two(0));
-    writer.put(&two(0));
 }
 
 /// Writes a reply without records.
 fn reply_code(
-    writer: &mut Writer,
-    octets: &[u8],
+    exchange: &Exchange<'_>,
     asked: &Asked,
     code: ResponseCode,
-    tcp: bool,
+    writer: &mut Writer,
 ) -> Turn
-    requires { IsWhole octets.now asked.now.size }
-    ensures reply { IsReply result writer.new (written (octets_of tcp (query_of octets.now asked.now) (bare (number_of code)))) }
+    requires { IsWhole exchange.now.octets.now asked.now.size }
+    ensures reply { IsReply result writer.new.writing (written (octets_of (is_tcp exchange.now.transport) (query_of exchange.now.octets.now asked.now) (bare (number_of code)))) }
     ensures size { FitsBuffer result }
 {
-    reply_bare(writer, octets, &parts_of(octets, asked), code, tcp);
+    let frame = Frame {
+        request: exchange.octets,
+        asked,
+        transport: exchange.transport,
+    };
+    frame.reply_bare(writer, code);
     as_written(writer)
 }
 
 /// How many octets were written.
 fn as_written(writer: &Writer) -> Turn
-    requires { IsSome writer.now.octets }
-    ensures reply { (text : List ℕ) → writer.now.octets ≡ Some text → result ≡ Turn.Written (length text) }
+    requires { IsSome writer.now.writing.octets }
+    ensures reply { (text : Octets) → writer.now.writing.octets ≡ Some text → result ≡ Turn.Written (length text) }
     ensures size { FitsBuffer result }
 {
     Turn::Written(writer.written().len())

@@ -1,4 +1,4 @@
-use crate::layout::{put_owner, put_shown};
+use crate::layout::{put_entries, put_owner};
 use dz_header::Writer;
 use dz_name::{Name, Octets};
 use dz_record::Rr;
@@ -17,14 +17,14 @@ fn record(rt: &impl Abort, alloc: Global, owner: &[u8], kind: u16, ttl: u32, rda
         Ok(octets) => Octets::from_vec(octets),
         Err(_) => panic!(rt; "no memory"),
     };
-    match Rr::make(name(rt, owner), kind, ttl, octets) {
+    match Rr::make(alloc, name(rt, owner), kind, ttl, octets) {
         Ok(record) => record,
         Err(error) => panic!(rt; "type {} gives {:?}", kind, error),
     }
 }
 
 fn writer(rt: &impl Abort, alloc: Global) -> Writer {
-    match Writer::make(alloc) {
+    match Writer::new(alloc) {
         Ok(writer) => writer,
         Err(_) => panic!(rt; "no memory"),
     }
@@ -78,7 +78,8 @@ fn owners_point_to_the_longest_suffix_that_the_question_has(rt: HostRuntime) {
     let mut writer = writer(&rt, rt.alloc());
     for (question, owner, expected) in cases {
         writer.begin(512);
-        put_owner(&mut writer, &name(&rt, question), &name(&rt, owner));
+        let owner_name = name(&rt, owner);
+        put_owner(&mut writer, &name(&rt, question), &owner_name.as_ref());
         assert!(rt;
             is_written(&writer, expected),
             "{:?} beside {:?}",
@@ -99,15 +100,11 @@ fn records_of_a_type_show_their_least_ttl_and_rrsig_its_own(rt: HostRuntime) {
         record(&rt, alloc, b"example.", 46, 90, signature),
         record(&rt, alloc, b"example.", 46, 80, signature),
     ];
-    let shown =
+    let expected =
         b"\xc0\x0c\0\x01\0\x01\0\0\0\xc8\0\x04\x01\x01\x01\x01\xc0\x0c\0\x01\0\x01\0\0\0\xc8\0\x04\x02\x02\x02\x02\xc0\x0c\0\x10\0\x01\0\0\0\x64\0\x02\x01x\xc0\x0c\0\x2e\0\x01\0\0\0\x5a\0\x16\0\x01\x08\x02\0\0\x0e\x10\0\0\0\x01\0\0\0\0\x12\x34\x01a\0s\xc0\x0c\0\x2e\0\x01\0\0\0\x50\0\x16\0\x01\x08\x02\0\0\x0e\x10\0\0\0\x01\0\0\0\0\x12\x34\x01a\0s";
     let mut writer = writer(&rt, alloc);
     writer.begin(512);
-    put_shown(
-        &mut writer,
-        &name(&rt, b"a.example."),
-        &name(&rt, b"a.example."),
-        &records,
-    );
-    assert!(rt; is_written(&writer, shown));
+    let asked = name(&rt, b"a.example.");
+    put_entries(&mut writer, &asked, &asked.as_ref(), &records);
+    assert!(rt; is_written(&writer, expected));
 }

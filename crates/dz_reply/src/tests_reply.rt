@@ -1,6 +1,6 @@
 ghost use Rattle.std.specs.Prelude.{◌≡◌, IfOk};
 
-use crate::{Transport, Turn, reply_into};
+use crate::{Transport, Turn, reply_into, reply_to};
 use dz_header::ReplyBuffer;
 use dz_name::{Name, Octets};
 use dz_record::Rr;
@@ -54,7 +54,7 @@ fn name(rt: &impl Abort, text: &[u8]) -> Name {
 fn record(rt: &impl Abort, alloc: Global, row: Row) -> Result<Rr, AllocError> {
     let (owner, kind, ttl, octets) = row;
     let rdata = Octets::from_vec(Vec::from_slice(alloc, octets)?);
-    match Rr::make(name(rt, owner), kind, ttl, rdata) {
+    match Rr::make(alloc, name(rt, owner), kind, ttl, rdata) {
         Ok(record) => Ok(record),
         Err(error) => panic!(rt; "type {} gives {:?}", kind, error),
     }
@@ -87,7 +87,7 @@ fn version_of(
 ) -> Result<Arc<Version>, AllocError>
     ensures { IfOk result (λ v. v.value.apex ≡ apex) }
 {
-    match check(&apex, records) {
+    match check(alloc, &apex, records) {
         Ok(version) => Ok(Arc::new(alloc, version)?),
         Err(fault) => panic!(rt; "{:?}", fault),
     }
@@ -97,7 +97,7 @@ fn version_of(
 fn table(rt: &impl Abort, alloc: Global, rows: &[Row], more: &[Row]) -> Result<Table, AllocError> {
     let apex = name(rt, b"example.");
     let version = version(rt, alloc, apex, rows, more)?;
-    Table::empty(alloc).with(alloc, Slot::make(apex, 1000, Some(version)))
+    Table::empty(alloc).with(alloc, Slot::new(apex, 1000, Some(version)))
 }
 
 /// The reply is written and has these octets.
@@ -312,14 +312,14 @@ fn a_long_reply_is_cut_over_udp_and_whole_with_room_or_over_tcp(
     records.push(record(&rt, alloc, APEX[1])?)?;
     for number in 1..33u8 {
         let rdata = Octets::from_vec(Vec::from_slice(alloc, &[10, 0, 0, number])?);
-        match Rr::make(name(&rt, b"big.example."), 1, 3600, rdata) {
+        match Rr::make(rt.alloc(), name(&rt, b"big.example."), 1, 3600, rdata) {
             Ok(record) => records.push(record)?,
             Err(error) => panic!(rt; "{:?}", error),
         }
     }
     let apex = name(&rt, b"example.");
     let version = version_of(&rt, alloc, apex, records)?;
-    let table = Table::empty(alloc).with(alloc, Slot::make(apex, 1000, Some(version)))?;
+    let table = Table::empty(alloc).with(alloc, Slot::new(apex, 1000, Some(version)))?;
     let mut buffer = ReplyBuffer::make(alloc)?;
     let plain = b"\0\x21\0\0\0\x01\0\0\0\0\0\0\x03big\x07example\0\0\x01\0\x01".as_slice();
     let newer =
@@ -381,7 +381,7 @@ fn an_expired_zone_fails(rt: HostRuntime) -> Result<(), Fail> {
 #[test]
 fn a_zone_that_was_never_held_fails(rt: HostRuntime) -> Result<(), Fail> {
     let alloc = rt.alloc();
-    let table = Table::empty(alloc).with(alloc, Slot::make(name(&rt, b"example."), 1000, None))?;
+    let table = Table::empty(alloc).with(alloc, Slot::new(name(&rt, b"example."), 1000, None))?;
     let mut buffer = ReplyBuffer::make(alloc)?;
     expect_reply(
         &rt,
@@ -520,13 +520,19 @@ fn text_table(rt: &impl Abort, alloc: Global, size: u16) -> Result<Table, AllocE
     let mut records = Vec::new(alloc);
     records.push(record(rt, alloc, APEX[0])?)?;
     records.push(record(rt, alloc, APEX[1])?)?;
-    match Rr::make(name(rt, b"t.example."), 16, 60, Octets::from_vec(rdata)) {
+    match Rr::make(
+        alloc,
+        name(rt, b"t.example."),
+        16,
+        60,
+        Octets::from_vec(rdata),
+    ) {
         Ok(record) => records.push(record)?,
         Err(error) => panic!(rt; "{error:?}"),
     }
     let apex = name(rt, b"example.");
     let version = version_of(rt, alloc, apex, records)?;
-    Table::empty(alloc).with(alloc, Slot::make(apex, 1000, Some(version)))
+    Table::empty(alloc).with(alloc, Slot::new(apex, 1000, Some(version)))
 }
 
 /// A query with an OPT record of this size, or none, has replies of so many octets and no more.
@@ -549,8 +555,13 @@ fn expect_limit(
     ] {
         let table = text_table(rt, alloc, text)?;
         let turn = reply_into(&table, query.as_slice(), 1000, transport, &mut buffer);
-        let shown = if fits { Some(text) } else { None };
-        expect(rt, turn, &buffer, text_reply(alloc, opt, shown)?.as_slice());
+        let entries = if fits { Some(text) } else { None };
+        expect(
+            rt,
+            turn,
+            &buffer,
+            text_reply(alloc, opt, entries)?.as_slice(),
+        );
     }
     Ok(())
 }
@@ -584,12 +595,24 @@ fn a_negative_answer_has_the_lesser_ttl_of_the_soa(rt: HostRuntime) -> Result<()
     let head =
         b"\0\x10\x84\x03\0\x01\0\0\0\x01\0\0\x01x\x07example\0\0\x01\0\x01\xc0\x0e\0\x06\0\x01\0\0\0".as_slice();
     let (owner, kind, _, rdata) = APEX[0];
-    for (ttl, shown) in [(29, 29), (30, 30), (31, 30)] {
+    for (ttl, entries) in [(29, 29), (30, 30), (31, 30)] {
         let table = table(&rt, alloc, &[(owner, kind, ttl, rdata), APEX[1]], &[])?;
         let mut want = Vec::from_slice(alloc, head)?;
-        want.extend_from_slice(&[shown, 0, 46])?;
+        want.extend_from_slice(&[entries, 0, 46])?;
         want.extend_from_slice(rdata)?;
         expect_reply(&rt, &table, &mut buffer, request, want.as_slice());
     }
+    Ok(())
+}
+
+#[test]
+fn a_request_may_stand_in_the_other_half_of_the_buffer(rt: HostRuntime) -> Result<(), Fail> {
+    let table = Table::empty(rt.alloc());
+    let ReplyBuffer { request, mut reply } = ReplyBuffer::make(rt.alloc())?;
+    // the request is 65,537 zero octets, a query without a question: FORMERR
+    let turn = reply_to(&table, request.as_slice(), 0, Transport::Tcp, &mut reply);
+    assert!(rt; matches!(turn, Turn::Written(12)));
+    assert!(rt; !reply.is_over());
+    assert!(rt; reply.written() == b"\0\0\x80\x01\0\0\0\0\0\0\0\0".as_slice());
     Ok(())
 }

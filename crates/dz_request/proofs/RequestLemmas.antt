@@ -1,14 +1,28 @@
--- Steps of reading a request, written as the code's loops take them.
-use Rattle.std.proofs.Common.{◌≡◌, ℕ, ◌+◌, ◌-◌, ◌<◌, ◌≤◌, suc, List, [], ◌∷◌, ◌++◌, length, take, drop, get_or, refl, sym, ap, ◌∙◌, append_assoc, arith, Option, Some, None, true, false, add-one}
-use Rattle.std.specs.Prelude.{nat_lt, nat_le, ◌==◌, ◌&&◌, ◌≢◌}
-use Rattle.std.proofs.lemmas.List.{append-nil}
+-- Steps of reading a request, written as the code's loop takes them; and what a reply takes from its request.
+use Rattle.std.proofs.Common.{◌≡◌, ℕ, ◌+◌, ◌-◌, ◌<◌, ◌≤◌, Bool, true, false, suc, List, length, take, drop, refl, subst, arith, Option, Some, None, Result, Ok, Err, if◌then◌else◌}
+use Rattle.std.specs.Prelude.{nat_lt, not, ◌==◌, ◌&&◌, slice_index}
+use Rattle.std.proofs.lemmas.Bool.{cases_Bool}
 use Rattle.std.proofs.lemmas.Bool.Decides.{nat_tests}
-use Rattle.dz_name.specs.Labels.{lower}
+use Rattle.std.proofs.lemmas.Option.{option_and_then_some}
+use Rattle.std.proofs.Common.{inl, inr}
+use Rattle.dz_name.specs.Name.{wire_of}
+use Rattle.dz_name.specs.declared.reading.WireFault.{WireFault}
+use Rattle.dz_header.specs.Flags.{is_response, opcode_of}
+use Rattle.dz_header.specs.Header.{header_in}
+use Rattle.dz_header.specs.Question.{question_at}
+use Rattle.dz_header.specs.Shape.{behind_records}
+use Rattle.dz_header.specs.declared.code.ResponseCode.TheVariants as codes
+use Rattle.dz_header.specs.declared.header.Header.{Header}
+use Rattle.dz_header.specs.declared.question.Question.{Question}
+use Rattle.dz_header.proofs.QuestionLemmas.{IsEcho, question_echo}
+use Rattle.dz_request.specs.declared.request.Asked.{Asked}
+use Rattle.dz_request.specs.declared.request.Request.{Request}
+use Rattle.dz_request.specs.declared.request.Request.TheVariants.{Silent, Curt, NewerEdns, NotImp, Notify, Asks}
 use Rattle.dz_header.specs.Shape.{◌>>=◌, shape_of}
 use Rattle.dz_header.specs.declared.edns.Edns.{Edns}
-use Rattle.dz_request.specs.Request.{opt_in, add_shape, name_of, with_label}
+use Rattle.dz_request.specs.Request.{is_in_place, without_pointer, question_in, opt_in, add_shape, asked_in, asked_of, is_newer, is_unasked, asked_for, readable, with_header, request}
 
-pub opt_step : (count i : ℕ) (octets : List ℕ) (found : Option Edns) → i < count → opt_in (count - i) octets found ≡ (shape_of octets >>= λ shape. add_shape shape.0 found >>= λ now. opt_in (count - (i + 1)) shape.1 now)
+pub opt_step : (count i : ℕ) (octets : List ℕ) (found : Option Edns) → i < count → opt_in (count - i) octets found ≡ (shape_of octets >>= λ shape. add_shape shape.0 found >>= λ now. opt_in (count - (i + 1)) shape.2 now)
 unfolding opt_in
 opt_step count i octets found h = let e : count - i ≡ suc (count - (i + 1)) = omega arith in rw e refl
 
@@ -16,59 +30,87 @@ pub opt_done : (count i : ℕ) (octets : List ℕ) (found : Option Edns) → cou
 unfolding opt_in
 opt_done count i octets found h = let e : count - i ≡ 0 = omega arith in rw e refl
 
--- a name with the labels read before in front
-abbrev pub in_front : List (List ℕ) → Option (List (List ℕ) × List ℕ) → Option (List (List ℕ) × List ℕ)
-in_front front None = None
-in_front front (Some name) = Some (front ++ name.0, name.1)
+-- what a reply takes from its request: the header, and the octets of the question
+pub record IsTakenFrom (octets : List ℕ) (asked : Asked) : Type 0 where
+  pub header : asked.header ≡ header_in octets
+  pub echo : IsEcho (take asked.size (drop 12 octets)) asked.question
 
-pub front_none : (name : Option (List (List ℕ) × List ℕ)) → in_front [] name ≡ name
-front_none None = refl
-front_none (Some name) = refl
+-- the same of each kind of request
+abbrev pub EchoesIn : List ℕ → Request → Type 0
+EchoesIn octets Silent = Unit {0}
+EchoesIn octets (Curt header code) = header ≡ header_in octets
+EchoesIn octets (NewerEdns asked) = IsTakenFrom octets asked
+EchoesIn octets (NotImp asked) = IsTakenFrom octets asked
+EchoesIn octets (Notify asked) = IsTakenFrom octets asked
+EchoesIn octets (Asks asked) = IsTakenFrom octets asked
 
-regroup : (front : List (List ℕ)) (label : List ℕ) (name : Option (List (List ℕ) × List ℕ)) → in_front front (with_label label name) ≡ in_front (front ++ label ∷ []) name
-regroup front label None = refl
-regroup front label (Some name) = ap (λ ls. Some (ls, name.1)) (sym (append_assoc front (label ∷ []) name.0))
+-- the octets of a question that was found
+abbrev IsFoundIn : List ℕ → Question × ℕ → Type 0
+IsFoundIn octets found = IsEcho (take (found.1 - 12) (drop 12 octets)) found.0
 
-one_left : (i : ℕ) → i < 128 → 128 - i ≡ suc (128 - (i + 1))
-one_left i h = omega arith
+found_echo : (octets : List ℕ) (r : Result (Question × ℕ) WireFault) (found : Question × ℕ) → question_at octets 12 ≡ r → without_pointer r ≡ Some found → IsFoundIn octets found
+found_echo octets (Err fault) found is h = absurd (cc)
+found_echo octets (Ok read) found is h = elim (cases_Bool (is_in_place read)) [
+  | inr other ↦ let p = rw other at h in absurd (cc)
+  | inl place ↦
+      let p : ◌≡◌ {A = Option (Question × ℕ)} (Some read) (Some found) = rw place at h in
+      let e : read ≡ found = cc in
+      let end : read.1 ≡ 12 + (length (wire_of read.0.name) + 4) = grind (arith, nat_tests, place) in
+      subst (IsFoundIn octets) e (question_echo octets 12 read.1 read.0 is end)
+]
 
-pub name_empty : (front : List (List ℕ)) (i used : ℕ) (rest : List ℕ) (whole : Option (List (List ℕ) × List ℕ)) → i < 128 → length rest ≡ 0 → in_front front (name_of (128 - i) used rest) ≡ whole → None ≡ whole
-unfolding name_of
-name_empty front i used [] whole lt e so_far = rw (one_left i lt) at so_far
-name_empty front i used (octet ∷ rest) whole lt e so_far = absurd (omega arith)
+pub question_in_echo : (octets : List ℕ) (found : Question × ℕ) → question_in octets ≡ Some found → IsEcho (take (found.1 - 12) (drop 12 octets)) found.0
+unfolding question_in
+question_in_echo octets found is = found_echo octets (question_at octets 12) found refl is
 
-pub name_ends : (front : List (List ℕ)) (i used : ℕ) (rest : List ℕ) (whole : Option (List (List ℕ) × List ℕ)) → i < 128 → 0 < length rest → get_or rest 0 0 ≡ 0 → in_front front (name_of (128 - i) used rest) ≡ whole
-    → Some (front, drop 1 rest) ≡ whole
-unfolding name_of
-name_ends front i used [] whole lt some zero_there so_far = absurd (omega arith)
-name_ends front i used (octet ∷ rest) whole lt some zero_there so_far =
-    let t : (octet == 0) ≡ true = grind (arith, nat_tests) in
-    let e : in_front front (name_of (128 - i) used (octet ∷ rest)) ≡ Some (front ++ [], rest) = rw (one_left i lt, t) refl in
-    ap (λ ls. Some (ls, rest)) (sym (append-nil front)) ∙ sym e ∙ so_far
+-- two values that are one
+some_is : {A : Type 0} (a b : A) → ◌≡◌ {A = Option A} (Some a) (Some b) → a ≡ b
+some_is a b e = cc
 
-pub name_bad : (front : List (List ℕ)) (i used : ℕ) (rest : List ℕ) (whole : Option (List (List ℕ) × List ℕ)) → i < 128 → 0 < length rest → get_or rest 0 0 ≢ 0
-    → (nat_lt (get_or rest 0 0) 64 && (nat_lt (get_or rest 0 0) (length rest) && nat_lt (used + get_or rest 0 0) 254)) ≡ false → in_front front (name_of (128 - i) used rest) ≡ whole → None ≡ whole
-unfolding name_of
-name_bad front i used [] whole lt some not_zero bad so_far = absurd (omega arith)
-name_bad front i used (octet ∷ rest) whole lt some not_zero bad so_far =
-    let t : (octet == 0) ≡ false = grind (arith, nat_tests) in
-    let b : (nat_lt octet 64 && (nat_le octet (length rest) && nat_lt (used + (octet + 1)) 255)) ≡ false = grind (arith, nat_tests) in
-    let e : in_front front (name_of (128 - i) used (octet ∷ rest)) ≡ None = rw (one_left i lt, t, b) refl in
-    sym e ∙ so_far
+-- a request that can be read has the question that was found
+asked_echo : (octets : List ℕ) (o : Option (Question × ℕ)) (asked : Asked) → ((found : Question × ℕ) → o ≡ Some found → IsFoundIn octets found)
+    → asked_in octets (header_in octets) o ≡ Some asked → IsTakenFrom octets asked
+unfolding asked_in
+asked_echo octets None asked each h = absurd (cc)
+asked_echo octets (Some found) asked each h =
+    let header : Header = header_in octets in
+    option_and_then_some (λ rest. opt_in (slice_index header.counts 3) rest None >>= λ edns. Some (record { header = header; question = found.0; size = found.1 - 12; edns = edns }))
+    (behind_records (slice_index header.counts 1 + slice_index header.counts 2) (drop found.1 octets)) asked h
+    (λ rest _ h2. option_and_then_some (λ edns. Some (record { header = header; question = found.0; size = found.1 - 12; edns = edns })) (opt_in (slice_index header.counts 3) rest None) asked h2
+    (λ edns _ h3.
+    let e : record { header = header; question = found.0; size = found.1 - 12; edns = edns } ≡ asked = some_is _ asked h3 in
+    subst (IsTakenFrom octets) e (record { header = refl; echo = each found refl })))
 
-pub name_label : (front : List (List ℕ)) (i used : ℕ) (rest : List ℕ) (whole : Option (List (List ℕ) × List ℕ)) → i < 128 → get_or rest 0 0 ≢ 0
-    → (get_or rest 0 0 < 64) × (get_or rest 0 0 < length rest) × (used + get_or rest 0 0 < 254) → in_front front (name_of (128 - i) used rest) ≡ whole
-    → in_front (front ++ lower (take (get_or rest 0 0) (drop 1 rest)) ∷ []) (name_of (128 - (i + 1)) (used + (get_or rest 0 0 + 1)) (drop (get_or rest 0 0 + 1) rest)) ≡ whole
-unfolding name_of
-name_label front i used [] whole lt not_zero fits so_far = absurd (omega arith)
-name_label front i used (octet ∷ rest) whole lt not_zero fits so_far =
-    let t : (octet == 0) ≡ false = grind (arith, nat_tests) in
-    let b : (nat_lt octet 64 && (nat_le octet (length rest) && nat_lt (used + (octet + 1)) 255)) ≡ true = grind (arith, nat_tests, fits.0, fits.1, fits.2) in
-    let e : in_front front (name_of (128 - i) used (octet ∷ rest)) ≡ in_front (front ++ lower (take octet rest) ∷ []) (name_of (128 - (i + 1)) (used + (octet + 1)) (drop octet rest)) =
-    rw (one_left i lt, t, b) (regroup front (lower (take octet rest)) (name_of (128 - (i + 1)) (used + (octet + 1)) (drop octet rest))) in
-    let d : drop (octet + 1) (octet ∷ rest) ≡ drop octet rest = rw (add-one octet) refl in
-    rw d (sym e ∙ so_far)
+-- what holds of both cases holds of a choice
+either : (P : Request → Type 0) (b : Bool) (x y : Request) → P x → P y → P (if b then x else y)
+either P true x y p q = p
+either P false x y p q = q
 
-pub name_endless : (front : List (List ℕ)) (i used : ℕ) (rest : List ℕ) (whole : Option (List (List ℕ) × List ℕ)) → 128 ≤ i → in_front front (name_of (128 - i) used rest) ≡ whole → None ≡ whole
-unfolding name_of
-name_endless front i used rest whole le so_far = let z : 128 - i ≡ 0 = omega arith in rw z at so_far
+asked_for_echo : (octets : List ℕ) (opcode : ℕ) (asked : Asked) → IsTakenFrom octets asked → EchoesIn octets (asked_for opcode asked)
+unfolding asked_for
+asked_for_echo octets opcode asked is =
+    either (EchoesIn octets) (is_newer asked.edns) _ _ is
+    (either (EchoesIn octets) (not (asked.question.class == 1)) _ _ is
+    (either (EchoesIn octets) (opcode == 0) _ _ (either (EchoesIn octets) (is_unasked asked.question.kind) _ _ is is)
+    (either (EchoesIn octets) (asked.question.kind == 6) _ _ is is)))
+
+-- the same where the question may not be readable
+readable_echo : (octets : List ℕ) (o : Option Asked) → ((asked : Asked) → o ≡ Some asked → IsTakenFrom octets asked) → EchoesIn octets (readable (header_in octets) o)
+readable_echo octets None h = refl
+readable_echo octets (Some asked) h = asked_for_echo octets (opcode_of (header_in octets).flags) asked (h asked refl)
+
+-- what a test lets pass
+asked_if : (b : Bool) (o : Option Asked) (asked : Asked) → (if b then o else None) ≡ Some asked → o ≡ Some asked
+asked_if true o asked h = h
+asked_if false o asked h = absurd (cc)
+
+-- the header is that of the request, and the octets that are echoed spell the question that was read
+pub request_echo : (octets : List ℕ) → EchoesIn octets (request octets)
+unfolding request with_header
+request_echo octets =
+    let header : Header = header_in octets in
+    either (EchoesIn octets) (nat_lt (length octets) 12) Silent _ tt
+    (either (EchoesIn octets) (is_response header.flags) Silent _ tt
+    (either (EchoesIn octets) (not (opcode_of header.flags == 0) && not (opcode_of header.flags == 4)) (Curt header codes.NotImp) _ refl
+    (readable_echo octets (asked_of octets header (question_in octets))
+    (λ asked h. asked_echo octets (question_in octets) asked (question_in_echo octets) (asked_if (slice_index header.counts 0 == 1) (asked_in octets header (question_in octets)) asked h)))))

@@ -1,44 +1,36 @@
--- What a request asks for (RFC 1035 section 4.1, RFC 1996 section 3, RFC 6891 section 6.1).
-use Rattle.std.specs.Prelude.{ℕ, zero, suc, ◌≤◌, ◌+◌, ◌-◌, ◌/◌, ◌%◌, Bool, false, ◌==◌, ◌&&◌, ◌||◌, not, nat_lt, nat_le, List, [], ◌∷◌, length, take, drop, slice_index, Option, Some, None, if◌then◌else◌}
-use Rattle.dz_name.specs.Labels.{lower}
-use Rattle.dz_name.specs.Numbers.{number_of_two}
+-- Meaning: what a request asks for (RFC 1035 section 4.1, RFC 1996 section 3, RFC 6891 section 6.1).
+use Rattle.std.specs.Prelude.{ℕ, zero, suc, ◌≤◌, ◌+◌, ◌-◌, Bool, false, ◌==◌, ◌&&◌, ◌||◌, not, nat_lt, nat_le, length, drop, slice_index, Option, Some, None, Result, Ok, Err, if◌then◌else◌}
+use Rattle.dz_name.specs.Name.{wire_of}
+use Rattle.dz_name.specs.declared.dns.TheConstants.{HEADER_OCTETS, NAME_OCTETS, TYPE_OPT, TYPE_TKEY, TYPE_MAILA, TYPE_SOA, CLASS_IN, OPCODE_QUERY, OPCODE_NOTIFY}
+use Rattle.dz_name.specs.declared.reading.WireFault.{WireFault}
+use Rattle.dz_header.specs.Edns.{edns_of}
+use Rattle.dz_header.specs.Flags.{is_response, opcode_of}
+use Rattle.dz_header.specs.Header.{header_in}
+use Rattle.dz_header.specs.Question.{question_at}
+use Rattle.dz_header.specs.Shape.{◌>>=◌, shape_of, behind_records}
+use Rattle.dz_header.specs.declared.code.ResponseCode.TheVariants as codes
 use Rattle.dz_header.specs.declared.edns.Edns.{Edns}
 use Rattle.dz_header.specs.declared.header.Header.{Header}
-use Rattle.dz_header.specs.declared.shape.Shape.{Shape}
-use Rattle.dz_header.specs.Header.{header_in}
-use Rattle.dz_header.specs.Shape.{◌>>=◌, shape_of, skipped}
-use Rattle.dz_header.specs.declared.code.ResponseCode.TheVariants.{FormErr, NotImp}
 use Rattle.dz_header.specs.declared.question.Question.{Question}
+use Rattle.dz_header.specs.declared.question.TheConstants.{QUESTION_OCTETS}
+use Rattle.dz_header.specs.declared.shape.Shape.{Shape}
 use Rattle.dz_request.specs.declared.request.Asked.{Asked}
 use Rattle.dz_request.specs.declared.request.Request.{Request}
-use Rattle.dz_request.specs.declared.request.Request.TheVariants.{Silent, Curt, NewerEdns, NotBuilt, Notify, Asks}
+use Rattle.dz_request.specs.declared.request.Request.TheVariants.{Silent, Curt, NewerEdns, NotImp, Notify, Asks}
+use Rattle.dz_name.specs.Words.{Kind, Octets}
 
--- a name with one more label in front, and what stands behind it
-abbrev pub with_label : List ℕ → Option (List (List ℕ) × List ℕ) → Option (List (List ℕ) × List ℕ)
-with_label label None = None
-with_label label (Some name) = Some (label ∷ name.0, name.1)
+-- a question whose name has no pointer: the name has as many octets in its place as in its wire form. With a pointer it has
+-- two octets in place of those of a name, which has one or more than two.
+abbrev pub is_in_place : Question × ℕ → Bool
+is_in_place found = found.1 == HEADER_OCTETS + (length (wire_of found.0.name) + QUESTION_OCTETS)
 
--- the name of a question, which has no pointers and at most 255 octets, and what stands behind it. The first number
--- bounds the labels, the second counts the octets before.
-unfoldable pub name_of : ℕ → ℕ → List ℕ → Option (List (List ℕ) × List ℕ)
-name_of zero used octets = None
-name_of (suc left) used [] = None
-name_of (suc left) used (size ∷ rest) =
-    if size == 0 then Some ([], rest)
-    else if nat_lt size 64 && (nat_le size (length rest) && nat_lt (used + (size + 1)) 255)
-    then with_label (lower (take size rest)) (name_of left (used + (size + 1)) (drop size rest))
-    else None
+abbrev pub without_pointer : Result (Question × ℕ) WireFault → Option (Question × ℕ)
+without_pointer (Ok found) = if is_in_place found then Some found else None
+without_pointer (Err fault) = None
 
--- the question behind the header, and what stands behind it
-unfoldable pub question_of : List ℕ → Option (Question × List ℕ)
-question_of octets = do
-  name ← name_of 128 0 octets
-  if nat_lt (length name.1) 4 then None
-      else Some (record { name = name.0; kind = number_of_two name.1; class = number_of_two (drop 2 name.1) }, drop 4 name.1)
-
--- what an OPT record says: size in its class; version and DO in its TTL
-unfoldable pub edns_of : Shape → Edns
-edns_of shape = record { size = shape.class; version = shape.ttl / 65536 % 256; dnssec_ok = shape.ttl / 32768 % 2 == 1 }
+-- the question behind the header, and the offset behind it
+unfoldable pub question_in : Octets → Option (Question × ℕ)
+question_in octets = without_pointer (question_at octets HEADER_OCTETS)
 
 -- one OPT record at most, and its owner is the root
 abbrev pub first_opt : Edns → Option Edns → Option (Option Edns)
@@ -47,74 +39,72 @@ first_opt edns (Some other) = None
 
 unfoldable pub add_shape : Shape → Option Edns → Option (Option Edns)
 add_shape shape found =
-    if not (shape.kind == 41) then Some found
-    else if shape.root then first_opt (edns_of shape) found
+    if not (shape.head.kind == TYPE_OPT) then Some found
+    else if shape.root then first_opt (edns_of shape.head) found
     else None
 
 -- the OPT among the additional records
-unfoldable pub opt_in : ℕ → List ℕ → Option Edns → Option (Option Edns)
+unfoldable pub opt_in : ℕ → Octets → Option Edns → Option (Option Edns)
 opt_in zero octets found = Some found
 opt_in (suc count) octets found = do
   shape ← shape_of octets
   now ← add_shape shape.0 found
-  opt_in count shape.1 now
+  opt_in count shape.2 now
 
--- a request that can be read: its question, how many octets that has, and EDNS
-unfoldable pub asked_in : List ℕ → Header → Option Asked
-asked_in body header = do
-  question ← question_of body
-  rest ← skipped (slice_index header.counts 1 + slice_index header.counts 2) question.1
+-- a request that can be read, by its question: how many octets that has, and EDNS
+unfoldable pub asked_in : Octets → Header → Option (Question × ℕ) → Option Asked
+asked_in octets header found = do
+  question ← found
+  rest ← behind_records (slice_index header.counts 1 + slice_index header.counts 2) (drop question.1 octets)
   edns ← opt_in (slice_index header.counts 3) rest None
-  Some (record { question = question.0; size = length body - length question.1; edns = edns })
+  Some (record { header = header; question = question.0; size = question.1 - HEADER_OCTETS; edns = edns })
 
-abbrev pub asked_of : List ℕ → Header → Option Asked
-asked_of body header = if slice_index header.counts 0 == 1 then asked_in body header else None
-
-abbrev pub opcode_of : ℕ → ℕ
-opcode_of flags = flags / 2048 % 16
+abbrev pub asked_of : Octets → Header → Option (Question × ℕ) → Option Asked
+asked_of octets header found = if slice_index header.counts 0 == 1 then asked_in octets header found else None
 
 -- types of questions that aren't answered: OPT, and those of transfers, transactions and mail (RFC 6895 section 3.1)
-abbrev pub is_unasked : ℕ → Bool
-is_unasked kind = kind == 41 || (nat_le 249 kind && nat_le kind 254)
+abbrev pub is_unasked : Kind → Bool
+is_unasked kind = kind == TYPE_OPT || (nat_le TYPE_TKEY kind && nat_le kind TYPE_MAILA)
 
 abbrev pub is_newer : Option Edns → Bool
 is_newer None = false
 is_newer (Some edns) = not (edns.version == 0)
 
 -- the version of EDNS, then class and type, then the opcode
-unfoldable pub judged : ℕ → Asked → Request
-judged opcode asked =
+unfoldable pub asked_for : ℕ → Asked → Request
+asked_for opcode asked =
     if is_newer asked.edns then NewerEdns asked
-    else if not (asked.question.class == 1) then NotBuilt asked
-    else if opcode == 0 then (if is_unasked asked.question.kind then NotBuilt asked else Asks asked)
-    else if asked.question.kind == 6 then Notify asked
-    else NotBuilt asked
+    else if not (asked.question.class == CLASS_IN) then NotImp asked
+    else if opcode == OPCODE_QUERY then (if is_unasked asked.question.kind then NotImp asked else Asks asked)
+    else if asked.question.kind == TYPE_SOA then Notify asked
+    else NotImp asked
 
-abbrev pub readable : ℕ → Option Asked → Request
-readable opcode None = Curt FormErr
-readable opcode (Some asked) = judged opcode asked
+abbrev pub readable : Header → Option Asked → Request
+readable header None = Curt header codes.FormErr
+readable header (Some asked) = asked_for (opcode_of header.flags) asked
 
-unfoldable pub with_header : List ℕ → Header → Request
-with_header octets header =
-    if nat_le 32768 header.flags then Silent
-    else if not (opcode_of header.flags == 0) && not (opcode_of header.flags == 4) then Curt NotImp
-    else readable (opcode_of header.flags) (asked_of (drop 12 octets) header)
+-- responses get no reply; other opcodes than QUERY and NOTIFY aren't built; then the request is read
+unfoldable pub with_header : Octets → Header → Option (Question × ℕ) → Request
+with_header octets header found =
+    if is_response header.flags then Silent
+    else if not (opcode_of header.flags == OPCODE_QUERY) && not (opcode_of header.flags == OPCODE_NOTIFY) then Curt header codes.NotImp
+    else readable header (asked_of octets header found)
 
--- fewer than twelve octets and responses get no reply; other opcodes than QUERY and NOTIFY aren't built; then the
--- request is read
-unfoldable pub request : List ℕ → Request
-request octets = if nat_lt (length octets) 12 then Silent else with_header octets (header_in octets)
+-- what these octets ask for; fewer than twelve get no reply
+unfoldable pub request : Octets → Request
+request octets =
+    if nat_lt (length octets) HEADER_OCTETS then Silent else with_header octets (header_in octets) (question_in octets)
 
 -- the question lies within the request; a name has at most 255 octets, type and class have two each
-pub record IsWhole (request : List ℕ) (size : ℕ) : Type 0 where
-  pub within : 12 + size ≤ length request
-  pub short : size ≤ 259
+pub record IsWhole (request : Octets) (size : ℕ) : Type 0 where
+  pub within : HEADER_OCTETS + size ≤ length request
+  pub short : size ≤ NAME_OCTETS + QUESTION_OCTETS
 
 -- the header is there, and the question that was read lies within the octets
-abbrev pub FitsIn : List ℕ → Request → Type 0
+abbrev pub FitsIn : Octets → Request → Type 0
 FitsIn octets Silent = Unit {0}
-FitsIn octets (Curt code) = 12 ≤ length octets
+FitsIn octets (Curt header code) = HEADER_OCTETS ≤ length octets
 FitsIn octets (NewerEdns asked) = IsWhole octets asked.size
-FitsIn octets (NotBuilt asked) = IsWhole octets asked.size
+FitsIn octets (NotImp asked) = IsWhole octets asked.size
 FitsIn octets (Notify asked) = IsWhole octets asked.size
 FitsIn octets (Asks asked) = IsWhole octets asked.size

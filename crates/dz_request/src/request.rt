@@ -1,19 +1,25 @@
 //! Requests, read from left to right.
 
-ghost use Rattle.std.specs.Prelude.{◌≡◌, ℕ, ◌+◌, ◌-◌, ◌<◌, ◌≤◌, List, length, drop, take, slice_index, option_map, Some, None, IfSome, nat_lt, ◌&&◌};
-ghost use Rattle.std.specs.Bool.{OnTrue};
-ghost use Rattle.dz_request.specs.Request.{name_of, question_of, edns_of, add_shape, opt_in, asked_in, asked_of, is_newer, is_unasked, judged, with_header, request, FitsIn, IsWhole};
+ghost use Rattle.std.specs.Prelude.{◌≡◌, ℕ, ◌+◌, ◌-◌, ◌<◌, ◌≤◌, length, drop, Some, None, IfSome};
+ghost use Rattle.dz_header.specs.Flags.{opcode_of};
+ghost use Rattle.dz_request.specs.Request.{question_in, add_shape, opt_in, asked_in, asked_of, is_newer, is_unasked, asked_for, with_header, request, FitsIn, IsWhole};
+ghost use Rattle.dz_name.specs.Words.{Octets};
 
 use dz_header::{
-    Edns, Header, Question, ResponseCode, Shape, read_header, read_shape, skip_records,
+    Edns, Header, QUESTION_OCTETS, Question, ResponseCode, Shape, edns_of, read_header,
+    read_question, read_shape, skip_records,
 };
-use dz_name::Name;
-use dz_name::numbers::number_of_two;
+use dz_name::dns::{
+    CLASS_IN, HEADER_OCTETS, NAME_OCTETS, OPCODE_NOTIFY, OPCODE_QUERY, TYPE_MAILA, TYPE_OPT,
+    TYPE_SOA, TYPE_TKEY,
+};
 
-/// A request that can be read: its question, how many octets the question has, and what its OPT record says.
+/// A request that can be read: its header, its question, how many octets the question has, and what its OPT record says.
 #[derive(Clone, Copy, Debug)]
 pub struct Asked {
+    pub header: Header,
     pub question: Question,
+    /// The octets of name, type and class of the question, which stand behind the header: at most 259.
     pub size: usize,
     pub edns: Option<Edns>,
 }
@@ -23,12 +29,13 @@ pub struct Asked {
 pub enum Request {
     /// Fewer than twelve octets, or a response: there is no reply.
     Silent,
-    /// A reply of twelve octets with this code: NOTIMP for an opcode, FORMERR for what can't be read.
-    Curt(ResponseCode),
+    /// A request with this header gets a reply of twelve octets with this code: NOTIMP for an opcode, FORMERR for what
+    /// can't be read.
+    Curt(Header, ResponseCode),
     /// Another version of EDNS than 0 (RFC 6891 section 6.1.3).
     NewerEdns(Asked),
     /// Another class than IN, or a type that isn't answered.
-    NotBuilt(Asked),
+    NotImp(Asked),
     /// A NOTIFY (RFC 1996).
     Notify(Asked),
     /// A query.
@@ -49,47 +56,47 @@ pub fn read_request(octets: &[u8]) -> Request
 
 #[tactic(auto, unfolding(crate::specs::Request::with_header))]
 fn read_body(octets: &[u8], header: Header) -> Request
-    requires { 12 ≤ length octets.now }
-    ensures reads { result ≡ with_header octets.now header }
+    requires { HEADER_OCTETS ≤ length octets.now }
+    ensures reads { result ≡ with_header octets.now header (question_in octets.now) }
     ensures fits { FitsIn octets.now result }
 {
-    if header.flags >= 0x8000 {
+    if header.is_response() {
         return Request::Silent;
     }
-    let opcode = header.flags / 2048 % 16;
-    if opcode != 0 && opcode != 4 {
-        return Request::Curt(ResponseCode::NotImp);
+    let opcode = header.opcode();
+    if opcode != OPCODE_QUERY && opcode != OPCODE_NOTIFY {
+        return Request::Curt(header, ResponseCode::NotImp);
     }
-    match read_asked(behind(octets, 12), header) {
-        None => Request::Curt(ResponseCode::FormErr),
-        Some(asked) => judge(opcode, asked),
+    match read_asked(octets, header) {
+        None => Request::Curt(header, ResponseCode::FormErr),
+        Some(asked) => asked_for(opcode, asked),
     }
 }
 
 /// What a request that can be read asks for.
-#[tactic(auto, unfolding(crate::specs::Request::judged))]
-fn judge(opcode: u16, asked: Asked) -> Request
-    ensures judged { result ≡ judged opcode asked }
-    ensures fits { (octets : List ℕ) → IsWhole octets asked.size → FitsIn octets result }
+#[tactic(auto, unfolding(crate::specs::Request::asked_for))]
+fn asked_for(opcode: u16, asked: Asked) -> Request
+    ensures is { result ≡ asked_for opcode asked }
+    ensures fits { (octets : Octets) → IsWhole octets asked.size → FitsIn octets result }
 {
     if is_newer(asked.edns) {
         return Request::NewerEdns(asked);
     }
     let Question { kind, class, .. } = asked.question;
-    if class != 1 {
-        return Request::NotBuilt(asked);
+    if class != CLASS_IN {
+        return Request::NotImp(asked);
     }
-    if opcode == 0 {
+    if opcode == OPCODE_QUERY {
         return if is_unasked(kind) {
-            Request::NotBuilt(asked)
+            Request::NotImp(asked)
         } else {
             Request::Asks(asked)
         };
     }
-    if kind == 6 {
+    if kind == TYPE_SOA {
         Request::Notify(asked)
     } else {
-        Request::NotBuilt(asked)
+        Request::NotImp(asked)
     }
 }
 
@@ -106,94 +113,61 @@ fn is_newer(edns: Option<Edns>) -> bool
 fn is_unasked(kind: u16) -> bool
     ensures { result ≡ is_unasked kind }
 {
-    matches!(kind, 41 | 249..=254)
+    matches!(kind, TYPE_OPT | TYPE_TKEY..=TYPE_MAILA)
 }
 
 /// The question and the OPT record behind the header.
-fn read_asked(body: &[u8], header: Header) -> Option<Asked>
-    ensures reads { result ≡ asked_of body.now header }
-    ensures few { IfSome result (λ asked. (asked.size ≤ length body.now) × (asked.size ≤ 259)) }
+fn read_asked(octets: &[u8], header: Header) -> Option<Asked>
+    requires { HEADER_OCTETS ≤ length octets.now }
+    ensures reads { result ≡ asked_of octets.now header (question_in octets.now) }
+    ensures few { IfSome result (λ asked. IsWhole octets.now asked.size) }
 {
     if header.counts[0] == 1 {
-        read_sections(body, header)
+        read_sections(octets, header)
     } else {
         None
     }
 }
 
 #[tactic(auto, unfolding(crate::specs::Request::asked_in))]
-fn read_sections(body: &[u8], header: Header) -> Option<Asked>
-    ensures reads { result ≡ asked_in body.now header }
-    ensures few { IfSome result (λ asked. (asked.size ≤ length body.now) × (asked.size ≤ 259)) }
+fn read_sections(octets: &[u8], header: Header) -> Option<Asked>
+    requires { HEADER_OCTETS ≤ length octets.now }
+    ensures reads { result ≡ asked_in octets.now header (question_in octets.now) }
+    ensures few { IfSome result (λ asked. IsWhole octets.now asked.size) }
 {
-    let (question, rest) = match read_question(body) {
+    let (question, end) = match read_question_in(octets) {
         None => return None,
         Some(found) => found,
     };
-    let size = body.len() - rest.len();
     let records = header.counts[1] as u32 + header.counts[2] as u32;
-    let rest = skip_records(rest, records)?;
+    let rest = skip_records(behind(octets, end), records)?;
     let edns = read_opt(rest, header.counts[3])?;
     Some(Asked {
+        header,
         question,
-        size,
+        size: end - HEADER_OCTETS,
         edns,
     })
 }
 
-/// The question, and what stands behind it.
-#[tactic(auto, unfolding(crate::specs::Request::question_of))]
-fn read_question(octets: &[u8]) -> Option<(Question, &[u8])>
-    ensures reads { option_map (λ x. (x.0, x.1.now)) result ≡ question_of octets.now }
-    ensures shorter { IfSome result (λ x. length x.1.now ≤ length octets.now) }
-    ensures few { IfSome result (λ x. length octets.now ≤ length x.1.now + 259) }
+/// The question behind the header, whose name has no pointer, and the offset behind it.
+#[tactic(auto, unfolding(crate::specs::Request::question_in))]
+fn read_question_in(octets: &[u8]) -> Option<(Question, usize)>
+    ensures reads { result ≡ question_in octets.now }
+    ensures begin { IfSome result (λ found. HEADER_OCTETS ≤ found.1) }
+    ensures end { IfSome result (λ found. found.1 ≤ length octets.now) }
+    ensures few { IfSome result (λ found. found.1 ≤ HEADER_OCTETS + (NAME_OCTETS + QUESTION_OCTETS)) }
 {
-    let (name, rest) = match read_name(octets) {
-        None => return None,
-        Some(found) => found,
-    };
-    if rest.len() < 4 {
-        return None;
+    match read_question(octets, HEADER_OCTETS) {
+        Err(_) => None,
+        Ok((question, end)) => {
+            if end == HEADER_OCTETS + (question.name.wire().len() + QUESTION_OCTETS) {
+                Some((question, end))
+            } else {
+                None
+            }
+        }
     }
-    let kind = number_of_two(rest);
-    let class = number_of_two(behind(rest, 2));
-    Some((Question { name, kind, class }, behind(rest, 4)))
-}
-
-/// The name of the question, and what stands behind it.
-fn read_name(octets: &[u8]) -> Option<(Name, &[u8])>
-    ensures reads { option_map (λ x. (x.0, x.1.now)) result ≡ name_of 128 0 octets.now }
-    ensures shorter { IfSome result (λ x. length x.1.now ≤ length octets.now) }
-    ensures few { IfSome result (λ x. length octets.now ≤ length x.1.now + 255) }
-{
-    let mut name = Name::root();
-    let mut used = 0;
-    let mut rest = octets;
-    'labels: for _ in 0..128usize {
-        if rest.is_empty() {
-            return None;
-        }
-        let size = rest[0] as usize;
-        if size == 0 {
-            return Some((name, behind(rest, 1)));
-        }
-        if !fits(size, rest.len(), used) {
-            return None;
-        }
-        name.push_label(label_at(rest, size));
-        used += size + 1;
-        rest = behind(rest, size + 1);
-    }
-    None
-}
-
-/// Whether a label of a size fits in what is left, and leaves room for the closing zero octet among 255.
-fn fits(size: usize, left: usize, used: usize) -> bool
-    requires { used < 255 }
-    ensures value { result ≡ (nat_lt size 64 && (nat_lt size left && nat_lt (used + size) 254)) }
-    ensures room { OnTrue result ((size < 64) × (size < left) × (used + size < 254)) }
-{
-    size < 64 && size < left && used + size < 254
 }
 
 /// The OPT among so many additional records.
@@ -204,7 +178,7 @@ fn read_opt(octets: &[u8], count: u16) -> Option<Option<Edns>>
     let mut found = None;
     let mut rest = octets;
     'records: for _ in 0..count {
-        let (shape, behind) = read_shape(rest)?;
+        let (shape, _, behind) = read_shape(rest)?;
         found = add_shape(shape, found)?;
         rest = behind;
     }
@@ -216,23 +190,12 @@ fn read_opt(octets: &[u8], count: u16) -> Option<Option<Edns>>
 fn add_shape(shape: Shape, found: Option<Edns>) -> Option<Option<Edns>>
     ensures { result ≡ add_shape shape found }
 {
-    if shape.kind != 41 {
+    if shape.head.kind != TYPE_OPT {
         return Some(found);
     }
     match found {
-        None if shape.root => Some(Some(edns_of(shape))),
+        None if shape.root => Some(Some(edns_of(shape.head))),
         _ => None,
-    }
-}
-
-#[tactic(auto, unfolding(crate::specs::Request::edns_of))]
-fn edns_of(shape: Shape) -> Edns
-    ensures { result ≡ edns_of shape }
-{
-    Edns {
-        size: shape.class,
-        version: (shape.ttl / 65_536 % 256) as u8,
-        dnssec_ok: shape.ttl / 32_768 % 2 == 1,
     }
 }
 
@@ -242,13 +205,4 @@ fn behind(octets: &[u8], count: usize) -> &[u8]
     ensures { result.now ≡ drop count octets.now }
 {
     octets.split_at(count).1
-}
-
-/// The label behind its length octet.
-fn label_at(octets: &[u8], size: usize) -> &[u8]
-    requires { size < length octets.now }
-    ensures label { result.now ≡ take size (drop 1 octets.now) }
-    ensures size { length result.now ≡ size }
-{
-    behind(octets, 1).split_at(size).0
 }

@@ -1,5 +1,5 @@
-use crate::{Asked, Request, read_request};
-use dz_header::{Edns, ResponseCode};
+use crate::{Asked, Frame, Heading, Request, Transport, read_request, reply_curt};
+use dz_header::{Edns, ReplyBuffer, ResponseCode, Writer};
 use dz_name::Name;
 use std::process::Abort;
 use std::test::*;
@@ -8,11 +8,11 @@ use std::test::*;
 fn kind_of(octets: &[u8]) -> &'static str {
     match read_request(octets) {
         Request::Silent => "silent",
-        Request::Curt(ResponseCode::NotImp) => "curt NOTIMP",
-        Request::Curt(ResponseCode::FormErr) => "curt FORMERR",
-        Request::Curt(_) => "curt",
+        Request::Curt(_, ResponseCode::NotImp) => "curt NOTIMP",
+        Request::Curt(_, ResponseCode::FormErr) => "curt FORMERR",
+        Request::Curt(_, _) => "curt",
         Request::NewerEdns(_) => "newer",
-        Request::NotBuilt(_) => "not built",
+        Request::NotImp(_) => "NOTIMP",
         Request::Notify(_) => "notify",
         Request::Asks(_) => "asks",
     }
@@ -113,47 +113,47 @@ fn requests_are_judged_in_order(rt: HostRuntime) {
         ),
         (
             b"\0\x75\x01\0\0\x01\0\0\0\0\0\0\x07example\0\0\x29\0\x01".as_slice(),
-            "not built",
+            "NOTIMP",
         ),
         (
             b"\0\x75\x01\0\0\x01\0\0\0\0\0\0\x07example\0\0\xf9\0\x01".as_slice(),
-            "not built",
+            "NOTIMP",
         ),
         (
             b"\0\x75\x01\0\0\x01\0\0\0\0\0\0\x07example\0\0\xfa\0\x01".as_slice(),
-            "not built",
+            "NOTIMP",
         ),
         (
             b"\0\x75\x01\0\0\x01\0\0\0\0\0\0\x07example\0\0\xfb\0\x01".as_slice(),
-            "not built",
+            "NOTIMP",
         ),
         (
             b"\0\x75\x01\0\0\x01\0\0\0\0\0\0\x07example\0\0\xfc\0\x01".as_slice(),
-            "not built",
+            "NOTIMP",
         ),
         (
             b"\0\x75\x01\0\0\x01\0\0\0\0\0\0\x07example\0\0\xfd\0\x01".as_slice(),
-            "not built",
+            "NOTIMP",
         ),
         (
             b"\0\x75\x01\0\0\x01\0\0\0\0\0\0\x07example\0\0\xfe\0\x01".as_slice(),
-            "not built",
+            "NOTIMP",
         ),
         (
             b"\0\x75\0\0\0\x01\0\0\0\0\0\0\x07example\0\0\x06\0\0".as_slice(),
-            "not built",
+            "NOTIMP",
         ),
         (
             b"\0\x75\0\0\0\x01\0\0\0\0\0\0\x07example\0\0\x06\0\x03".as_slice(),
-            "not built",
+            "NOTIMP",
         ),
         (
             b"\0\x75\0\0\0\x01\0\0\0\0\0\0\x07example\0\0\x06\0\xfe".as_slice(),
-            "not built",
+            "NOTIMP",
         ),
         (
             b"\0\x75\0\0\0\x01\0\0\0\0\0\0\x07example\0\0\x06\0\xff".as_slice(),
-            "not built",
+            "NOTIMP",
         ),
         (
             b"\0\x75\x20\0\0\x01\0\0\0\0\0\0\x07example\0\0\x06\0\x01".as_slice(),
@@ -165,11 +165,11 @@ fn requests_are_judged_in_order(rt: HostRuntime) {
         ),
         (
             b"\0\x75\x24\0\0\x01\0\0\0\0\0\0\x07example\0\0\x02\0\x01".as_slice(),
-            "not built",
+            "NOTIMP",
         ),
         (
             b"\0\x75\x24\0\0\x01\0\0\0\0\0\0\x07example\0\0\x06\0\x03".as_slice(),
-            "not built",
+            "NOTIMP",
         ),
         (
             b"\0\x75\x08\0\0\x01\0\0\0\0\0\0\x07example\0\0\x06\0\x01".as_slice(),
@@ -276,5 +276,128 @@ fn names_of_255_octets_are_read_and_longer_ones_not(rt: HostRuntime) -> Result<(
         octets.extend_from_slice(b"\0\0\x01\0\x01")?;
         assert!(rt; kind_of(&octets) == kind, "{last}");
     }
+    Ok(())
+}
+
+/// The reply of a code alone to a request that asks.
+fn bare(
+    rt: &impl Abort,
+    writer: &mut Writer,
+    request: &[u8],
+    code: ResponseCode,
+    transport: Transport,
+) {
+    let asked = match read_request(request) {
+        Request::Asks(asked) => asked,
+        Request::NewerEdns(asked) => asked,
+        _ => panic!(rt; "{request:?}"),
+    };
+    let frame = Frame {
+        request,
+        asked: &asked,
+        transport,
+    };
+    assert!(rt; asked.size <= 259 && 12 + asked.size <= request.len());
+    frame.reply_bare(writer, code);
+}
+
+fn is_written(writer: &Writer, expected: &[u8]) -> bool {
+    !writer.is_over() && writer.written() == expected
+}
+
+/// ID, opcode, RD and the question are those of the request, in its letters, and an OPT record is there where the request has
+/// one; the upper bits of BADVERS, 16, stand in it.
+#[test]
+fn replies_without_records(rt: HostRuntime) -> Result<(), Fail> {
+    let mut writer = Writer::new(rt.alloc())?;
+    bare(
+        &rt,
+        &mut writer,
+        b"\0\x13\x01\0\0\x01\0\0\0\0\0\0\x03oRg\0\0\x01\0\x01",
+        ResponseCode::Refused,
+        Transport::Udp,
+    );
+    assert!(rt;
+        is_written(
+            &writer,
+            b"\0\x13\x81\x05\0\x01\0\0\0\0\0\0\x03oRg\0\0\x01\0\x01"
+        )
+    );
+    bare(
+        &rt,
+        &mut writer,
+        b"\0\x75\0\0\0\x01\0\0\0\0\0\x01\x01a\0\0\x06\0\x03\0\0\x29\x04\xd0\0\x01\x80\0\0\0",
+        ResponseCode::BadVers,
+        Transport::Tcp,
+    );
+    assert!(rt;
+        is_written(
+            &writer,
+            b"\0\x75\x80\0\0\x01\0\0\0\0\0\x01\x01a\0\0\x06\0\x03\0\0\x29\x04\xd0\x01\0\x80\0\0\0"
+        )
+    );
+    Ok(())
+}
+
+/// An opcode that isn't built: ID, opcode and RD stay, and nothing stands behind the header.
+#[test]
+fn a_curt_reply_is_a_header(rt: HostRuntime) -> Result<(), Fail> {
+    let mut writer = Writer::new(rt.alloc())?;
+    match read_request(b"\0\x75\x29\0\0\x01\0\0\0\0\0\0") {
+        Request::Curt(header, code) => reply_curt(&mut writer, &header, code),
+        _ => panic!(rt; "not curt"),
+    }
+    assert!(rt; is_written(&writer, b"\0\x75\xa9\x04\0\0\0\0\0\0\0\0"));
+    Ok(())
+}
+
+/// A reply past its limit is cut: no records, and TC.
+#[test]
+fn a_reply_past_its_limit_is_cut(rt: HostRuntime) -> Result<(), Fail> {
+    let mut writer = Writer::new(rt.alloc())?;
+    let request = b"\0\x13\x01\0\0\x01\0\0\0\0\0\0\0\0\x01\0\x01".as_slice();
+    let asked = asked(&rt, request);
+    assert!(rt; asked.size <= 259 && 12 + asked.size <= request.len());
+    let frame = Frame {
+        request,
+        asked: &asked,
+        transport: Transport::Udp,
+    };
+    let heading = Heading {
+        code: ResponseCode::NoError,
+        authoritative: true,
+        truncated: false,
+        answer: 1,
+        authority: 0,
+        additional: 0,
+    };
+    frame.begin(&mut writer, &heading);
+    writer.put(&[0; 495]);
+    frame.finish(&mut writer, ResponseCode::NoError, true);
+    assert!(rt; !writer.is_over() && writer.written().len() == 512);
+    frame.begin(&mut writer, &heading);
+    writer.put(&[0; 496]);
+    frame.finish(&mut writer, ResponseCode::NoError, true);
+    assert!(rt; is_written(&writer, b"\0\x13\x87\0\0\x01\0\0\0\0\0\0\0\0\x01\0\x01"));
+    Ok(())
+}
+
+/// The next request comes into one half of a buffer while the reply is written into the other.
+fn take_in_and_write(buffer: &mut ReplyBuffer, octet: u8) {
+    let ReplyBuffer { request, reply } = buffer;
+    let room = request.as_mut_slice();
+    reply.begin(4);
+    room[0] = octet;
+    reply.put(b"a");
+    room[1] = octet;
+    reply.put(b"b");
+}
+
+#[test]
+fn the_halves_of_a_buffer_are_apart(rt: HostRuntime) -> Result<(), Fail> {
+    let mut buffer = ReplyBuffer::make(rt.alloc())?;
+    take_in_and_write(&mut buffer, 7);
+    assert!(rt; buffer.request_mut()[1] == 7 && buffer.request_mut()[2] == 0);
+    assert!(rt; buffer.reply(2) == b"ab".as_slice());
     Ok(())
 }

@@ -1,16 +1,14 @@
 -- The closest slot, against its words.
-use Rattle.std.proofs.Common.{◌≡◌, ℕ, ◌+◌, ◌<◌, ◌≤◌, zero, suc, Bool, true, false, List, [], ◌∷◌, ◌++◌, length, take, drop, get_or, refl, sym, ◌∙◌, ap, arith, inl, inr, length-append}
-use Rattle.std.specs.Prelude.{Option, Some, None, nat_lt, if◌then◌else◌}
+use Rattle.std.proofs.Common.{◌≡◌, ℕ, ◌+◌, ◌≤◌, zero, suc, Bool, true, false, List, [], ◌∷◌, length, drop, refl, sym, ◌∙◌, ap, arith, inl, inr, length-append}
+use Rattle.std.specs.Prelude.{Option, Some, None}
 use Rattle.std.specs.Option.{option_or}
-use Rattle.std.proofs.lemmas.List.{take_more}
 use Rattle.std.specs.List.{AllByRecursion, find, All, Contains}
-use Rattle.std.proofs.lemmas.Bool.{cases_Bool, false_from_ne_true}
-use Rattle.std.proofs.lemmas.Bool.Decides.{nat_tests, same_from_decides}
+use Rattle.std.proofs.lemmas.Bool.{cases_Bool}
 use Rattle.std.proofs.lemmas.List.Elements.{All-from_recursion}
-use Rattle.dz_name.specs.Labels.{same_name, is_within, upward, IsWithin}
+use Rattle.dz_name.specs.Name.{same_name, upward, IsWithin}
 use Rattle.dz_name.specs.Order.{same_decides}
-use Rattle.dz_name.proofs.PartLemmas.{within_suffix}
-use Rattle.dz_table.specs.Slots.{SlotOf, slot_of, first_held, closest, IsNearest, IsClosest, is_nearer}
+use Rattle.dz_table.specs.Slot.{SlotOf}
+use Rattle.dz_table.specs.Table.{slot_of, first_held, closest, IsNearest, IsClosest}
 
 find_some : {X : Type 0} (p : X → Bool) (xs : List X) (x : X) → find p xs ≡ Some x → Contains xs x × (p x ≡ true)
 find_some p [] x e = absurd (cc)
@@ -27,10 +25,6 @@ find_none p (y ∷ ys) e =
       | inl t ↦ let s : Some y ≡ None = rw t at e in absurd (cc)
       | inr f ↦ (f, find_none p ys (rw f at e))
     ]
-
-find_push : {X : Type 0} (p : X → Bool) (xs : List X) (x : X) → find p (xs ++ x ∷ []) ≡ option_or (find p xs) (if p x then Some x else None)
-find_push p [] x = refl
-find_push p (y ∷ ys) x = elim (cases_Bool (p y)) [ inl t ↦ rw t refl | inr f ↦ rw f (find_push p ys x) ]
 
 -- a suffix of a name that isn't the name is one of what stands behind its first label
 within_rest : (label : List ℕ) (labels zone : List (List ℕ)) → IsWithin (label ∷ labels) zone → same_name zone (label ∷ labels) ≡ false → IsWithin labels zone
@@ -128,96 +122,3 @@ climb_end slots name k r end h e =
 
 pub closest_answer : (slots : List SlotOf) (name : List (List ℕ)) (r : Option SlotOf) → r ≡ closest slots name → IsClosest slots name r
 closest_answer slots name r e = rw e (closest_is slots name)
-
--- no slot is the closest of no slots
-pub closest_none : (name : List (List ℕ)) → None ≡ closest [] name
-unfolding closest first_held upward
-closest_none [] = refl
-closest_none (label ∷ labels) = closest_none labels
-
--- one more slot behind the others
-nearer_own : (best slot : SlotOf) (name : List (List ℕ)) → best.zone ≡ name → is_nearer (Some best) slot name ≡ false
-nearer_own best slot name same =
-    elim (cases_Bool (is_within name slot.zone)) [
-      | inl t ↦
-          let le = within_le name slot.zone ((within_suffix name slot.zone).0 t) in
-          let f : nat_lt (length best.zone) (length slot.zone) ≡ false = grind (arith, nat_tests, ap length same) in
-          rw (t, f) refl
-      | inr f ↦ rw f refl
-    ]
-
--- a slot of the name itself is nearer than any of what stands behind the first label
-nearer_self : (slots : List SlotOf) (label : List ℕ) (labels : List (List ℕ)) (slot : SlotOf) (r : Option SlotOf) → slot.zone ≡ label ∷ labels → IsClosest slots labels r → is_nearer r slot (label ∷ labels) ≡ true
-nearer_self slots label labels slot None e h = let t : is_within (label ∷ labels) slot.zone ≡ true = (within_suffix (label ∷ labels) slot.zone).1 ([], sym e) in rw t refl
-nearer_self slots label labels slot (Some best) e h =
-    let t : is_within (label ∷ labels) slot.zone ≡ true = (within_suffix (label ∷ labels) slot.zone).1 ([], sym e) in
-    let le = within_le labels best.zone h.encloses in
-    let f : nat_lt (length best.zone) (length slot.zone) ≡ true = grind (arith, nat_tests, ap length e) in
-    rw (t, f) refl
-
-within_both : (label : List ℕ) (labels zone : List (List ℕ)) → same_name zone (label ∷ labels) ≡ false → is_within (label ∷ labels) zone ≡ is_within labels zone
-within_both label labels zone f =
-    same_from_decides (is_within (label ∷ labels) zone) (is_within labels zone)
-    (λ t. within_rest label labels zone ((within_suffix (label ∷ labels) zone).0 t) f, λ w. (within_suffix (label ∷ labels) zone).1 (within_longer label labels zone w))
-    (within_suffix labels zone)
-
-nearer_both : (label : List ℕ) (labels : List (List ℕ)) (slot : SlotOf) (r : Option SlotOf) → same_name slot.zone (label ∷ labels) ≡ false → is_nearer r slot (label ∷ labels) ≡ is_nearer r slot labels
-nearer_both label labels slot r f = rw (within_both label labels slot.zone f) refl
-
-not_within_root : (slot : SlotOf) → same_name slot.zone [] ≡ false → is_within [] slot.zone ≡ false
-not_within_root slot f = false_from_ne_true (is_within [] slot.zone) (λ t. within_root slot.zone ((within_suffix [] slot.zone).0 t) f)
-
-abbrev pub better : Option SlotOf → SlotOf → List (List ℕ) → Option SlotOf
-better best slot name = if is_nearer best slot name then Some slot else best
-
--- the same at one name, where those above it are done
-push_step : (slots : List SlotOf) (slot : SlotOf) (label : List ℕ) (labels : List (List ℕ)) (own : Option SlotOf) (old new : Option SlotOf) → slot_of (label ∷ labels) slots ≡ own
-    → IsClosest slots labels old → new ≡ better old slot labels
-    → option_or (option_or own (if same_name slot.zone (label ∷ labels) then Some slot else None)) new ≡ better (option_or own old) slot (label ∷ labels)
-push_step slots slot label labels (Some found) old new e h n =
-    let near = own_nearest slots (label ∷ labels) found e in
-    let same : found.zone ≡ label ∷ labels = (same_decides found.zone (label ∷ labels)).0 ((find_some (λ s. same_name s.zone (label ∷ labels)) slots found e).1) in
-    rw (nearer_own found slot (label ∷ labels) same) refl
-push_step slots slot label labels None old new e h n =
-    elim (cases_Bool (same_name slot.zone (label ∷ labels))) [
-      | inl t ↦ rw (t, nearer_self slots label labels slot old ((same_decides slot.zone (label ∷ labels)).0 t) h) refl
-      | inr f ↦ rw (f, nearer_both label labels slot old f) n
-    ]
-
-push_root : (slots : List SlotOf) (slot : SlotOf) (own : Option SlotOf) → slot_of [] slots ≡ own
-    → option_or (option_or own (if same_name slot.zone [] then Some slot else None)) None ≡ better (option_or own None) slot []
-push_root slots slot (Some found) e =
-    let same : found.zone ≡ [] = (same_decides found.zone []).0 ((find_some (λ s. same_name s.zone []) slots found e).1) in
-    rw (nearer_own found slot [] same) refl
-push_root slots slot None e =
-    elim (cases_Bool (same_name slot.zone [])) [
-      | inl t ↦
-          let w : is_within [] slot.zone ≡ true = (within_suffix [] slot.zone).1 ([], sym ((same_decides slot.zone []).0 t)) in
-          rw (t, w) refl
-      | inr f ↦ rw (f, not_within_root slot f) refl
-    ]
-
-pub closest_push : (slots : List SlotOf) (slot : SlotOf) (name : List (List ℕ)) → closest (slots ++ slot ∷ []) name ≡ better (closest slots name) slot name
-unfolding closest first_held upward
-closest_push slots slot [] = rw (find_push (λ s. same_name s.zone []) slots slot) (push_root slots slot (slot_of [] slots) refl)
-closest_push slots slot (label ∷ labels) =
-    rw (find_push (λ s. same_name s.zone (label ∷ labels)) slots slot)
-    (push_step slots slot label labels (slot_of (label ∷ labels) slots) (first_held slots (upward labels)) (first_held (slots ++ slot ∷ []) (upward labels)) refl (closest_is slots labels) (closest_push slots slot labels))
-
--- a scan's step, at a slot that is nearer than the best so far and at one that isn't
-pub scanned : (slots : List SlotOf) (i : ℕ) (slot : SlotOf) (name : List (List ℕ)) (best : Option SlotOf) (nearer : Bool) → i < length slots → slot ≡ get_or slots i slot → best ≡ closest (take i slots) name
-    → is_nearer best slot name ≡ nearer → (if nearer then Some slot else best) ≡ closest (take (i + 1) slots) name
-scanned slots i slot name best nearer h e b n =
-    let s : take (i + 1) slots ≡ take i slots ++ slot ∷ [] = take_more slots i slot h ∙ ap (λ x. take i slots ++ x ∷ []) (sym e) in
-    let p : (if nearer then Some slot else best) ≡ better (closest (take i slots) name) slot name = rw (← n, b) refl in
-    p ∙ (sym (closest_push (take i slots) slot name) ∙ ap (λ xs. closest xs name) (sym s))
-
--- lists that have the same slot for each zone have the same closest slot, in whatever order they stand
-first_held_agree : (a b : List SlotOf) → ((zone : List (List ℕ)) → slot_of zone a ≡ slot_of zone b) → (names : List (List (List ℕ))) → first_held a names ≡ first_held b names
-unfolding first_held
-first_held_agree a b same [] = refl
-first_held_agree a b same (name ∷ names) = rw (same name, first_held_agree a b same names) refl
-
-pub closest_agree : (a b : List SlotOf) → ((zone : List (List ℕ)) → slot_of zone a ≡ slot_of zone b) → (name : List (List ℕ)) → closest a name ≡ closest b name
-unfolding closest
-closest_agree a b same name = first_held_agree a b same (upward name)

@@ -7,9 +7,10 @@ use Rattle.std.specs.Ordering.{is_lt}
 use Rattle.std.specs.declared.cmp.Ordering.TheVariants.{Less, Equal, Greater}
 use Rattle.std.proofs.lemmas.Bool.{cases_Bool, false_from_ne_true}
 use Rattle.std.proofs.lemmas.Cmp.{tied_itself}
-use Rattle.dz_name.specs.Labels.{canonical_order, same_name}
+use Rattle.dz_name.specs.Name.{canonical_order, same_name}
 use Rattle.dz_name.specs.Order.{canonical_total, canonical_same, same_decides}
-use Rattle.dz_table.specs.Slots.{SlotOf, IsTable, comes_before, put, slot_of}
+use Rattle.dz_table.specs.Slot.{SlotOf}
+use Rattle.dz_table.specs.Table.{IsTable, comes_before, put, slot_of}
 use Rattle.dz_table.proofs.Rising.{put_is, rises_put}
 
 pub put_rises : (slots new : List SlotOf) (slot : SlotOf) → IsTable slots → new ≡ put slots slot → IsTable new

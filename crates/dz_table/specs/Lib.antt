@@ -1,1 +1,3 @@
-pub mod Slots
+pub mod Examples
+pub mod Slot
+pub mod Table

@@ -1,13 +1,11 @@
 //! The table of zones: what is held of each, and which zone answers for a name (RFC 1034 section 4.3.2).
 #![tactic(auto)]
 
-mod plain;
-mod searching;
+mod search;
 mod slot;
 mod table;
 #[cfg(test)]
 mod tests;
 
-pub use plain::plain_closest;
 pub use slot::Slot;
 pub use table::Table;

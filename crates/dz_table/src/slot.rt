@@ -4,8 +4,8 @@ ghost use Rattle.std.specs.Prelude.{◌≡◌, ◌<◌, ◌^◌, IfOk, option_ma
 ghost use Rattle.std.specs.Option.{ForSome};
 ghost use Rattle.std.specs.Arc.{arc_value};
 ghost use Rattle.std.specs.List.{All};
-ghost use Rattle.dz_zone.specs.Held.{IsHeld};
-ghost use Rattle.dz_table.specs.Slots.{SlotOf, IsSlot, is_live};
+ghost use Rattle.dz_record.specs.Record.{IsRecord};
+ghost use Rattle.dz_table.specs.Slot.{SlotOf, IsSlot, is_live};
 
 use dz_name::Name;
 use dz_zone::Version;
@@ -25,7 +25,7 @@ pub struct Slot {
 impl Model for Slot {
     ghost use Rattle.std.specs.Prelude.{option_map};
     ghost use Rattle.std.specs.Arc.{arc_value};
-    ghost use Rattle.dz_table.specs.Slots.{SlotOf, IsSlot};
+    ghost use Rattle.dz_table.specs.Slot.{SlotOf, IsSlot};
 
     ghost Value = { SlotOf };
 
@@ -36,7 +36,7 @@ impl Model for Slot {
 
 impl Slot {
     /// The slot of these parts.
-    pub fn make(zone: Name, refreshed: u64, version: Option<Arc<Version>>) -> Slot
+    pub fn new(zone: Name, refreshed: u64, version: Option<Arc<Version>>) -> Slot
         requires moment { refreshed < 2 ^ 40 }
         requires apex { ForSome version (λ v. v.value.apex ≡ zone) }
         ensures { result ≡ record { zone = zone; refreshed = refreshed; version = option_map arc_value version } }
@@ -66,7 +66,7 @@ impl Slot {
     pub fn version(&self) -> Option<&Version>
         ensures version { option_map (λ r. r.now) result ≡ self.now.version }
         ensures valid { IsSlot self.now }
-        ensures held { ForSome self.now.version (λ v. All IsHeld v.records) }
+        ensures held { ForSome self.now.version (λ v. All IsRecord v.records) }
     {
         match &self.version {
             None => None,
@@ -76,6 +76,13 @@ impl Slot {
                 Some(&**version)
             }
         }
+    }
+
+    /// The version as slots share it: a clone of the handle is one more owner of the same records.
+    pub fn shared_version(&self) -> Option<&Arc<Version>>
+        ensures { option_map (λ r. r.now.value) result ≡ self.now.version }
+    {
+        self.version.as_ref()
     }
 
     /// Whether the version may answer at a moment in seconds: one is held, and fewer than EXPIRE seconds have passed

@@ -1,9 +1,10 @@
 //! The table of zones.
 
-ghost use Rattle.std.specs.Prelude.{◌≡◌, ◌≢◌, ℕ, List, [], Some, IfOk, option_map};
-ghost use Rattle.dz_table.specs.Slots.{IsTable, IsClosest, put, slot_of, closest};
+ghost use Rattle.std.specs.Prelude.{◌≡◌, ◌≢◌, ◌≤◌, [], Some, IfOk, drop, length, option_map};
+ghost use Rattle.dz_name.specs.Words.{Name};
+ghost use Rattle.dz_table.specs.Table.{IsTable, IsClosest, put, slot_of, closest};
 
-use crate::searching::{before, behind, find, share_into};
+use crate::search::{before, behind, find, share_into};
 use crate::slot::Slot;
 use dz_name::Name;
 use std::alloc::{AllocError, Global};
@@ -17,7 +18,8 @@ pub struct Table {
 
 impl Model for Table {
     ghost use Rattle.std.specs.Prelude.{List};
-    ghost use Rattle.dz_table.specs.Slots.{SlotOf, IsTable};
+    ghost use Rattle.dz_table.specs.Slot.{SlotOf};
+    ghost use Rattle.dz_table.specs.Table.{IsTable};
 
     ghost Value = { List SlotOf };
 
@@ -37,7 +39,7 @@ impl Table {
     }
 
     /// The slots, in the canonical order of their zones.
-    pub fn slots(&self) -> &[Slot]
+    pub(crate) fn slots(&self) -> &[Slot]
         ensures slots { result.now ≡ self.now }
         ensures order { IsTable self.now }
     {
@@ -48,7 +50,7 @@ impl Table {
     pub fn with(&self, alloc: Global, slot: Slot) -> Result<Table, AllocError>
         ensures value { IfOk result (λ t. t ≡ put self.now slot) }
         ensures own { IfOk result (λ t. slot_of slot.zone t ≡ Some slot) }
-        ensures others { IfOk result (λ t. (zone : List (List ℕ)) → zone ≢ slot.zone → slot_of zone t ≡ slot_of zone self.now) }
+        ensures others { IfOk result (λ t. (zone : Name) → zone ≢ slot.zone → slot_of zone t ≡ slot_of zone self.now) }
     {
         let mut slots = Vec::with_capacity(alloc, self.slots.len() + 1)?;
         share_into(&mut slots, before(self.slots(), slot.zone()))?;
@@ -56,6 +58,14 @@ impl Table {
         slots.push(slot)?;
         share_into(&mut slots, behind(self.slots(), &zone))?;
         Ok(Table { slots })
+    }
+
+    /// The slot of exactly this zone; none where it has none.
+    pub fn get(&self, zone: &Name) -> Option<&Slot>
+        ensures slot { option_map (λ r. r.now) result ≡ slot_of zone.now self.now }
+        ensures order { IsTable self.now }
+    {
+        find(self.slots(), &zone.as_ref())
     }
 
     /// The slot whose zone encloses the name and has most labels (RFC 1034 section 4.3.2, step 2); none where no zone
@@ -66,11 +76,11 @@ impl Table {
     {
         let slots = self.slots();
         'labels: for skip in 0..name.label_count() {
-            match find(slots, &name.ancestor(skip)) {
+            match find(slots, &name.ancestor_ref(skip)) {
                 Some(slot) => return Some(slot),
                 None => {}
             }
         }
-        find(slots, &Name::root())
+        find(slots, &name.ancestor_ref(name.label_count()))
     }
 }

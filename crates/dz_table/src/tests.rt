@@ -28,7 +28,7 @@ fn make_record(
 ) -> Result<Rr, AllocError> {
     let mut rdata = Vec::new(alloc);
     rdata.extend_from_slice(octets)?;
-    match Rr::make(owner, kind, 3600, Octets::from_vec(rdata)) {
+    match Rr::make(alloc, owner, kind, 3600, Octets::from_vec(rdata)) {
         Ok(made) => Ok(made),
         Err(error) => panic!(rt; "{error:?} of type {kind} with {octets:?}"),
     }
@@ -50,7 +50,7 @@ fn make_version(
     let mut records = Vec::new(alloc);
     records.push(make_record(rt, alloc, zone, 6, soa.as_slice())?)?;
     records.push(make_record(rt, alloc, zone, 2, b"\x02ns\x00")?)?;
-    match check(&zone, records) {
+    match check(alloc, &zone, records) {
         Ok(version) => Ok(Arc::new(alloc, version)?),
         Err(fault) => panic!(rt; "{fault:?}"),
     }
@@ -58,7 +58,7 @@ fn make_version(
 
 /// A slot without a version.
 fn make_slot(rt: &impl Abort, zone: &str, refreshed: u64) -> Slot {
-    Slot::make(make_name(rt, zone), refreshed.min(MOST), None)
+    Slot::new(make_name(rt, zone), refreshed.min(MOST), None)
 }
 
 fn make_live(
@@ -70,7 +70,7 @@ fn make_live(
 ) -> Result<Slot, AllocError> {
     let zone = make_name(rt, zone);
     let version = make_version(rt, alloc, zone, expire)?;
-    Ok(Slot::make(zone, refreshed.min(MOST), Some(version)))
+    Ok(Slot::new(zone, refreshed.min(MOST), Some(version)))
 }
 
 /// A table with a slot for each of these zones, put in this order; a slot's moment is its zone's place.
@@ -92,20 +92,18 @@ fn expect_slots(rt: &impl Abort, table: &Table, want: &[(&str, u64)]) {
     }
 }
 
-/// The closest zone of a name, and the plain search finds the same.
+/// The closest zone of a name.
 fn expect_closest(rt: &impl Abort, table: &Table, name: &str, want: Option<&str>) {
     let name = make_name(rt, name);
-    for found in [table.closest(&name), plain_closest(table.slots(), &name)] {
-        match (found, want) {
-            (None, None) => {}
-            (Some(slot), Some(zone)) => {
-                assert!(rt;
-                    slot.zone().same(&make_name(rt, zone)),
-                    "{name:?} not in {zone}"
-                );
-            }
-            _ => panic!(rt; "{name:?}: a slot {}, wanted {want:?}", found.is_some()),
+    match (table.closest(&name), want) {
+        (None, None) => {}
+        (Some(slot), Some(zone)) => {
+            assert!(rt;
+                slot.zone().same(&make_name(rt, zone)),
+                "{name:?} not in {zone}"
+            );
         }
+        (found, _) => panic!(rt; "{name:?}: a slot {}, wanted {want:?}", found.is_some()),
     }
 }
 
@@ -202,6 +200,22 @@ fn with_replaces_the_slot_of_its_zone(rt: HostRuntime) -> Result<(), Fail> {
 }
 
 #[test]
+fn get_finds_exactly_one_zone(rt: HostRuntime) -> Result<(), Fail> {
+    let table = make_table(&rt, rt.alloc(), &["example.", "a.example."])?;
+    for (zone, want) in [
+        ("example.", Some(0)),
+        ("A.EXAMPLE.", Some(1)),
+        ("b.a.example.", None),
+        ("xa.example.", None),
+        (".", None),
+    ] {
+        let found = table.get(&make_name(&rt, zone));
+        assert_eq!(rt; found.map(|slot| slot.refreshed()), want, "of {zone}");
+    }
+    Ok(())
+}
+
+#[test]
 fn live_until_expire_has_passed(rt: HostRuntime) -> Result<(), Fail> {
     let alloc = rt.alloc();
     for (refreshed, expire, moment, want) in [
@@ -251,7 +265,7 @@ fn tables_share_versions(rt: HostRuntime) -> Result<(), Fail> {
         match table.closest(&make_name(&rt, "www.example.")) {
             Some(slot) => {
                 assert_eq!(rt; slot.refreshed(), 5);
-                match slot.version() {
+                match slot.shared_version() {
                     Some(version) => assert_eq!(rt; version.records().len(), 2),
                     None => panic!(rt; "no version"),
                 }
@@ -259,5 +273,20 @@ fn tables_share_versions(rt: HostRuntime) -> Result<(), Fail> {
             None => panic!(rt; "no slot"),
         }
     }
+    Ok(())
+}
+
+fn is_send<T: Send>(_value: &T) {}
+
+fn is_sync<T: Sync>(_value: &T) {}
+
+#[test]
+fn threads_may_share_slots_and_tables(rt: HostRuntime) -> Result<(), Fail> {
+    let slot = make_live(&rt, rt.alloc(), "example.", 5, 10)?;
+    is_send(&slot);
+    is_sync(&slot);
+    let table = Table::empty(rt.alloc()).with(rt.alloc(), slot)?;
+    is_send(&table);
+    is_sync(&table);
     Ok(())
 }

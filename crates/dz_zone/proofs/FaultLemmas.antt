@@ -8,12 +8,12 @@ use Rattle.std.specs.List.Sorted.{IsStrictlySortedBy}
 use Rattle.std.specs.Cmp.{tied_itself}
 use Rattle.std.proofs.lemmas.Bool.{cases_Bool, and_parts, not-true, eqb-true}
 use Rattle.std.proofs.lemmas.Bool.Decides.{nat_tests}
-use Rattle.dz_name.specs.Labels.{same_name, canonical_order, is_within}
+use Rattle.dz_name.specs.Name.{same_name, canonical_order, is_within}
 use Rattle.dz_name.specs.Order.{canonical_total, canonical_same, same_decides, names_equal}
 use Rattle.dz_record.specs.Record.{Record, record_order, soa_of}
-use Rattle.dz_record.specs.Zone.{in_order}
-use Rattle.dz_zone.specs.Neighbours.{some_two, neighbours_from, neighbours}
-use Rattle.dz_zone.specs.Valid.{at_apex, is_beside_any, is_cname_and_other, clash, both_are, fault_of}
+use Rattle.dz_record.specs.Records.{in_order}
+use Rattle.dz_zone.specs.inner.Neighbours.{neighbours_from, neighbours}
+use Rattle.dz_zone.specs.Valid.{some_two, at_apex, is_beside_any, is_cname_and_other, clash, both_are, fault_of}
 use Rattle.dz_zone.proofs.Pairs.{any_puts, sum_puts, length_puts, two_puts, two_neighbours, ascends_filter, each_kept, each_true, two_filter, front_no, adjacent_answer}
 use Rattle.dz_zone.proofs.RecordLemmas.{before, rising_ascends, in_order_puts}
 

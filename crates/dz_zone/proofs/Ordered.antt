@@ -93,9 +93,6 @@ module _ {X : Type 0} (lt : X → X → Bool) (o : IsStrictWeakOrder lt) where
   no_tie_before : (x y : X) → lt x y ≡ true → ties lt x y ≡ false
   no_tie_before x y t = rw t refl
 
-  no_tie_behind : (x y : X) → lt y x ≡ true → ties lt x y ≡ false
-  no_tie_behind x y t = rw (o.one_way y x t, t) refl
-
   tie_parts : (x y : X) → ties lt x y ≡ true → (lt x y ≡ false) × (lt y x ≡ false)
   tie_parts x y t =
       let both = and_parts (not (lt x y)) (not (lt y x)) t in

@@ -5,7 +5,8 @@ use Rattle.std.specs.List.{AllByRecursion, list_any, sum_by, IsAllAdjacentAnswer
 use Rattle.std.proofs.lemmas.Bool.{cases_Bool, or_cases, or_left, or_right}
 use Rattle.std.proofs.lemmas.List.{drop_more, drop_all}
 use Rattle.std.proofs.lemmas.List.Sums.{sum_by-cons}
-use Rattle.dz_zone.specs.Neighbours.{some_two, neighbours_from, neighbours}
+use Rattle.dz_zone.specs.Valid.{some_two}
+use Rattle.dz_zone.specs.inner.Neighbours.{neighbours_from, neighbours}
 use Rattle.dz_zone.proofs.Ordered.{put, puts, Ascends}
 
 or_swap : (a b c : Bool) → (a || (b || c)) ≡ (b || (a || c))
@@ -195,21 +196,9 @@ pub walk_step : {X : Type 0} (t : X → X → Bool) (keep : X → Bool) (last x 
 unfolding neighbours_from
 walk_step t keep last x rest i h e k = rw (drop_more rest i x h, ← e, k) refl
 
-pub walk_skip : {X : Type 0} (t : X → X → Bool) (keep : X → Bool) (last x : X) (rest : List X) (i : ℕ) → i < length rest → x ≡ get_or rest i x → keep x ≡ false
-    → neighbours_from t last (filter keep (drop i rest)) ≡ neighbours_from t last (filter keep (drop (i + 1) rest))
-walk_skip t keep last x rest i h e k = rw (drop_more rest i x h, ← e, k) refl
-
 pub walk_end : {X : Type 0} (t : X → X → Bool) (keep : X → Bool) (last : X) (rest : List X) (i : ℕ) → length rest ≤ i → neighbours_from t last (filter keep (drop i rest)) ≡ false
 unfolding neighbours_from
 walk_end t keep last rest i h = rw (drop_all i rest h) refl
-
-pub two_found : {X : Type 0} (t : X → X → Bool) (xs : List X) (x : X) (behind : List X) → xs ≡ x ∷ behind → list_any (t x) behind ≡ true → some_two t xs ≡ true
-unfolding some_two
-two_found t xs x behind e h = rw (e, h) refl
-
-pub two_next : {X : Type 0} (t : X → X → Bool) (xs : List X) (x : X) (behind : List X) → xs ≡ x ∷ behind → list_any (t x) behind ≡ false → some_two t xs ≡ some_two t behind
-unfolding some_two
-two_next t xs x behind e h = rw (e, h) refl
 
 pub two_none : {X : Type 0} (t : X → X → Bool) (xs : List X) → length xs < 1 → some_two t xs ≡ false
 unfolding some_two

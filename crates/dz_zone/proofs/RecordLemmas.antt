@@ -5,7 +5,7 @@ use Rattle.std.specs.Prelude.{◌==◌}
 use Rattle.std.specs.Bool.{Decides}
 use Rattle.std.specs.List.{dedup, IsAllAdjacentAnswer}
 use Rattle.std.proofs.lemmas.Bool.{or_parts, not-true, not-false, not_from_false}
-use Rattle.dz_zone.specs.Neighbours.{neighbours_from, neighbours}
+use Rattle.dz_zone.specs.inner.Neighbours.{neighbours_from, neighbours}
 use Rattle.dz_zone.proofs.Pairs.{adjacent_answer}
 use Rattle.std.specs.List.Sorted.{IsStrictlySortedBy, IsSortedBy, IsStableBy, ties}
 use Rattle.std.specs.Cmp.{IsTotalOrder, IsStrictWeakOrder, Equal-is, tied_itself}
@@ -16,10 +16,10 @@ use Rattle.std.proofs.lemmas.Cmp.{on_total, then_total, nat_cmp_total, nat_list_
 use Rattle.std.proofs.lemmas.List.Sorted.{ranks_by}
 use Rattle.std.proofs.lemmas.Bool.Decides.{nat_tests, same_from_decides}
 use Rattle.std.proofs.lemmas.Slice.Eq.{bytes_eq-Decides}
-use Rattle.dz_name.specs.Labels.{canonical_order}
+use Rattle.dz_name.specs.Name.{canonical_order}
 use Rattle.dz_name.specs.Order.{canonical_total, same_ties}
 use Rattle.dz_record.specs.Record.{Record, record_order, same_record}
-use Rattle.dz_record.specs.Zone.{distinct, in_order, placed}
+use Rattle.dz_record.specs.Records.{distinct, in_order, insertion}
 use Rattle.dz_zone.proofs.Ordered.{firsts, put, puts, Ascends, Climbs, each_more, tidied, climbed, climbs_ascends}
 
 pub record_total : IsTotalOrder record_order
@@ -82,8 +82,8 @@ turn_gt Less p e = rw e refl
 turn_gt Equal p e = rw e refl
 turn_gt Greater p e = rw e refl
 
-placed_put : (r : Record) (ss : List Record) → placed r ss ≡ put before r ss
-unfolding placed put before
+placed_put : (r : Record) (ss : List Record) → insertion r ss ≡ put before r ss
+unfolding insertion put before
 placed_put r [] = refl
 placed_put r (s ∷ ss) = rw (turn_gt (record_order s r) (record_order r s) (record_total.antisymm r s), placed_put r ss) refl
 

@@ -1,11 +1,12 @@
 -- The owners of a zone without a fault are within its apex.
-use Rattle.std.proofs.Common.{◌≡◌, ℕ, ◌<◌, zero, suc, List, [], ◌∷◌, length, get_or, Option, Some, None, Bool, true, false, refl, inl, inr, arith, ◌∙◌, ap}
+use Rattle.std.proofs.Common.{◌≡◌, ℕ, ◌<◌, zero, suc, List, [], ◌∷◌, length, get_or, None, Bool, true, false, refl, inl, inr, arith}
 use Rattle.std.specs.Prelude.{not}
 use Rattle.std.specs.List.{list_any}
 use Rattle.std.proofs.lemmas.Bool.{cases_Bool}
-use Rattle.dz_name.specs.Labels.{is_within}
+use Rattle.dz_name.specs.Name.{is_within}
 use Rattle.dz_record.specs.Record.{Record}
-use Rattle.dz_zone.specs.Valid.{fault_of, no_soa, soa_twice, soa_below, no_ns, out_of_zone, Zone, IsValid}
+use Rattle.dz_zone.specs.Valid.{fault_of, no_soa, soa_twice, soa_below, no_ns, out_of_zone}
+use Rattle.dz_zone.specs.Version.{Zone, IsValid}
 
 none_outside : (apex : List (List ℕ)) (rs : List Record) → fault_of apex rs ≡ None → out_of_zone apex rs ≡ false
 unfolding fault_of

@@ -1,3 +1,4 @@
-pub mod Held
-pub mod Neighbours
+pub mod Examples
 pub mod Valid
+pub mod Version
+pub mod inner

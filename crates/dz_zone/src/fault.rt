@@ -1,13 +1,13 @@
 //! Why records make no zone.
 
 ghost use Rattle.std.specs.Prelude.{◌≡◌};
-ghost use Rattle.dz_zone.specs.declared.fault.ZoneFault.TheVariants.{OutOfMemory};
+ghost use Rattle.dz_zone.specs.declared.fault.ZoneError.TheVariants.{OutOfMemory};
 
 use std::alloc::AllocError;
 
 /// What is wrong with a zone. Where more than one holds, the first in this order counts.
 #[derive(Clone, Copy, Debug, PartialEq, Eq)]
-pub enum Fault {
+pub enum ZoneFault {
     /// The apex owns no SOA (RFC 1035 section 5.2).
     NoSoa,
     /// The apex owns two SOA records (RFC 2181 section 6.1).
@@ -24,23 +24,23 @@ pub enum Fault {
     CnameTwice,
     /// An owner has two DNAME records (RFC 6672 section 2.4).
     DnameTwice,
-    /// There are more than 250,000 records.
+    /// There are more than 250,000 records ([`dz_name::dns::ZONE_RECORDS`]).
     TooMany,
 }
 
 /// Why there is no version of the zone.
 #[derive(Clone, Copy, Debug, PartialEq, Eq)]
-pub enum ZoneFault {
+pub enum ZoneError {
     /// The records make no zone.
-    Fault(Fault),
+    Fault(ZoneFault),
     /// Memory is wanting.
     OutOfMemory,
 }
 
-impl From<AllocError> for ZoneFault {
+impl From<AllocError> for ZoneError {
     ghost from_gives = { λ _ e. e ≡ OutOfMemory };
 
-    fn from(_error: AllocError) -> ZoneFault {
-        ZoneFault::OutOfMemory
+    fn from(_error: AllocError) -> ZoneError {
+        ZoneError::OutOfMemory
     }
 }

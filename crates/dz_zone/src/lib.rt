@@ -3,13 +3,11 @@
 #![tactic(auto)]
 
 mod fault;
-mod judging;
-mod plain;
-mod sorting;
+mod order;
 #[cfg(test)]
 mod tests;
+mod valid;
 mod version;
 
-pub use fault::{Fault, ZoneFault};
-pub use plain::plain_fault;
+pub use fault::{ZoneError, ZoneFault};
 pub use version::{Version, check};

@@ -89,7 +89,13 @@ fn make_record(rt: &impl Abort, alloc: Global, row: Row) -> Result<Rr, AllocErro
     let (owner, kind, ttl, octets) = row;
     let mut rdata = Vec::new(alloc);
     rdata.extend_from_slice(octets)?;
-    match Rr::make(make_name(rt, owner), kind, ttl, Octets::from_vec(rdata)) {
+    match Rr::make(
+        alloc,
+        make_name(rt, owner),
+        kind,
+        ttl,
+        Octets::from_vec(rdata),
+    ) {
         Ok(made) => Ok(made),
         Err(error) => panic!(rt; "{error:?} of type {kind} with {octets:?}"),
     }
@@ -103,30 +109,25 @@ fn make_records(rt: &impl Abort, alloc: Global, rows: &[Row]) -> Result<Vec<Rr>,
     Ok(records)
 }
 
-/// The rows make no zone by this fault, and the plain judging says the same.
+/// The rows make no zone by this fault.
 fn expect_fault(
     rt: &impl Abort,
     alloc: Global,
     rows: &[Row],
-    want: Fault,
+    want: ZoneFault,
 ) -> Result<(), AllocError> {
     let apex = make_name(rt, APEX);
     let records = make_records(rt, alloc, rows)?;
-    assert_eq!(rt;
-        plain_fault(&apex, &records),
-        Some(want),
-        "plainly of {rows:?}"
-    );
-    match check(&apex, records) {
+    match check(alloc, &apex, records) {
         Ok(_) => panic!(rt; "no fault of {rows:?}"),
-        Err(found) => assert_eq!(rt; found, ZoneFault::Fault(want), "of {rows:?}"),
+        Err(found) => assert_eq!(rt; found, ZoneError::Fault(want), "of {rows:?}"),
     }
     Ok(())
 }
 
 /// The record is that of the row.
 fn expect_row(rt: &impl Abort, found: &Rr, want: &Row) {
-    assert_eq!(rt; found.owner().wire(), want.0, "for {want:?}");
+    assert_eq!(rt; found.owner_ref().wire(), want.0, "for {want:?}");
     assert_eq!(rt; found.kind(), want.1, "for {want:?}");
     assert_eq!(rt; found.ttl(), want.2, "for {want:?}");
     assert_eq!(rt; found.rdata(), want.3, "for {want:?}");
@@ -135,11 +136,6 @@ fn expect_row(rt: &impl Abort, found: &Rr, want: &Row) {
 /// The version holds the rows in this order.
 fn expect_rows(rt: &impl Abort, version: &Version, want: &[Row]) {
     assert_eq!(rt; version.apex().wire(), APEX);
-    assert_eq!(rt;
-        plain_fault(version.apex(), version.records()),
-        None,
-        "plainly of {want:?}"
-    );
     assert_eq!(rt; version.records().len(), want.len(), "for {want:?}");
     for (found, row) in version.records().iter().zip(want) {
         expect_row(rt, found, row);
@@ -155,7 +151,7 @@ fn expect_zone(
 ) -> Result<(), AllocError> {
     let apex = make_name(rt, APEX);
     let records = make_records(rt, alloc, rows)?;
-    match check(&apex, records) {
+    match check(alloc, &apex, records) {
         Ok(version) => expect_rows(rt, &version, want),
         Err(found) => panic!(rt; "{found:?} of {rows:?}"),
     }
@@ -164,20 +160,20 @@ fn expect_zone(
 
 #[test]
 fn each_fault_is_found(rt: HostRuntime) -> Result<(), Fail> {
-    let rows: [(&[Row], Fault); 10] = [
-        (&[], Fault::NoSoa),
-        (&[NS], Fault::NoSoa),
-        (&[SOA, NS, OTHER_SOA], Fault::SoaTwice),
-        (&[SOA, NS, SOA_BELOW], Fault::SoaBelow),
-        (&[SOA, NS_BELOW], Fault::NoNs),
-        (&[SOA, NS, OUTSIDE], Fault::OutOfZone),
-        (&[SOA, NS, CNAME, A_BESIDE], Fault::CnameBeside),
+    let rows: [(&[Row], ZoneFault); 10] = [
+        (&[], ZoneFault::NoSoa),
+        (&[NS], ZoneFault::NoSoa),
+        (&[SOA, NS, OTHER_SOA], ZoneFault::SoaTwice),
+        (&[SOA, NS, SOA_BELOW], ZoneFault::SoaBelow),
+        (&[SOA, NS_BELOW], ZoneFault::NoNs),
+        (&[SOA, NS, OUTSIDE], ZoneFault::OutOfZone),
+        (&[SOA, NS, CNAME, A_BESIDE], ZoneFault::CnameBeside),
         (
             &[CAA_BESIDE, SOA, NSEC, NS, RRSIG, CNAME],
-            Fault::CnameBeside,
+            ZoneFault::CnameBeside,
         ),
-        (&[SOA, NS, CNAME, OTHER_CNAME], Fault::CnameTwice),
-        (&[SOA, NS, DNAME, OTHER_DNAME], Fault::DnameTwice),
+        (&[SOA, NS, CNAME, OTHER_CNAME], ZoneFault::CnameTwice),
+        (&[SOA, NS, DNAME, OTHER_DNAME], ZoneFault::DnameTwice),
     ];
     for (records, want) in rows {
         expect_fault(&rt, rt.alloc(), records, want)?;
@@ -187,20 +183,23 @@ fn each_fault_is_found(rt: HostRuntime) -> Result<(), Fail> {
 
 #[test]
 fn of_two_faults_the_first_counts(rt: HostRuntime) -> Result<(), Fail> {
-    let rows: [(&[Row], Fault); 8] = [
-        (&[SOA_BELOW, NS], Fault::NoSoa),
-        (&[OTHER_SOA, SOA, SOA_BELOW, NS], Fault::SoaTwice),
-        (&[SOA, SOA_BELOW], Fault::SoaBelow),
-        (&[SOA, OUTSIDE], Fault::NoNs),
-        (&[SOA, NS, OUTSIDE, CNAME, A_BESIDE], Fault::OutOfZone),
-        (&[SOA, NS, CNAME, OTHER_CNAME, A_BESIDE], Fault::CnameBeside),
+    let rows: [(&[Row], ZoneFault); 8] = [
+        (&[SOA_BELOW, NS], ZoneFault::NoSoa),
+        (&[OTHER_SOA, SOA, SOA_BELOW, NS], ZoneFault::SoaTwice),
+        (&[SOA, SOA_BELOW], ZoneFault::SoaBelow),
+        (&[SOA, OUTSIDE], ZoneFault::NoNs),
+        (&[SOA, NS, OUTSIDE, CNAME, A_BESIDE], ZoneFault::OutOfZone),
+        (
+            &[SOA, NS, CNAME, OTHER_CNAME, A_BESIDE],
+            ZoneFault::CnameBeside,
+        ),
         (
             &[SOA, NS, CNAME, DNAME_ELSEWHERE, CNAME_ELSEWHERE],
-            Fault::CnameBeside,
+            ZoneFault::CnameBeside,
         ),
         (
             &[SOA, NS, DNAME, OTHER_DNAME, CNAME, OTHER_CNAME],
-            Fault::CnameTwice,
+            ZoneFault::CnameTwice,
         ),
     ];
     for (records, want) in rows {
@@ -272,12 +271,33 @@ fn rrsig_and_nsec_stand_beside_a_cname(rt: HostRuntime) -> Result<(), Fail> {
     Ok(())
 }
 
+fn is_send<T: Send>(_value: &T) {}
+
+fn is_sync<T: Sync>(_value: &T) {}
+
+#[test]
+fn threads_may_share_a_version(rt: HostRuntime) -> Result<(), Fail> {
+    let apex = make_name(&rt, APEX);
+    match check(
+        rt.alloc(),
+        &apex,
+        make_records(&rt, rt.alloc(), &[SOA, NS])?,
+    ) {
+        Ok(version) => {
+            is_send(&version);
+            is_sync(&version);
+        }
+        Err(error) => panic!(&rt; "{error:?}"),
+    }
+    Ok(())
+}
+
 #[test]
 fn the_soa_of_the_apex_is_shown(rt: HostRuntime) -> Result<(), Fail> {
     let apex = make_name(&rt, APEX);
     let at_apex: Row = (APEX, 1, 60, b"\xc0\x00\x02\x01");
     let records = make_records(&rt, rt.alloc(), &[GLUE, at_apex, SOA, NS])?;
-    match check(&apex, records) {
+    match check(rt.alloc(), &apex, records) {
         Ok(version) => {
             let soa = version.soa();
             assert_eq!(rt; version.apex_soa().rdata(), SOA.3);
@@ -296,20 +316,20 @@ fn a_zone_has_at_most_250_000_records(rt: HostRuntime) -> Result<(), Fail> {
     let apex = make_name(&rt, APEX);
     for (addresses, want) in [
         (249_998, None),
-        (249_999, Some(ZoneFault::Fault(Fault::TooMany))),
+        (249_999, Some(ZoneError::Fault(ZoneFault::TooMany))),
     ] {
         let mut records = make_records(&rt, rt.alloc(), &[SOA, NS])?;
         for number in 0..addresses {
             let [_, a, b, c] = u32::to_be_bytes(number);
             let mut rdata = Vec::with_capacity(rt.alloc(), 4)?;
             rdata.extend_from_slice(&[10, a, b, c])?;
-            match Rr::make(apex, 1, 60, Octets::from_vec(rdata)) {
+            match Rr::make(rt.alloc(), apex, 1, 60, Octets::from_vec(rdata)) {
                 Ok(made) => records.push(made)?,
                 Err(error) => panic!(&rt; "{error:?}"),
             }
         }
         assert_eq!(rt;
-            check(&apex, records).err(),
+            check(rt.alloc(), &apex, records).err(),
             want,
             "with {addresses} addresses"
         );

@@ -1,17 +1,20 @@
 //! Versions of zones.
 
-ghost use Rattle.std.specs.Prelude.{◌≡◌, Some, All, true};
-ghost use Rattle.dz_name.specs.Labels.{is_within};
+ghost use Rattle.std.specs.Prelude.{◌≡◌, Some, All, true, option_map};
+ghost use Rattle.dz_name.specs.Name.{is_within};
+ghost use Rattle.std.specs.List.{find};
 ghost use Rattle.std.specs.Option.{option_and_then};
-ghost use Rattle.dz_record.specs.Record.{soa_of};
-ghost use Rattle.dz_zone.specs.Held.{IsHeld, IsVersion};
-ghost use Rattle.dz_zone.specs.Valid.{IsValid, IsChecked, apex_soa};
+ghost use Rattle.dz_record.specs.Record.{soa_of, IsRecord};
+ghost use Rattle.dz_zone.specs.Version.{IsVersion, IsValid, IsChecked, apex_soa};
+ghost use Rattle.dz_zone.specs.Valid.{at_apex};
 
-use crate::fault::ZoneFault;
-use crate::judging::{fault_of, find_at_apex};
-use crate::sorting::tidy;
+use crate::fault::ZoneError;
+use crate::order::tidy;
+use crate::valid::{at_apex, fault_of};
 use dz_name::Name;
-use dz_record::{Rr, Soa};
+use dz_name::dns::TYPE_SOA;
+use dz_record::{Rr, Soa, look_at_all};
+use std::alloc::Global;
 use std::marker::Model;
 
 /// A version of a zone: the name of its apex, and its distinct records in canonical order, which have no fault.
@@ -22,8 +25,8 @@ pub struct Version {
 }
 
 impl Model for Version {
-    ghost use Rattle.dz_zone.specs.Held.{IsVersion};
-    ghost use Rattle.dz_zone.specs.Valid.{Zone};
+    ghost use Rattle.dz_zone.specs.Version.{IsVersion};
+    ghost use Rattle.dz_zone.specs.Version.{Zone};
 
     ghost Value = { Zone };
 
@@ -45,7 +48,7 @@ impl Version {
         ensures records { result.now ≡ self.now.records }
         ensures valid { IsValid self.now }
         ensures within { All (λ r. is_within r.owner self.now.apex ≡ true) self.now.records }
-        ensures held { All IsHeld self.now.records }
+        ensures held { All IsRecord self.now.records }
     {
         self.records.as_slice()
     }
@@ -54,7 +57,7 @@ impl Version {
     pub fn apex_soa(&self) -> &Rr
         ensures { Some result.now ≡ apex_soa self.now }
     {
-        match find_at_apex(6, &self.apex, self.records.as_slice()) {
+        match find_at_apex(TYPE_SOA, &self.apex, self.records.as_slice()) {
             Some(record) => record,
             None => unreachable!(),
         }
@@ -73,14 +76,14 @@ impl Version {
 
 /// The version of a zone that these records make, in any order: of those that are the same the first is kept. An error
 /// is the first fault that holds, or want of memory.
-pub fn check(apex: &Name, mut records: Vec<Rr>) -> Result<Version, ZoneFault>
+pub fn check(_alloc: Global, apex: &Name, mut records: Vec<Rr>) -> Result<Version, ZoneError>
     ensures { IsChecked apex.now records.items result }
 {
     tidy(&mut records)?;
     match fault_of(apex, records.as_slice()) {
-        Some(fault) => Err(ZoneFault::Fault(fault)),
+        Some(fault) => Err(ZoneError::Fault(fault)),
         None => {
-            look_at_all(records.as_slice());
+            prove!(are_records(records.as_slice()));
             Ok(Version {
                 apex: *apex,
                 records,
@@ -89,20 +92,18 @@ pub fn check(apex: &Name, mut records: Vec<Rr>) -> Result<Version, ZoneFault>
     }
 }
 
-/// Looks at each record, so that what is known of a record is known of all.
-fn look_at_all(records: &[Rr])
-    ensures { All IsHeld records.now }
+/// What is known of every record is known of all of these.
+fn are_records(records: &[Rr]) -> bool
+    ensures value { result ≡ true }
+    ensures held { All IsRecord records.now }
 {
-    'records: for rr in records {
-        look_at(rr);
-    }
+    look_at_all(records);
+    true
 }
 
-/// What is known of a record: its owner is a name, its type a number of 16 bits, its RDATA that of its type.
-fn look_at(rr: &Rr)
-    ensures { IsHeld rr.now }
+/// The first record of the apex and of the type, if there is one.
+fn find_at_apex<'a>(kind: u16, apex: &Name, records: &'a [Rr]) -> Option<&'a Rr>
+    ensures { option_map (λ r. r.now) result ≡ find (at_apex kind apex.now) records.now }
 {
-    rr.owner().wire();
-    rr.kind();
-    rr.rdata();
+    records.iter().find(|r| at_apex(kind, apex, r))
 }

@@ -1,5 +1,5 @@
 -- What the piece that was moved is to the line.
-use Rattle.std.proofs.Common.{arith}
+use Rattle.std.proofs.Common.{arith, ◌∙◌}
 use Rattle.dz_io.proofs.LineLemmas.{closes, goes_on}
 use Rattle.dz_io.proofs.lines.next_line.Goals as goal
 
@@ -10,5 +10,5 @@ returns-in-Ok-Closed-clause-takes g c =
 pub pieces-preserved : goal.pieces-preserved
 pieces-preserved g c = (
   goes_on _ _ _ _ _ _ _ _ _ c.pieces.invariant.0 c.in-Ok.ensures.ahead (rw c.in-Ok-Open.field-0-is at c.in-Ok-Open.ensures.ok) (omega arith),
-  omega (arith, c.in-Ok.ensures.cause.later),
+  c.in-Ok.ensures.cause.kept ∙ c.pieces.invariant.1,
 )

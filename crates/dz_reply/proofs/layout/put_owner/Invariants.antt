@@ -6,7 +6,7 @@ use Rattle.dz_reply.proofs.layout.put_owner.Given as goal
 abbrev pub invariant-labels : goal.invariant-labels
 invariant-labels l = record {
   within : l.number ≤ length l.owner;
-  octets : also l.writer (owner_octets l.question (drop l.number l.owner)) ≡ also l.initial.writer (owner_octets l.question l.owner);
+  octets : also l.writer.writing (owner_octets l.question (drop l.number l.owner)) ≡ also l.initial.writer.writing (owner_octets l.question l.owner);
 }
 
 abbrev pub decreases-labels : goal.decreases-labels

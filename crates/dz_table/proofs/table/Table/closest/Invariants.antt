@@ -1,6 +1,6 @@
 use Rattle.std.proofs.Common.{◌≡◌, drop}
-use Rattle.dz_name.specs.Labels.{upward}
-use Rattle.dz_table.specs.Slots.{first_held, closest}
+use Rattle.dz_name.specs.Name.{upward}
+use Rattle.dz_table.specs.Table.{first_held, closest}
 use Rattle.dz_table.proofs.table.Table.closest.Given as goal
 
 abbrev pub invariant-labels : goal.invariant-labels

@@ -1,0 +1,43 @@
+//! What stands between the owner of a record and its RDATA.
+
+ghost use Rattle.std.specs.Prelude.{◌≡◌, ◌≤◌, length};
+ghost use Rattle.dz_header.specs.RecordHead.{head_in, head_of};
+
+use dz_name::numbers::{number_of_four, number_of_two};
+
+/// How many octets stand between the owner of a record and its RDATA (RFC 1035 section 4.1.3).
+pub const HEAD_OCTETS: usize = 10;
+
+/// What stands behind the owner of a record (RFC 1035 section 4.1.3): type, class, TTL in seconds, and how many octets the
+/// RDATA behind it has.
+#[derive(Clone, Copy, Debug, PartialEq, Eq)]
+pub struct RecordHead {
+    pub kind: u16,
+    pub class: u16,
+    pub ttl: u32,
+    pub size: u16,
+}
+
+/// What the first ten octets say, which stand behind an owner; none where there are fewer.
+pub fn read_head(octets: &[u8]) -> Option<RecordHead>
+    ensures { result ≡ head_of octets.now }
+{
+    if octets.len() < HEAD_OCTETS {
+        None
+    } else {
+        Some(head_in(octets))
+    }
+}
+
+#[tactic(auto, unfolding(crate::specs::RecordHead::head_in))]
+fn head_in(octets: &[u8]) -> RecordHead
+    requires { HEAD_OCTETS ≤ length octets.now }
+    ensures { result ≡ head_in octets.now }
+{
+    RecordHead {
+        kind: number_of_two(octets),
+        class: number_of_two(&octets[2..]),
+        ttl: number_of_four(&octets[4..]),
+        size: number_of_two(&octets[8..]),
+    }
+}

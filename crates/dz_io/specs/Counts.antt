@@ -1,0 +1,18 @@
+-- Meaning: counts of faults. A count never falls, and at 2^64 - 1 it counts as risen by any number.
+use Rattle.std.specs.Prelude.{◌<◌, ◌≤◌, ◌⊎◌, ◌+◌, ◌-◌, ◌^◌, ℕ}
+
+-- the count rose, or stands where it can't rise
+abbrev pub HasRisen : ℕ → ℕ → Type 0
+HasRisen before now = (before < now) ⊎ (2 ^ 64 - 1 ≤ now)
+
+-- the count rose by so many, or stands where it can't rise
+abbrev pub HasRisenBy : ℕ → ℕ → ℕ → Type 0
+HasRisenBy n before now = (before + n ≤ now) ⊎ (2 ^ 64 - 1 ≤ now)
+
+-- by so many, and then by so many more: by both together
+abbrev pub RisesAddUp : Type 0
+RisesAddUp = (n more before middle now : ℕ) → HasRisenBy n before middle → HasRisenBy more middle now → HasRisenBy (n + more) before now
+
+-- what rose has risen still where the count later doesn't fall
+abbrev pub RisesLast : Type 0
+RisesLast = (before middle now : ℕ) → HasRisen before middle → middle ≤ now → HasRisen before now

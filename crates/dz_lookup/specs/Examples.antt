@@ -1,0 +1,123 @@
+-- Judge: what is found in the zone of RFC 4592 section 2.2.1 and in others, computed by the checker.
+use Rattle.std.specs.Prelude.{◌≡◌, refl, List, [], ◌∷◌, codes}
+use Rattle.dz_name.specs.Words.{Name, Kind, Octets}
+use Rattle.dz_name.specs.Name.{upward, wire_of}
+use Rattle.dz_name.specs.inner.Kept.{labels_in}
+use Rattle.dz_name.specs.declared.dns.TheConstants.{TYPE_A, TYPE_ANY, TYPE_CNAME, TYPE_MX, TYPE_NS, TYPE_SOA, TYPE_SRV, TYPE_TXT}
+use Rattle.dz_record.specs.Record.{Record}
+use Rattle.dz_record.specs.Records.{insertion, in_order}
+use Rattle.dz_lookup.specs.Found.{here, no_data, no_name, referral, found, topmost}
+use Rattle.dz_lookup.specs.Chain.{chain_of, chain_from, ended, stopped}
+
+-- a record whose RDATA is of no account
+abbrev record_of : Kind → Name → Record
+record_of kind owner = record { owner = owner; kind = kind; ttl = 3600; rdata = [] }
+
+-- a CNAME, whose RDATA is the wire form of its target
+abbrev cname : Name → Name → Record
+cname owner target = record { owner = owner; kind = TYPE_CNAME; ttl = 3600; rdata = wire_of target }
+
+-- example.
+abbrev example : Name
+example = codes "example" ∷ []
+
+abbrev below : Octets → Name
+below label = label ∷ example
+
+-- RFC 4592 section 2.2.1
+abbrev zone : List Record
+zone =
+    record_of TYPE_SOA example
+    ∷ record_of TYPE_NS example
+    ∷ record_of TYPE_TXT (below (codes "*"))
+    ∷ record_of TYPE_MX (below (codes "*"))
+    ∷ record_of TYPE_TXT (codes "sub" ∷ below (codes "*"))
+    ∷ record_of TYPE_A (below (codes "host1"))
+    ∷ record_of TYPE_SRV (codes "_ssh" ∷ codes "_tcp" ∷ below (codes "host1"))
+    ∷ record_of TYPE_SRV (codes "_ssh" ∷ codes "_tcp" ∷ below (codes "host2"))
+    ∷ record_of TYPE_NS (below (codes "subdel"))
+    ∷ []
+
+-- the responses that are synthesized from a wildcard
+pub host3_mx : found example zone (below (codes "host3")) TYPE_MX ≡ here (record_of TYPE_MX (below (codes "*")) ∷ [])
+unfolding found upward topmost in_order insertion
+host3_mx = refl
+
+pub host3_a : found example zone (below (codes "host3")) TYPE_A ≡ no_data
+unfolding found upward topmost in_order insertion
+host3_a = refl
+
+pub foo_bar_txt : found example zone (codes "foo" ∷ below (codes "bar")) TYPE_TXT ≡ here (record_of TYPE_TXT (below (codes "*")) ∷ [])
+unfolding found upward topmost in_order insertion
+foo_bar_txt = refl
+
+-- the responses that are not: host1 exists, sub.*.example exists, _tcp.host1 and host2 exist below which names own
+-- records, and subdel is a zone cut
+pub host1_mx : found example zone (below (codes "host1")) TYPE_MX ≡ no_data
+unfolding found upward topmost in_order insertion
+host1_mx = refl
+
+pub sub_wildcard_mx : found example zone (codes "sub" ∷ below (codes "*")) TYPE_MX ≡ no_data
+unfolding found upward topmost in_order insertion
+sub_wildcard_mx = refl
+
+pub telnet_srv : found example zone (codes "_telnet" ∷ codes "_tcp" ∷ below (codes "host1")) TYPE_SRV ≡ no_name
+unfolding found upward topmost in_order insertion
+telnet_srv = refl
+
+pub host_subdel_a : found example zone (codes "host" ∷ below (codes "subdel")) TYPE_A ≡ referral (record_of TYPE_NS (below (codes "subdel")) ∷ [])
+unfolding found upward topmost in_order insertion
+host_subdel_a = refl
+
+pub ghost_wildcard_mx : found example zone (codes "ghost" ∷ below (codes "*")) TYPE_MX ≡ no_name
+unfolding found upward topmost in_order insertion
+ghost_wildcard_mx = refl
+
+-- a name that exists only because names below it own records shadows the wildcard, and has no data, ANY included
+pub host2_any : found example zone (below (codes "host2")) TYPE_ANY ≡ no_data
+unfolding found upward topmost in_order insertion
+host2_any = refl
+
+-- ANY at a name gives its records by ascending type
+pub wildcard_any : found example zone (below (codes "host3")) TYPE_ANY ≡ here (record_of TYPE_MX (below (codes "*")) ∷ record_of TYPE_TXT (below (codes "*")) ∷ [])
+unfolding found upward topmost in_order insertion
+wildcard_any = refl
+
+-- of two cuts above a name the one nearest the apex counts, and what stands below it is no answer
+abbrev cuts : List Record
+cuts =
+    record_of TYPE_SOA example
+    ∷ record_of TYPE_NS (below (codes "a"))
+    ∷ record_of TYPE_NS (codes "b" ∷ below (codes "a"))
+    ∷ record_of TYPE_A (codes "ns" ∷ codes "b" ∷ below (codes "a"))
+    ∷ []
+
+pub nearest_cut : found example cuts (codes "ns" ∷ codes "b" ∷ below (codes "a")) TYPE_A ≡ referral (record_of TYPE_NS (below (codes "a")) ∷ [])
+unfolding found upward topmost in_order insertion
+nearest_cut = refl
+
+-- a wildcard's CNAME is noted with the asked name, and its target is looked up next
+abbrev aliases : List Record
+aliases =
+    record_of TYPE_SOA example
+    ∷ cname (codes "*" ∷ below (codes "w")) (below (codes "nope"))
+    ∷ cname (below (codes "a")) (below (codes "b"))
+    ∷ cname (below (codes "b")) (below (codes "a"))
+    ∷ cname (below (codes "out")) (codes "org" ∷ [])
+    ∷ []
+
+pub wildcard_alias : chain_of example aliases (codes "q" ∷ below (codes "w")) TYPE_A
+    ≡ record { aliases = (codes "q" ∷ below (codes "w"), cname (codes "*" ∷ below (codes "w")) (below (codes "nope"))) ∷ []; ending = ended no_name (below (codes "nope")) }
+unfolding chain_of chain_from found upward topmost in_order insertion wire_of labels_in
+wildcard_alias = refl
+
+-- a chain stops at a name that was looked up, and at one outside the zone
+pub circle : chain_of example aliases (below (codes "a")) TYPE_A
+    ≡ record { aliases = (below (codes "a"), cname (below (codes "a")) (below (codes "b"))) ∷ (below (codes "b"), cname (below (codes "b")) (below (codes "a"))) ∷ []; ending = stopped }
+unfolding chain_of chain_from found upward topmost in_order insertion wire_of labels_in
+circle = refl
+
+pub leads_out : chain_of example aliases (below (codes "out")) TYPE_A
+    ≡ record { aliases = (below (codes "out"), cname (below (codes "out")) (codes "org" ∷ [])) ∷ []; ending = stopped }
+unfolding chain_of chain_from found upward topmost in_order insertion wire_of labels_in
+leads_out = refl

@@ -1,0 +1,29 @@
+-- Inner: where records stand in a zone that is kept in order.
+use Rattle.std.specs.Prelude.{◌≡◌, ℕ, List, true, false}
+use Rattle.std.specs.Ordering.{nat_cmp, ordering_then, is_lt, is_le}
+use Rattle.std.specs.List.Sorted.{IsPartitionPoint}
+use Rattle.std.specs.declared.cmp.Ordering.{Ordering}
+use Rattle.dz_name.specs.Words.{Name, Kind}
+use Rattle.dz_name.specs.Name.{canonical_order, is_within}
+use Rattle.dz_record.specs.Record.{Record}
+
+-- where a record stands seen from an owner, and from an owner and a type
+abbrev pub from_owner : Name → Record → Ordering
+from_owner name r = canonical_order r.owner name
+
+abbrev pub from_key : Name → Kind → Record → Ordering
+from_key name kind r = ordering_then (canonical_order r.owner name) (nat_cmp r.kind kind)
+
+-- the records before a place come before what is looked for, and no other does
+abbrev pub IsBegin : (Record → Ordering) → List Record → ℕ → Type 0
+IsBegin seen zone i = IsPartitionPoint (λ r. is_lt (seen r) ≡ true) (λ r. is_lt (seen r) ≡ false) zone i
+
+-- the records before a place come before what is looked for or are it, and no other does
+abbrev pub IsEnd : (Record → Ordering) → List Record → ℕ → Type 0
+IsEnd seen zone i = IsPartitionPoint (λ r. is_le (seen r) ≡ true) (λ r. is_le (seen r) ≡ false) zone i
+
+-- a place where a name that is within another begins
+pub record IsPlaceWithin (above : Name) (zone : List Record) (i : ℕ) : Type 0 where
+  pub name : Name
+  pub within : is_within name above ≡ true
+  pub begin : IsBegin (from_owner name) zone i

@@ -1,0 +1,184 @@
+//! Chains of aliases.
+
+ghost use Rattle.std.specs.Prelude.{◌≡◌, ◌<◌, ◌≤◌, [], ◌∷◌, ◌++◌, length, true, slice_index_or};
+ghost use Rattle.std.specs.List.{list_any};
+ghost use Rattle.dz_name.specs.Name.{same_name, is_within};
+ghost use Rattle.dz_name.specs.Words.{Name};
+ghost use Rattle.dz_record.specs.Record.{Record, target_of};
+ghost use Rattle.dz_lookup.specs.Chain.{was_looked_up, next_name, chain_of, ending_of};
+
+use crate::found::{Found, find};
+use arrayvec::ArrayVec;
+use dz_name::Name;
+use dz_name::dns::ALIASES;
+use dz_record::Rr;
+use dz_zone::Version;
+use std::marker::Model;
+
+/// How a chain of aliases ends.
+#[derive(Clone, Copy, Debug)]
+pub enum Last<'a> {
+    /// With what is found for its last name.
+    Found(Found<'a>, Name),
+    /// A further name isn't looked up: it is outside the zone, it was looked up before, or 16 CNAME records were
+    /// followed.
+    Stopped,
+}
+
+/// A name that was looked up, and the CNAME record that was found for it. A blank link has none.
+#[derive(Clone, Copy)]
+struct Link<'a> {
+    name: Name,
+    alias: Option<&'a Rr>,
+}
+
+impl<'a> Default for Link<'a> {
+    fn default() -> Link<'a> {
+        Link {
+            name: Name::root(),
+            alias: None,
+        }
+    }
+}
+
+/// The CNAME records that lead on from a name, at most 16, each with the name that it was found for. Contracts see it
+/// as the list of these pairs.
+#[derive(Drop)]
+pub struct Chain<'a> {
+    links: ArrayVec<Link<'a>, ALIASES>,
+}
+
+impl<'a> Model for Chain<'a> {
+    ghost use Rattle.std.specs.Prelude.{◌≤◌, length};
+    ghost use Rattle.dz_name.specs.declared.dns.TheConstants.{ALIASES};
+    ghost use Rattle.dz_lookup.specs.Chain.{Aliases};
+    ghost use Rattle.dz_lookup.specs.inner.Links.{pairs_of, AreWhole};
+
+    ghost Value = { Aliases };
+
+    ghost view = { λ c. pairs_of c.links.items };
+
+    ghost invariant = { λ c. (length c.links.items ≤ ALIASES) × AreWhole c.links.items };
+}
+
+impl<'a> Chain<'a> {
+    /// A chain without CNAME records.
+    pub fn empty() -> Chain<'a>
+        ensures { result ≡ [] }
+    {
+        Chain {
+            links: ArrayVec::new(),
+        }
+    }
+
+    /// How many CNAME records it has, at most 16.
+    pub fn len(&self) -> usize
+        ensures value { result ≡ length self.now }
+        ensures few { result ≤ ALIASES }
+    {
+        self.links.len()
+    }
+
+    /// The name that a CNAME record was found for, 0 being the first; where the record is a wildcard's, it isn't the
+    /// record's owner.
+    pub fn name(&self, number: usize) -> &Name
+        requires { number < length self.now }
+        ensures { (d : Name × Record) → result.now ≡ (slice_index_or self.now number d).0 }
+    {
+        let links = self.links.as_slice();
+        &links[number].name
+    }
+
+    /// A CNAME record, 0 being the first.
+    pub fn record(&self, number: usize) -> &'a Rr
+        requires { number < length self.now }
+        ensures { (d : Name × Record) → result.now ≡ (slice_index_or self.now number d).1 }
+    {
+        let links = self.links.as_slice();
+        match links[number].alias {
+            Some(alias) => alias,
+            None => unreachable!(),
+        }
+    }
+
+    /// Takes all links away.
+    fn clear(&mut self)
+        ensures { self.new ≡ [] }
+    {
+        self.links.clear();
+    }
+
+    /// Puts a name and its CNAME record behind the others.
+    fn push(&mut self, name: &Name, alias: &'a Rr)
+        requires { length self.old < ALIASES }
+        ensures { self.new ≡ self.old ++ (name.now, alias.now) ∷ [] }
+    {
+        self.links.push(Link {
+            name: *name,
+            alias: Some(alias),
+        });
+    }
+
+    /// Whether a name was looked up.
+    fn contains(&self, name: &Name) -> bool
+        ensures { result ≡ was_looked_up self.now name.now }
+    {
+        some_has(self.links.as_slice(), name)
+    }
+}
+
+/// Whether a link has this name.
+fn some_has(links: &[Link], name: &Name) -> bool
+    ensures { result ≡ list_any (λ link. same_name link.name name.now) links.now }
+{
+    links.iter().any(|link| link.name.same(name))
+}
+
+/// Follows CNAME records from a name within the apex on, from name to name (RFC 1034 section 4.3.2): the chain becomes
+/// these records, and the answer is how it ends.
+pub fn chase<'a>(version: &'a Version, name: &Name, kind: u16, chain: &mut Chain<'a>) -> Last<'a>
+    requires within { is_within name.now version.now.apex ≡ true }
+    ensures aliases { chain.new ≡ (chain_of version.now.apex version.now.records name.now kind).aliases }
+    ensures ending { ending_of result ≡ (chain_of version.now.apex version.now.records name.now kind).ending }
+{
+    chain.clear();
+    follow(version, name, kind, chain)
+}
+
+/// Follows CNAME records from name to name, and puts them into a chain without any.
+fn follow<'a>(version: &'a Version, name: &Name, kind: u16, chain: &mut Chain<'a>) -> Last<'a>
+    requires within { is_within name.now version.now.apex ≡ true }
+    requires empty { chain.old ≡ [] }
+    ensures aliases { chain.new ≡ (chain_of version.now.apex version.now.records name.now kind).aliases }
+    ensures ending { ending_of result ≡ (chain_of version.now.apex version.now.records name.now kind).ending }
+{
+    let mut asked = *name;
+    'aliases: while chain.len() < ALIASES {
+        let found = find(version, &asked, kind);
+        let alias = match found.alias() {
+            None => return Last::Found(found, asked),
+            Some(alias) => alias,
+        };
+        chain.push(&asked, alias);
+        asked = match next_name(version.apex(), chain, alias) {
+            None => return Last::Stopped,
+            Some(target) => target,
+        };
+    }
+    Last::Stopped
+}
+
+/// The target of a CNAME, where it is within the apex and wasn't looked up before.
+fn next_name(apex: &Name, chain: &Chain, alias: &Rr) -> Option<Name>
+    ensures { result ≡ next_name apex.now chain.now (target_of alias.now) }
+{
+    let target = match alias.target() {
+        None => return None,
+        Some(target) => target,
+    };
+    if target.is_within(apex) && !chain.contains(&target) {
+        Some(target)
+    } else {
+        None
+    }
+}

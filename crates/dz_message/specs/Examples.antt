@@ -1,0 +1,53 @@
+-- Judge: messages, computed by the checker.
+use Rattle.std.specs.Prelude.{◌≡◌, refl, [], ◌∷◌, ◌++◌, codes, Ok, Err}
+use Rattle.dz_name.specs.Words.{Name, Octets}
+use Rattle.dz_name.specs.Name.{wire_of}
+use Rattle.dz_name.specs.Numbers.{two, four, number_of_two, number_of_four}
+use Rattle.dz_name.specs.Reading.{name_at, name_from, element_at}
+use Rattle.dz_header.specs.Header.{header_in, header_octets}
+use Rattle.dz_header.specs.Question.{question_at}
+use Rattle.dz_header.specs.RecordHead.{head_in}
+use Rattle.dz_header.specs.Shape.{behind_records}
+use Rattle.dz_record.specs.Fields.{fields_of}
+use Rattle.dz_message.specs.declared.fault.MessageFault.TheVariants.{Wire, ShortHeader, Trailing}
+use Rattle.dz_message.specs.Message.{Content}
+use Rattle.dz_message.specs.Reading.{octets_at, head_at, rdata_at, rdata_of, record_at, question_in, many, content_of, message_of}
+use Rattle.dz_message.specs.Writing.{question_octets, message_octets}
+
+abbrev example : Name
+example = codes "example" ∷ []
+
+-- ID 1, the question for a transfer of eXample., and an address of the same name by a pointer
+abbrev transfer : Octets
+transfer = 0 ∷ 1 ∷ 132 ∷ 0 ∷ 0 ∷ 1 ∷ 0 ∷ 1 ∷ 0 ∷ 0 ∷ 0 ∷ 0 ∷ 7 ∷ 101 ∷ 88 ∷ 97 ∷ 109 ∷ 112 ∷ 108 ∷ 101 ∷ 0 ∷ 0 ∷ 252 ∷ 0 ∷ 1 ∷ 192 ∷ 12 ∷ 0 ∷ 1 ∷ 0 ∷ 1 ∷ 0 ∷ 0 ∷ 14 ∷ 16 ∷ 0 ∷ 4 ∷ 192 ∷ 0 ∷ 2 ∷ 1 ∷ []
+
+abbrev content : Content
+content = record {
+  header = record { id = 1; flags = 0x8400; counts = 1 ∷ 1 ∷ 0 ∷ 0 ∷ [] };
+  questions = record { name = example; kind = 252; class = 1 } ∷ [];
+  answers = record { owner = example; kind = 1; ttl = 3600; rdata = 192 ∷ 0 ∷ 2 ∷ 1 ∷ [] } ∷ [];
+}
+
+-- names come in lower case and without pointers
+pub is_read : message_of transfer ≡ Ok content
+unfolding message_of content_of many question_in question_at record_at head_at head_in rdata_of rdata_at octets_at fields_of behind_records name_at name_from element_at header_in number_of_two number_of_four
+is_read = refl
+
+-- an octet more is a fault, and so are octets that are missing
+pub an_octet_more : message_of (transfer ++ 0 ∷ []) ≡ Err Trailing
+unfolding message_of content_of many question_in question_at record_at head_at head_in rdata_of rdata_at octets_at fields_of behind_records name_at name_from element_at header_in number_of_two number_of_four
+an_octet_more = refl
+
+pub eleven_octets : message_of (0 ∷ 1 ∷ 132 ∷ 0 ∷ 0 ∷ 1 ∷ 0 ∷ 1 ∷ 0 ∷ 0 ∷ 0 ∷ []) ≡ Err ShortHeader
+unfolding message_of
+eleven_octets = refl
+
+pub no_question_there : message_of (0 ∷ 1 ∷ 132 ∷ 0 ∷ 0 ∷ 1 ∷ 0 ∷ 0 ∷ 0 ∷ 0 ∷ 0 ∷ 0 ∷ []) ≡ Err Wire
+unfolding message_of content_of many question_in question_at name_at name_from element_at header_in number_of_two
+no_question_there = refl
+
+-- written without pointers
+pub is_written : message_octets content
+    ≡ 0 ∷ 1 ∷ 132 ∷ 0 ∷ 0 ∷ 1 ∷ 0 ∷ 1 ∷ 0 ∷ 0 ∷ 0 ∷ 0 ∷ 7 ∷ codes "example" ++ 0 ∷ 0 ∷ 252 ∷ 0 ∷ 1 ∷ 7 ∷ codes "example" ++ 0 ∷ 0 ∷ 1 ∷ 0 ∷ 1 ∷ 0 ∷ 0 ∷ 14 ∷ 16 ∷ 0 ∷ 4 ∷ 192 ∷ 0 ∷ 2 ∷ 1 ∷ []
+unfolding message_octets question_octets header_octets wire_of two four
+is_written = refl

@@ -1,0 +1,3 @@
+-- Inner: how the code keeps names and labels.
+pub mod Kept
+pub mod Starts

@@ -1,0 +1,2 @@
+-- Inner: how the code keeps records.
+pub mod Kept

@@ -1,0 +1,215 @@
+-- The octets of a chain's records, piece by piece.
+use Rattle.std.proofs.Common.{◌≡◌, ℕ, ◌+◌, ◌%◌, ◌/◌, ◌<◌, ◌≤◌, List, [], ◌∷◌, ◌++◌, length, drop, get_or, refl, sym, ◌∙◌, ap, arith, length-append, append_assoc, Some, None, Bool, false}
+use Rattle.std.specs.Prelude.{slice_get}
+use Rattle.std.proofs.lemmas.Grind.{flat_map-append}
+use Rattle.std.proofs.lemmas.List.{drop_more, drop_all, length-map, append-nil}
+use Rattle.dz_name.specs.Numbers.{two}
+use Rattle.dz_record.specs.Record.{Record}
+use Rattle.dz_zone.specs.Version.{Zone, apex_soa}
+use Rattle.dz_lookup.specs.Found.{Found}
+use Rattle.dz_lookup.specs.Runs.{of_type, records_of}
+use Rattle.dz_lookup.specs.Chain.{Aliases, ended, stopped, chain_of}
+use Rattle.dz_header.specs.Edns.{opt_count, opt_octets}
+use Rattle.dz_header.specs.Header.{header_octets}
+use Rattle.dz_request.specs.Frame.{Query, limit_of, head_octets, within_limit, bare_octets}
+use Rattle.dz_reply.specs.Layout.{entry_octets, entries_octets}
+use Rattle.dz_reply.specs.Layout.{entries, entry}
+use Rattle.dz_header.specs.Writing.{writing_of}
+use Rattle.dz_reply.specs.Answer.{Sections, bare, whole_octets, octets_of, negative_ttl, alias_entries, own_entries, soa_under, soa_entries, inner_target, addresses_of, glue_of, glue, only_aliases, at_end, of_ending, of_chain, sections_of}
+use Rattle.dz_header.specs.Writing.{Writing, also, empty}
+use Rattle.dz_header.proofs.WriterLemmas.{also_append, also_nil}
+
+pub all_append : (q : List (List ℕ)) (a b : List Record) → entries_octets q (a ++ b) ≡ entries_octets q a ++ entries_octets q b
+unfolding entries_octets
+all_append q a b = flat_map-append (entry_octets q) a b
+
+pub both_written : (q : List (List ℕ)) (a b : List Record) (w w1 w2 : Writing) → w1 ≡ also w (entries_octets q a) → w2 ≡ also w1 (entries_octets q b) → w2 ≡ also w (entries_octets q (a ++ b))
+both_written q a b w w1 w2 e f = f ∙ ap (λ x. also x (entries_octets q b)) e ∙ sym (also_append w (entries_octets q a) (entries_octets q b)) ∙ ap (λ x. also w x) (sym (all_append q a b))
+
+pub none_written : (q : List (List ℕ)) (w : Writing) → w ≡ also w (entries_octets q [])
+unfolding entries_octets
+none_written q w = sym (also_nil w)
+
+pub one_written : (q : List (List ℕ)) (r : Record) (w w1 : Writing) → w1 ≡ also w (entry_octets q r) → w1 ≡ also w (entries_octets q (r ∷ []))
+unfolding entries_octets
+one_written q r w w1 e = e ∙ ap (λ x. also w x) (sym (append-nil (entry_octets q r)))
+
+-- aliases
+pub alias_written : (q : List (List ℕ)) (chain : Aliases) (k : ℕ) (start w w1 : Writing) (name : List (List ℕ)) (r : Record) → k < length chain
+    → ((d : List (List ℕ) × Record) → name ≡ (get_or chain k d).0) → ((d : List (List ℕ) × Record) → r ≡ (get_or chain k d).1) → w1 ≡ also w (entry_octets q (entry name r.ttl r))
+    → also w (entries_octets q (alias_entries (drop k chain))) ≡ also start (entries_octets q (alias_entries chain)) → also w1 (entries_octets q (alias_entries (drop (k + 1) chain))) ≡ also start (entries_octets q (alias_entries chain))
+unfolding entries_octets alias_entries
+alias_written q chain k start w w1 name r lt names records is so_far =
+    let d : List (List ℕ) × Record = (name, r) in
+    let e : drop k chain ≡ (name, r) ∷ drop (k + 1) chain =
+    drop_more chain k d lt ∙ ap (λ a. a ∷ drop (k + 1) chain) (λ i. (sym (names d) i, sym (records d) i)) in
+    let more = entries_octets q (alias_entries (drop (k + 1) chain)) in
+    let f : also w (entry_octets q (entry name r.ttl r) ++ more) ≡ also start (entries_octets q (alias_entries chain)) = rw e at so_far in
+    ap (λ x. also x more) is ∙ sym (also_append w (entry_octets q (entry name r.ttl r)) more) ∙ f
+
+pub aliases_written : (q : List (List ℕ)) (chain : Aliases) (k : ℕ) (start w : Writing) → length chain ≤ k
+    → also w (entries_octets q (alias_entries (drop k chain))) ≡ also start (entries_octets q (alias_entries chain)) → w ≡ also start (entries_octets q (alias_entries chain))
+unfolding entries_octets alias_entries
+aliases_written q chain k start w le so_far = sym (also_nil w) ∙ (rw (drop_all k chain le) at so_far)
+
+pub length-alias_entries : (chain : Aliases) → length (alias_entries chain) ≡ length chain
+unfolding alias_entries
+length-alias_entries chain = length-map chain (λ a. entry a.0 a.1.ttl a.1)
+
+pub length-entries : (name : List (List ℕ)) (rs : List Record) → length (entries name rs) ≡ length rs
+unfolding entries
+length-entries name rs = length-map rs _
+
+-- the SOA
+pub soa_written : (q : List (List ℕ)) (zone : Zone) (soa : Record) (w w1 : Writing) → Some soa ≡ apex_soa zone → w1 ≡ also w (entry_octets q (entry zone.apex (negative_ttl soa) soa)) → w1 ≡ also w (entries_octets q (soa_entries zone))
+unfolding soa_entries
+soa_written q zone soa w w1 is e = one_written q (entry zone.apex (negative_ttl soa) soa) w w1 e ∙ ap (λ o. also w (entries_octets q (soa_under zone.apex o))) is
+
+pub length-soa_entries : (zone : Zone) (soa : Record) → Some soa ≡ apex_soa zone → length (soa_entries zone) ≡ 1
+unfolding soa_entries
+length-soa_entries zone soa is = ap (λ o. length (soa_under zone.apex o)) (sym is)
+
+-- an RRset under its owner
+pub own_some : (rs : List Record) (r : Record) → Some r ≡ slice_get rs 0 → entries r.owner rs ≡ own_entries rs
+unfolding own_entries
+own_some [] r e = absurd (cc)
+own_some (x ∷ xs) r e = let f : r ≡ x = cc in ap (λ y. entries y.owner (x ∷ xs)) f
+
+pub own_none : (rs : List Record) → None ≡ slice_get rs 0 → own_entries rs ≡ []
+unfolding own_entries
+own_none [] e = refl
+own_none (x ∷ xs) e = absurd (cc)
+
+pub length-own_entries : (rs : List Record) → length (own_entries rs) ≡ length rs
+unfolding own_entries
+length-own_entries [] = refl
+length-own_entries (r ∷ rs) = length-entries r.owner (r ∷ rs)
+
+-- glue
+pub no_addresses : (q : List (List ℕ)) (zone : Zone) (server : Record) (w : Writing) → None ≡ inner_target zone server → w ≡ also w (entries_octets q (glue_of zone server))
+unfolding glue_of addresses_of
+no_addresses q zone server w is = rw (← is) (none_written q w)
+
+pub addresses_written : (q : List (List ℕ)) (zone : Zone) (server : Record) (name : List (List ℕ)) (w w1 w2 : Writing) → Some name ≡ inner_target zone server
+    → w1 ≡ also w (entries_octets q (entries name (of_type 1 (records_of zone.records name)))) → w2 ≡ also w1 (entries_octets q (entries name (of_type 28 (records_of zone.records name))))
+    → w2 ≡ also w (entries_octets q (glue_of zone server))
+unfolding glue_of addresses_of
+addresses_written q zone server name w w1 w2 is e f = rw (← is) (both_written q _ _ w w1 w2 e f)
+
+pub glue_written : (q : List (List ℕ)) (zone : Zone) (servers : List Record) (k : ℕ) (start w w1 : Writing) (server : Record) → k < length servers → server ≡ get_or servers k server
+    → w1 ≡ also w (entries_octets q (glue_of zone server)) → also w (entries_octets q (glue zone (drop k servers))) ≡ also start (entries_octets q (glue zone servers))
+    → also w1 (entries_octets q (glue zone (drop (k + 1) servers))) ≡ also start (entries_octets q (glue zone servers))
+unfolding glue
+glue_written q zone servers k start w w1 server lt item is so_far =
+    let e : drop k servers ≡ server ∷ drop (k + 1) servers = drop_more servers k server lt ∙ ap (λ s. s ∷ drop (k + 1) servers) (sym item) in
+    let f : also w (entries_octets q (glue_of zone server ++ glue zone (drop (k + 1) servers))) ≡ also start (entries_octets q (glue zone servers)) = rw e at so_far in
+    both_written q (glue_of zone server) (glue zone (drop (k + 1) servers)) w w1 (also w1 (entries_octets q (glue zone (drop (k + 1) servers)))) is refl ∙ f
+
+pub glue_done : (q : List (List ℕ)) (zone : Zone) (servers : List Record) (k : ℕ) (start w : Writing) → length servers ≤ k
+    → also w (entries_octets q (glue zone (drop k servers))) ≡ also start (entries_octets q (glue zone servers)) → w ≡ also start (entries_octets q (glue zone servers))
+unfolding glue
+glue_done q zone servers k start w le so_far = none_written q w ∙ (rw (drop_all k servers le) at so_far)
+
+-- counts modulo 65,536
+pub glue_counted : (zone : Zone) (servers : List Record) (k count one : ℕ) (server : Record) → k < length servers → server ≡ get_or servers k server → one ≡ length (glue_of zone server) % 65536
+    → (count + length (glue zone (drop k servers))) % 65536 ≡ length (glue zone servers) % 65536
+    → ((count + one) % 65536 + length (glue zone (drop (k + 1) servers))) % 65536 ≡ length (glue zone servers) % 65536
+unfolding glue
+glue_counted zone servers k count one server lt item is so_far =
+    let e : drop k servers ≡ server ∷ drop (k + 1) servers = drop_more servers k server lt ∙ ap (λ s. s ∷ drop (k + 1) servers) (sym item) in
+    let f : (count + length (glue_of zone server ++ glue zone (drop (k + 1) servers))) % 65536 ≡ length (glue zone servers) % 65536 = rw e at so_far in
+    let g = length-append (glue_of zone server) (glue zone (drop (k + 1) servers)) in
+    omega (arith, f, g, is)
+
+pub glue_counted_all : (zone : Zone) (servers : List Record) (k count : ℕ) → length servers ≤ k → count < 65536
+    → (count + length (glue zone (drop k servers))) % 65536 ≡ length (glue zone servers) % 65536 → count ≡ length (glue zone servers) % 65536
+unfolding glue
+glue_counted_all zone servers k count le small so_far =
+    let f : (count + 0) % 65536 ≡ length (glue zone servers) % 65536 = rw (drop_all k servers le) at so_far in
+    omega (arith, f)
+
+pub no_address_count : (zone : Zone) (server : Record) → None ≡ inner_target zone server → 0 ≡ length (glue_of zone server) % 65536
+unfolding glue_of addresses_of
+no_address_count zone server is = rw (← is) refl
+
+pub address_counted : (zone : Zone) (server : Record) (name : List (List ℕ)) (four six : List Record) → Some name ≡ inner_target zone server
+    → four ≡ of_type 1 (records_of zone.records name) → six ≡ of_type 28 (records_of zone.records name)
+    → (length four % 65536 + length six % 65536) % 65536 ≡ length (glue_of zone server) % 65536
+unfolding glue_of addresses_of
+address_counted zone server name four six is e f =
+    let a = length-entries name (of_type 1 (records_of zone.records name)) in
+    let b = length-entries name (of_type 28 (records_of zone.records name)) in
+    let c = length-append (entries name (of_type 1 (records_of zone.records name))) (entries name (of_type 28 (records_of zone.records name))) in
+    rw (← is, e, f) (omega (arith, a, b, c))
+
+-- the header of many records
+two_low : (n o : ℕ) → two (n % 65536 + o) ≡ two (n + o)
+unfolding two
+two_low n o =
+    let high : (n % 65536 + o) / 256 % 256 ≡ (n + o) / 256 % 256 = omega arith in
+    let low : (n % 65536 + o) % 256 ≡ (n + o) % 256 = omega arith in
+    cc
+
+pub head_low : (query : Query) (code : ℕ) (aa tc : Bool) (a b n o : ℕ) → head_octets query code aa tc a b (n % 65536 + o) ≡ head_octets query code aa tc a b (n + o)
+unfolding head_octets header_octets
+head_low query code aa tc a b n o = rw (two_low n o) refl
+
+-- a reply without its OPT record
+abbrev pub front_octets : Query → Sections → List ℕ
+front_octets query s =
+    head_octets query s.code s.authoritative false (length s.answer) (length s.authority) (length s.additional + opt_count query.edns)
+    ++ (entries_octets query.name s.answer ++ (entries_octets query.name s.authority ++ entries_octets query.name s.additional))
+
+-- a reply that is laid out section by section
+pub laid : (tcp : Bool) (query : Query) (s : Sections) (a b c : ℕ) (w0 w1 w2 w3 : Writing) → a ≡ length s.answer → b ≡ length s.authority → c ≡ length s.additional
+    → w0 ≡ also (empty (limit_of tcp query.edns)) (head_octets query s.code s.authoritative false a b (c + opt_count query.edns))
+    → w1 ≡ also w0 (entries_octets query.name s.answer) → w2 ≡ also w1 (entries_octets query.name s.authority) → w3 ≡ also w2 (entries_octets query.name s.additional)
+    → w3 ≡ also (empty (limit_of tcp query.edns)) (front_octets query s)
+laid tcp query s a b c w0 w1 w2 w3 ea eb ec e0 e1 e2 e3 =
+    let f0 = rw (ea, eb, ec) at e0 in
+    let limit : ℕ = limit_of tcp query.edns in
+    let head : List ℕ = head_octets query s.code s.authoritative false (length s.answer) (length s.authority) (length s.additional + opt_count query.edns) in
+    let x : List ℕ = entries_octets query.name s.answer in
+    let y : List ℕ = entries_octets query.name s.authority in
+    let z : List ℕ = entries_octets query.name s.additional in
+    let steps : w3 ≡ also (also (also (also (empty limit) head) x) y) z =
+    e3 ∙ ap (λ w. also w z) (e2 ∙ ap (λ w. also w y) (e1 ∙ ap (λ w. also w x) f0)) in
+    let joins : also (empty limit) (head ++ (x ++ (y ++ z))) ≡ also (also (also (also (empty limit) head) x) y) z =
+    also_append (empty limit) head (x ++ (y ++ z)) ∙ also_append (also (empty limit) head) x (y ++ z) ∙ also_append (also (also (empty limit) head) x) y z in
+    steps ∙ sym joins
+
+whole_is : (query : Query) (s : Sections) → front_octets query s ++ opt_octets s.code query.edns ≡ whole_octets query s
+unfolding whole_octets
+whole_is query s =
+    let head : List ℕ = head_octets query s.code s.authoritative false (length s.answer) (length s.authority) (length s.additional + opt_count query.edns) in
+    let x : List ℕ = entries_octets query.name s.answer in
+    let y : List ℕ = entries_octets query.name s.authority in
+    let z : List ℕ = entries_octets query.name s.additional in
+    let opt : List ℕ = opt_octets s.code query.edns in
+    append_assoc head (x ++ (y ++ z)) opt ∙ ap (λ xs. head ++ xs) (append_assoc x (y ++ z) opt ∙ ap (λ xs. x ++ xs) (append_assoc y z opt))
+
+-- a reply that was ended says what was laid out
+pub ended_so : (tcp : Bool) (query : Query) (s : Sections) (w : Writing)
+    → w ≡ writing_of (limit_of tcp query.edns) (within_limit tcp query s.code s.authoritative (front_octets query s ++ opt_octets s.code query.edns))
+    → w ≡ writing_of (limit_of tcp query.edns) (octets_of tcp query s)
+unfolding octets_of
+ended_so tcp query s w is = is ∙ ap (λ octets. writing_of (limit_of tcp query.edns) (within_limit tcp query s.code s.authoritative octets)) (whole_is query s)
+
+-- a reply without records
+pub bare_so : (tcp : Bool) (query : Query) (code : ℕ) (w : Writing)
+    → w ≡ writing_of (limit_of tcp query.edns) (within_limit tcp query code false (bare_octets query code)) → w ≡ writing_of (limit_of tcp query.edns) (octets_of tcp query (bare code))
+unfolding octets_of whole_octets bare_octets entries_octets
+bare_so tcp query code w is =
+    let zero : 0 + opt_count query.edns ≡ opt_count query.edns = omega arith in
+    is ∙ ap (λ n. writing_of (limit_of tcp query.edns) (within_limit tcp query code false (head_octets query code false false 0 0 n ++ opt_octets code query.edns))) (sym zero)
+
+-- what a chain ends with decides the sections
+pub zone_stopped : (zone : Zone) (name : List (List ℕ)) (kind : ℕ) (chain : Aliases) → chain ≡ (chain_of zone.apex zone.records name kind).aliases → stopped ≡ (chain_of zone.apex zone.records name kind).ending
+    → only_aliases chain ≡ sections_of zone name kind
+unfolding sections_of of_chain of_ending
+zone_stopped zone name kind chain e f = ap (λ a. of_ending zone a stopped) e ∙ ap (λ x. of_ending zone (chain_of zone.apex zone.records name kind).aliases x) f
+
+pub zone_ended : (zone : Zone) (name : List (List ℕ)) (kind : ℕ) (chain : Aliases) (found : Found) (last : List (List ℕ)) → chain ≡ (chain_of zone.apex zone.records name kind).aliases
+    → ended found last ≡ (chain_of zone.apex zone.records name kind).ending → at_end zone chain found last ≡ sections_of zone name kind
+unfolding sections_of of_chain of_ending
+zone_ended zone name kind chain found last e f = ap (λ a. of_ending zone a (ended found last)) e ∙ ap (λ x. of_ending zone (chain_of zone.apex zone.records name kind).aliases x) f

@@ -1,9 +1,0 @@
-use Rattle.std.proofs.Common.{◌≡◌, ◌+◌, ◌%◌, ◌<◌, drop, length}
-use Rattle.dz_reply.specs.Sections.{glue}
-use Rattle.dz_reply.proofs.chained.glue_count.Given as goal
-
-abbrev pub invariant-servers : goal.invariant-servers
-invariant-servers l = record {
-  count : (l.count + length (glue l.version (drop l.server-index l.servers))) % 65536 ≡ length (glue l.version l.servers) % 65536;
-  small : l.count < 65536;
-}

@@ -1,6 +1,0 @@
-use Rattle.dz_header.specs.Code.{number_of}
-use Rattle.dz_reply.proofs.LayoutLemmas.{opt_none}
-use Rattle.dz_reply.proofs.layout.put_opt.Goals as goal
-
-pub returns-in-None : goal.returns-in-None
-returns-in-None c = rw c.in-None.is (opt_none (number_of c.args.code) c.args.writer.now)

@@ -1,0 +1,2 @@
+-- Inner: what the code keeps.
+pub mod AnswersHeld

@@ -1,0 +1,53 @@
+-- Meaning: slots of zones, and which one answers for a name (RFC 1034 section 4.3.2). A list of slots may stand in any
+-- order, unless it is said.
+use Rattle.std.specs.Prelude.{◌≤◌, Bool, List, [], ◌∷◌, ◌++◌, length, filter, Option, Some, None}
+use Rattle.std.specs.Option.{option_or}
+use Rattle.std.specs.List.{find, All, Contains}
+use Rattle.std.specs.List.Sorted.{IsStrictlySortedBy}
+use Rattle.std.specs.Ordering.{on, is_lt}
+use Rattle.std.specs.declared.cmp.Ordering.{Ordering}
+use Rattle.dz_name.specs.Words.{Name}
+use Rattle.dz_name.specs.Name.{canonical_order, same_name, upward, IsWithin}
+use Rattle.dz_table.specs.Slot.{SlotOf}
+
+-- the canonical order of zones (RFC 4034 section 6.1)
+abbrev pub slot_order : SlotOf → SlotOf → Ordering
+slot_order = on (λ slot. slot.zone) canonical_order
+
+abbrev pub comes_before : Name → Name → Bool
+comes_before a b = is_lt (canonical_order a b)
+
+-- slots in the order of their zones, no two of one zone
+abbrev pub IsTable : List SlotOf → Type 0
+IsTable slots = IsStrictlySortedBy slot_order slots
+
+-- the slots of the zones that come before the slot's, the slot, and the slots of the zones that come after it
+unfoldable pub put : List SlotOf → SlotOf → List SlotOf
+put slots slot =
+    filter (λ s. comes_before s.zone slot.zone) slots
+    ++ slot ∷ filter (λ s. comes_before slot.zone s.zone) slots
+
+-- the slot of a zone
+abbrev pub slot_of : Name → List SlotOf → Option SlotOf
+slot_of zone slots = find (λ slot. same_name slot.zone zone) slots
+
+-- the slot of the first of some names that has one
+unfoldable pub first_held : List SlotOf → List Name → Option SlotOf
+first_held slots [] = None
+first_held slots (name ∷ names) = option_or (slot_of name slots) (first_held slots names)
+
+-- the slot of the name itself, or else of the longest name above it that has one
+unfoldable pub closest : List SlotOf → Name → Option SlotOf
+closest slots name = first_held slots (upward name)
+
+-- the same in other words: a slot whose zone encloses the name, where no other such zone has more labels (RFC 1034
+-- section 4.3.2, step 2)
+pub record IsNearest (slots : List SlotOf) (name : Name) (slot : SlotOf) : Type 0 where
+  pub held : Contains slots slot
+  pub encloses : IsWithin name slot.zone
+  pub nearest : All (λ other. IsWithin name other.zone → length other.zone ≤ length slot.zone) slots
+
+-- the same of an answer; there is none where no zone encloses the name
+abbrev pub IsClosest : List SlotOf → Name → Option SlotOf → Type 0
+IsClosest slots name None = All (λ other. ¬ IsWithin name other.zone) slots
+IsClosest slots name (Some slot) = IsNearest slots name slot

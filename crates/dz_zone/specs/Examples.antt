@@ -1,0 +1,77 @@
+-- Judge: each fault, and zones without one, computed by the checker.
+use Rattle.std.specs.Prelude.{◌≡◌, refl, [], ◌∷◌, Some, None, codes}
+use Rattle.dz_name.specs.Words.{Name, Kind, Octets}
+use Rattle.dz_name.specs.declared.dns.TheConstants.{TYPE_A, TYPE_CNAME, TYPE_DNAME, TYPE_NS, TYPE_NSEC, TYPE_RRSIG, TYPE_SOA}
+use Rattle.dz_record.specs.Record.{Record}
+use Rattle.dz_record.specs.Records.{distinct, insertion, in_order}
+use Rattle.dz_zone.specs.Valid.{some_two, clash, both_are, fault_of}
+use Rattle.dz_zone.specs.Version.{zone_of}
+use Rattle.dz_zone.specs.declared.fault.ZoneFault.TheVariants.{NoSoa, SoaTwice, SoaBelow, NoNs, OutOfZone, CnameBeside, CnameTwice, DnameTwice}
+
+-- a record whose RDATA tells it from others alone
+abbrev record_of : Kind → Name → Octets → Record
+record_of kind owner rdata = record { owner = owner; kind = kind; ttl = 3600; rdata = rdata }
+
+-- zone. and names below it
+abbrev apex : Name
+apex = codes "zone" ∷ []
+
+abbrev below : Octets → Name
+below label = label ∷ apex
+
+abbrev soa : Record
+soa = record_of TYPE_SOA apex (7 ∷ [])
+
+abbrev ns : Record
+ns = record_of TYPE_NS apex []
+
+abbrev of_c : Kind → Octets → Record
+of_c kind rdata = record_of kind (below (codes "c")) rdata
+
+pub no_records : fault_of apex [] ≡ Some NoSoa
+unfolding fault_of some_two clash both_are
+no_records = refl
+
+-- an SOA below the apex is none of the apex, and the lack of one counts first
+pub soa_elsewhere : fault_of apex (record_of TYPE_SOA (below (codes "b")) [] ∷ ns ∷ []) ≡ Some NoSoa
+unfolding fault_of some_two clash both_are
+soa_elsewhere = refl
+
+pub two_soa : fault_of apex (soa ∷ ns ∷ record_of TYPE_SOA apex (8 ∷ []) ∷ []) ≡ Some SoaTwice
+unfolding fault_of some_two clash both_are
+two_soa = refl
+
+pub soa_beside : fault_of apex (soa ∷ ns ∷ record_of TYPE_SOA (below (codes "b")) [] ∷ []) ≡ Some SoaBelow
+unfolding fault_of some_two clash both_are
+soa_beside = refl
+
+pub ns_elsewhere : fault_of apex (soa ∷ record_of TYPE_NS (below (codes "b")) [] ∷ []) ≡ Some NoNs
+unfolding fault_of some_two clash both_are
+ns_elsewhere = refl
+
+pub outside : fault_of apex (soa ∷ ns ∷ record_of TYPE_A (codes "other" ∷ []) [] ∷ []) ≡ Some OutOfZone
+unfolding fault_of some_two clash both_are
+outside = refl
+
+-- the records need no order
+pub cname_and_a : fault_of apex (of_c TYPE_A [] ∷ soa ∷ ns ∷ of_c TYPE_CNAME [] ∷ []) ≡ Some CnameBeside
+unfolding fault_of some_two clash both_are
+cname_and_a = refl
+
+pub two_cname : fault_of apex (of_c TYPE_CNAME [] ∷ soa ∷ ns ∷ of_c TYPE_CNAME (1 ∷ []) ∷ []) ≡ Some CnameTwice
+unfolding fault_of some_two clash both_are
+two_cname = refl
+
+pub two_dname : fault_of apex (of_c TYPE_DNAME [] ∷ soa ∷ ns ∷ of_c TYPE_DNAME (1 ∷ []) ∷ []) ≡ Some DnameTwice
+unfolding fault_of some_two clash both_are
+two_dname = refl
+
+-- RRSIG and NSEC stand beside a CNAME, and a record below its owner does too
+pub cname_signed : fault_of apex (soa ∷ ns ∷ of_c TYPE_RRSIG [] ∷ of_c TYPE_CNAME [] ∷ of_c TYPE_NSEC [] ∷ record_of TYPE_A (codes "a" ∷ below (codes "c")) [] ∷ []) ≡ None
+unfolding fault_of some_two clash both_are
+cname_signed = refl
+
+-- the zone of some records: in order, the first of two that are the same kept
+pub ordered : (zone_of apex (of_c TYPE_A [] ∷ soa ∷ of_c TYPE_A [] ∷ ns ∷ [])).records ≡ ns ∷ soa ∷ of_c TYPE_A [] ∷ []
+unfolding distinct insertion in_order
+ordered = refl

@@ -1,0 +1,42 @@
+-- Meaning: versions of zones, and which records make one (RFC 1034 section 3.6.2, RFC 2181 section 5, RFC 4034
+-- section 6).
+use Rattle.std.specs.Prelude.{◌≡◌, List, Option, Some, None, Result, Ok, Err, ⊤}
+use Rattle.std.specs.List.{All, find}
+use Rattle.std.specs.List.Sorted.{IsStrictlySortedBy}
+use Rattle.dz_name.specs.Words.{Name}
+use Rattle.dz_name.specs.declared.dns.TheConstants.{TYPE_SOA}
+use Rattle.dz_record.specs.Record.{Record, IsRecord, record_order}
+use Rattle.dz_record.specs.Records.{distinct, in_order}
+use Rattle.dz_zone.specs.Valid.{at_apex, fault_of}
+use Rattle.dz_zone.specs.declared.fault.ZoneError.{ZoneError}
+use Rattle.dz_zone.specs.declared.fault.ZoneError.TheVariants.{Fault, OutOfMemory}
+
+-- a zone: the name of its apex, and its records
+pub record Zone : Type 0 where
+  pub apex : Name
+  pub records : List Record
+
+-- records in canonical order, no two the same, without a fault
+pub record IsValid (zone : Zone) : Type 0 where
+  pub rises : IsStrictlySortedBy record_order zone.records
+  pub faultless : fault_of zone.apex zone.records ≡ None
+
+-- a version: a valid zone of records that a zone may hold
+pub record IsVersion (zone : Zone) : Type 0 where
+  pub valid : IsValid zone
+  pub held : All IsRecord zone.records
+
+-- the zone that these records make, in whatever order they come: of those that are the same the first is kept
+abbrev pub zone_of : Name → List Record → Zone
+zone_of apex records = record { apex = apex; records = in_order (distinct records) }
+
+-- what `check` answers: that zone, or the first fault of its records; want of memory says nothing
+abbrev pub IsChecked : Name → List Record → Result Zone ZoneError → Type 0
+IsChecked apex records (Ok zone) =
+    (fault_of apex (distinct records) ≡ None) × (zone ≡ zone_of apex records)
+IsChecked apex records (Err (Fault fault)) = fault_of apex (distinct records) ≡ Some fault
+IsChecked apex records (Err OutOfMemory) = ⊤
+
+-- the SOA record of the apex
+abbrev pub apex_soa : Zone → Option Record
+apex_soa zone = find (at_apex TYPE_SOA zone.apex) zone.records

@@ -1,0 +1,35 @@
+//! Distinct records in canonical order.
+
+ghost use Rattle.std.specs.Prelude.{◌≡◌, ◌↔◌, IsTrue, MatchResult, OnOk};
+ghost use Rattle.std.specs.List.Sorted.{IsStrictlySortedBy};
+ghost use Rattle.dz_record.specs.Record.{record_order};
+ghost use Rattle.dz_record.specs.Records.{distinct, in_order};
+
+use dz_record::Rr;
+use std::alloc::AllocError;
+use std::cmp::Ordering;
+
+/// Whether each record comes before the next.
+fn rises(records: &[Rr]) -> bool
+    ensures { IsTrue result ↔ IsStrictlySortedBy record_order records.now }
+{
+    records.is_sorted_by(|a, b| a.record_cmp(b) == Ordering::Less)
+}
+
+/// Puts the records in canonical order, and keeps of those that are the same the first. Records that rise already
+/// stay as they are, at the cost of one pass. Where memory is wanting, the records stay as they were.
+pub(crate) fn tidy(records: &mut Vec<Rr>) -> Result<(), AllocError>
+    ensures rises { OnOk result (IsStrictlySortedBy record_order records.new.items) }
+    ensures value { MatchResult result (λ _. records.new.items ≡ in_order (distinct records.old.items)) (λ _. records.new.items ≡ records.old.items) }
+{
+    if rises(records) {
+        return Ok(());
+    }
+    match records.sort_by(|a, b| a.record_cmp(b)) {
+        Ok(()) => {
+            records.dedup_by(|later, kept| later.same(kept));
+            Ok(())
+        }
+        Err(_) => Err(AllocError),
+    }
+}

@@ -1,0 +1,173 @@
+//! The faults of records in canonical order, each in one pass.
+
+ghost use Rattle.std.specs.Prelude.{◌≡◌, ◌∷◌, ◌&&◌, ◌||◌, ◌==◌, not, filter};
+ghost use Rattle.std.specs.List.{list_any};
+ghost use Rattle.std.specs.List.Sorted.{IsStrictlySortedBy};
+ghost use Rattle.dz_record.specs.Record.{record_order};
+ghost use Rattle.dz_zone.specs.inner.Neighbours.{neighbours_from};
+ghost use Rattle.dz_zone.specs.Valid.{at_apex, no_soa, soa_twice, soa_below, no_ns, out_of_zone, is_beside_any, is_cname_and_other, clash, cname_beside, both_are, owned_twice, too_many, fault_of};
+
+use crate::fault::ZoneFault;
+use dz_name::Name;
+use dz_name::dns::{
+    TYPE_CNAME, TYPE_DNAME, TYPE_NS, TYPE_NSEC, TYPE_RRSIG, TYPE_SOA, ZONE_RECORDS,
+};
+use dz_record::Rr;
+
+/// The first fault that holds.
+#[tactic(auto, unfolding(crate::specs::Valid::fault_of))]
+pub(crate) fn fault_of(apex: &Name, records: &[Rr]) -> Option<ZoneFault>
+    requires { IsStrictlySortedBy record_order records.now }
+    ensures { result ≡ fault_of apex.now records.now }
+{
+    if no_soa(apex, records) {
+        Some(ZoneFault::NoSoa)
+    } else if soa_twice(apex, records) {
+        Some(ZoneFault::SoaTwice)
+    } else if soa_below(apex, records) {
+        Some(ZoneFault::SoaBelow)
+    } else if no_ns(apex, records) {
+        Some(ZoneFault::NoNs)
+    } else if out_of_zone(apex, records) {
+        Some(ZoneFault::OutOfZone)
+    } else if cname_beside(records) {
+        Some(ZoneFault::CnameBeside)
+    } else if owned_twice(TYPE_CNAME, records) {
+        Some(ZoneFault::CnameTwice)
+    } else if owned_twice(TYPE_DNAME, records) {
+        Some(ZoneFault::DnameTwice)
+    } else if too_many(records) {
+        Some(ZoneFault::TooMany)
+    } else {
+        None
+    }
+}
+
+/// Whether it is a record of the apex and of the type.
+pub(crate) fn at_apex(kind: u16, apex: &Name, found: &Rr) -> bool
+    ensures { result ≡ at_apex kind apex.now found.now }
+{
+    found.kind() == kind && found.is_owned_by(apex)
+}
+
+/// Whether the apex owns a record of the type.
+fn apex_has(kind: u16, apex: &Name, records: &[Rr]) -> bool
+    ensures { result ≡ list_any (at_apex kind apex.now) records.now }
+{
+    records.iter().any(|r| at_apex(kind, apex, r))
+}
+
+/// Whether the apex owns no SOA.
+fn no_soa(apex: &Name, records: &[Rr]) -> bool
+    ensures { result ≡ no_soa apex.now records.now }
+{
+    !apex_has(TYPE_SOA, apex, records)
+}
+
+/// Whether the apex owns more than one SOA.
+fn soa_twice(apex: &Name, records: &[Rr]) -> bool
+    ensures { result ≡ soa_twice apex.now records.now }
+{
+    1 < records
+        .iter()
+        .filter(|r| at_apex(TYPE_SOA, apex, r))
+        .count()
+}
+
+/// Whether another owner than the apex has an SOA.
+fn soa_below(apex: &Name, records: &[Rr]) -> bool
+    ensures { result ≡ soa_below apex.now records.now }
+{
+    records
+        .iter()
+        .any(|r| r.kind() == TYPE_SOA && !r.is_owned_by(apex))
+}
+
+/// Whether the apex owns no NS.
+fn no_ns(apex: &Name, records: &[Rr]) -> bool
+    ensures { result ≡ no_ns apex.now records.now }
+{
+    !apex_has(TYPE_NS, apex, records)
+}
+
+/// Whether an owner isn't the apex and isn't below it.
+fn out_of_zone(apex: &Name, records: &[Rr]) -> bool
+    ensures { result ≡ out_of_zone apex.now records.now }
+{
+    records.iter().any(|r| !r.is_within(apex))
+}
+
+/// Whether records of the type may stand beside a CNAME: RRSIG and NSEC.
+fn is_beside_any(kind: u16) -> bool
+    ensures { result ≡ is_beside_any kind }
+{
+    matches!(kind, TYPE_RRSIG | TYPE_NSEC)
+}
+
+/// Whether the first is a CNAME, and the other of a type that may not stand beside one.
+fn is_cname_and_other(first: &Rr, other: &Rr) -> bool
+    ensures { result ≡ is_cname_and_other first.now other.now }
+{
+    first.kind() == TYPE_CNAME && !(other.kind() == TYPE_CNAME || is_beside_any(other.kind()))
+}
+
+/// Whether two records have one owner, and one is a CNAME and the other of a type that may not stand beside it. Types
+/// are told sooner than owners, so they are compared first.
+#[tactic(auto, unfolding(crate::specs::Valid::clash))]
+fn clash(a: &Rr, b: &Rr) -> bool
+    ensures { result ≡ clash a.now b.now }
+{
+    (is_cname_and_other(a, b) || is_cname_and_other(b, a)) && a.owner_ref().same(&b.owner_ref())
+}
+
+/// Whether two records have one owner and are of this type; the types are compared first.
+#[tactic(auto, unfolding(crate::specs::Valid::both_are))]
+fn both_are(kind: u16, a: &Rr, b: &Rr) -> bool
+    ensures { result ≡ both_are kind a.now b.now }
+{
+    a.kind() == kind && b.kind() == kind && a.owner_ref().same(&b.owner_ref())
+}
+
+/// Whether an owner of a CNAME has a type that may not stand beside it. Where the records ascend, the records of an
+/// owner that aren't RRSIG or NSEC are neighbours once those are left out.
+fn cname_beside(records: &[Rr]) -> bool
+    requires { IsStrictlySortedBy record_order records.now }
+    ensures { result ≡ cname_beside records.now }
+{
+    match records {
+        [] => false,
+        [first, rest @ ..] => clash_from(first, rest),
+    }
+}
+
+/// Whether two neighbours clash, RRSIG and NSEC left out behind the first.
+fn clash_from(first: &Rr, rest: &[Rr]) -> bool
+    ensures { result ≡ neighbours_from clash first.now (filter (λ r. not (is_beside_any r.kind)) rest.now) }
+{
+    let mut last = first;
+    'records: for record in rest {
+        if is_beside_any(record.kind()) {
+            continue;
+        }
+        if clash(last, record) {
+            return true;
+        }
+        last = record;
+    }
+    false
+}
+
+/// Whether an owner has two records of the type. Where the records ascend, these are neighbours.
+fn owned_twice(kind: u16, records: &[Rr]) -> bool
+    requires { IsStrictlySortedBy record_order records.now }
+    ensures { result ≡ owned_twice kind records.now }
+{
+    !records.is_sorted_by(|a, b| !both_are(kind, a, b))
+}
+
+/// Whether there are more records than a zone may have.
+fn too_many(records: &[Rr]) -> bool
+    ensures { result ≡ too_many records.now }
+{
+    ZONE_RECORDS < records.len()
+}
