@@ -1,8 +1,7 @@
 -- Judge: what is found in the zone of RFC 4592 section 2.2.1 and in others, computed by the checker.
 use Rattle.std.specs.Prelude.{◌≡◌, refl, List, [], ◌∷◌, codes}
 use Rattle.dz_name.specs.Words.{Name, Kind, Octets}
-use Rattle.dz_name.specs.Name.{upward, wire_of}
-use Rattle.dz_name.specs.inner.Kept.{labels_in}
+use Rattle.dz_name.specs.Name.{upward, wire_of, labels_in}
 use Rattle.dz_name.specs.declared.dns.TheConstants.{TYPE_A, TYPE_ANY, TYPE_CNAME, TYPE_MX, TYPE_NS, TYPE_SOA, TYPE_SRV, TYPE_TXT}
 use Rattle.dz_record.specs.Record.{Record}
 use Rattle.dz_record.specs.Records.{insertion, in_order}

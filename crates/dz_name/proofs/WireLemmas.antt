@@ -1,8 +1,7 @@
 -- Octets that are the wire form of a name.
 use Rattle.std.proofs.Common.{◌≡◌, ℕ, List, [], ◌++◌, length, refl, sym, ◌∙◌, ap}
 use Rattle.std.proofs.lemmas.List.{append-nil}
-use Rattle.dz_name.specs.Name.{wire_of, IsName}
-use Rattle.dz_name.specs.inner.Kept.{labels_in, labels_of, IsWire}
+use Rattle.dz_name.specs.Name.{wire_of, IsName, labels_in, labels_of, IsWire}
 use Rattle.dz_name.proofs.KeptLemmas.{labels_in-wire_of, labels_le}
 
 -- the labels stand at the front of their wire form and what follows it

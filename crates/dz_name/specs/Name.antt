@@ -1,5 +1,5 @@
 -- Meaning: domain names as lists of labels (RFC 1034 section 3.1, RFC 1035 section 3.1).
-use Rattle.std.specs.Prelude.{◌≡◌, ◌+◌, ◌<◌, ◌≤◌, nat_lt, Bool, Option, Some, None, List, [], ◌∷◌, ◌++◌, length, reverse, map, Result, Ok, Err, if◌then◌else◌}
+use Rattle.std.specs.Prelude.{◌≡◌, ℕ, zero, suc, ◌+◌, ◌<◌, ◌≤◌, nat_lt, Bool, Option, Some, None, List, [], ◌∷◌, ◌++◌, length, take, drop, reverse, map, Result, Ok, Err, if◌then◌else◌}
 use Rattle.std.specs.Char.{to_ascii_lowercase}
 use Rattle.std.specs.Cmp.Lexicographic.{slice_cmp}
 use Rattle.std.specs.Ordering.{nat_cmp}
@@ -26,10 +26,27 @@ unfoldable pub wire_of : Name → Octets
 wire_of [] = 0 ∷ []
 wire_of (label ∷ labels) = length label ∷ (label ++ wire_of labels)
 
+-- the labels whose wire form stands at the front of some octets (RFC 1035 section 3.1); the number only bounds how many
+-- are read
+unfoldable pub labels_in : ℕ → Octets → Name
+labels_in zero octets = []
+labels_in (suc n) [] = []
+labels_in (suc n) (zero ∷ octets) = []
+labels_in (suc n) (suc k ∷ octets) = take (suc k) octets ∷ labels_in n (drop (suc k) octets)
+
 -- a name is a list of labels whose wire form has at most 255 octets
 pub record IsName (labels : Name) : Type 0 where
   pub each : AllByRecursion IsLabel labels
   pub short : length (wire_of labels) ≤ 255
+
+-- the labels of a wire form
+abbrev pub labels_of : Octets → Name
+labels_of wire = labels_in (length wire) wire
+
+-- octets that are the wire form of a name
+pub record IsWire (wire : Octets) : Type 0 where
+  pub name : IsName (labels_of wire)
+  pub wire_is : wire ≡ wire_of (labels_of wire)
 
 -- a name is within another where that one is a suffix of it
 abbrev pub IsWithin : Name → Name → Type 0

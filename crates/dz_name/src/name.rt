@@ -1,7 +1,6 @@
 ghost use Rattle.std.specs.Prelude.{◌≡◌, ℕ, ◌+◌, ◌-◌, ◌<◌, ◌≤◌, ◌↔◌, List, [], ◌∷◌, ◌++◌, length, take, drop, IsTrue};
-ghost use Rattle.dz_name.specs.Name.{lower, wire_of, wildcard_of, IsLabel, IsName};
+ghost use Rattle.dz_name.specs.Name.{lower, wire_of, wildcard_of, IsLabel, IsName, labels_of, IsWire};
 ghost use Rattle.dz_name.specs.Name.{child_of};
-ghost use Rattle.dz_name.specs.inner.Kept.{labels_of, IsWire};
 
 use crate::label::Label;
 use crate::name_ref::NameRef;
@@ -20,8 +19,8 @@ pub struct Name {
 impl Model for Name {
     ghost use Rattle.std.specs.Prelude.{length};
     ghost use Rattle.dz_name.specs.Words.{Name};
-    ghost use Rattle.dz_name.specs.Name.{wire_of};
-    ghost use Rattle.dz_name.specs.inner.Kept.{labels_in, padded, IsKept};
+    ghost use Rattle.dz_name.specs.Name.{wire_of, labels_in};
+    ghost use Rattle.dz_name.specs.inner.Kept.{padded, IsKept};
 
     ghost Value = { Name };
 

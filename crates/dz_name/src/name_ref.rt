@@ -1,9 +1,8 @@
 //! Names whose wire form lies elsewhere.
 
 ghost use Rattle.std.specs.Prelude.{◌≡◌, ℕ, ◌+◌, ◌-◌, ◌<◌, ◌≤◌, ◌↔◌, List, [], ◌∷◌, ◌++◌, length, take, drop, IsTrue, IfSome, slice_index, slice_index_or};
-ghost use Rattle.dz_name.specs.Name.{wire_of, IsLabel, IsName, IsWithin, same_name, is_within, canonical_order};
+ghost use Rattle.dz_name.specs.Name.{wire_of, IsLabel, IsName, IsWithin, same_name, is_within, canonical_order, labels_of, IsWire};
 ghost use Rattle.dz_name.specs.inner.Starts.{AreStarts};
-ghost use Rattle.dz_name.specs.inner.Kept.{labels_of, IsWire};
 ghost use Rattle.dz_name.specs.Words.{Name, Octets};
 
 use crate::name::Name;
@@ -21,7 +20,7 @@ pub struct NameRef<'a> {
 
 impl<'a> Model for NameRef<'a> {
     ghost use Rattle.dz_name.specs.Words.{Name};
-    ghost use Rattle.dz_name.specs.inner.Kept.{labels_of, IsWire};
+    ghost use Rattle.dz_name.specs.Name.{labels_of, IsWire};
 
     ghost Value = { Name };
 

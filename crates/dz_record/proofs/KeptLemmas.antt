@@ -4,8 +4,7 @@ use Rattle.std.specs.Prelude.{nat_le, ◌&&◌}
 use Rattle.std.proofs.lemmas.Bool.Decides.{nat_tests, leb_tells}
 use Rattle.std.proofs.lemmas.List.{take_at, drop_at}
 use Rattle.std.proofs.Math.Seq.{drop-append-add}
-use Rattle.dz_name.specs.Name.{wire_of, IsName}
-use Rattle.dz_name.specs.inner.Kept.{labels_in}
+use Rattle.dz_name.specs.Name.{wire_of, IsName, labels_in}
 use Rattle.dz_name.specs.Numbers.{two, four, number_of_four}
 use Rattle.dz_name.proofs.NumberLemmas.{number-four}
 use Rattle.dz_name.proofs.WireLemmas.{labels_front}

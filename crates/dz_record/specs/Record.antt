@@ -4,8 +4,7 @@ use Rattle.std.specs.Str.{bytes_eq}
 use Rattle.std.specs.Ordering.{nat_cmp, on, then_cmp}
 use Rattle.std.specs.Cmp.Lexicographic.{slice_cmp}
 use Rattle.std.specs.declared.cmp.Ordering.{Ordering}
-use Rattle.dz_name.specs.Name.{same_name, canonical_order, wire_of, IsName}
-use Rattle.dz_name.specs.inner.Kept.{labels_in}
+use Rattle.dz_name.specs.Name.{same_name, canonical_order, wire_of, labels_of, IsName}
 use Rattle.dz_name.specs.Numbers.{two, four, number_of_four}
 use Rattle.dz_record.specs.Fields.{is_rdata}
 use Rattle.dz_record.specs.declared.rr.Soa.{Soa}
@@ -91,4 +90,4 @@ abbrev pub has_target : Kind → Bool
 has_target kind = kind == TYPE_NS || (kind == TYPE_CNAME || (kind == TYPE_PTR || kind == TYPE_DNAME))
 
 abbrev pub target_of : Record → Option Name
-target_of r = if has_target r.kind then Some (labels_in (length r.rdata) r.rdata) else None
+target_of r = if has_target r.kind then Some (labels_of r.rdata) else None

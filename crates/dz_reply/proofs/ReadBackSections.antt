@@ -4,8 +4,7 @@ use Rattle.std.specs.Prelude.{map, filter, find, fold, not, ◌==◌, ◌&&◌}
 use Rattle.std.specs.List.{AllByRecursion, All, flat_map}
 use Rattle.std.specs.Ordering.{is_gt}
 use Rattle.std.proofs.lemmas.Bool.{cases_Bool}
-use Rattle.dz_name.specs.Name.{IsName, same_name, is_within}
-use Rattle.dz_name.specs.inner.Kept.{labels_in}
+use Rattle.dz_name.specs.Name.{IsName, same_name, is_within, labels_in}
 use Rattle.dz_name.specs.Order.{same_decides}
 use Rattle.dz_name.proofs.ReadingLemmas.{name_at_name}
 use Rattle.dz_record.specs.Record.{Record, has_target, target_of, record_order, IsRecord}

@@ -1,8 +1,7 @@
 -- Judge: whole exchanges, the octets of requests and of their replies from one zone, computed by the checker.
 use Rattle.std.specs.Prelude.{◌≡◌, List, [], ◌∷◌, ◌++◌, Some, true, false, refl, codes}
 use Rattle.dz_name.specs.Words.{Name, Octets}
-use Rattle.dz_name.specs.inner.Kept.{labels_in}
-use Rattle.dz_name.specs.Name.{wire_of, upward}
+use Rattle.dz_name.specs.Name.{wire_of, upward, labels_in}
 use Rattle.dz_name.specs.Numbers.{two, four, number_of_two, number_of_four}
 use Rattle.dz_name.specs.Reading.{name_at, name_from, element_at}
 use Rattle.dz_record.specs.Record.{Record}

@@ -1,7 +1,6 @@
 -- Inner: how a record is kept, as its octets, the length of its owner's wire form, and its type.
 use Rattle.std.specs.Prelude.{◌≡◌, ℕ, ◌+◌, length, drop, ◌++◌}
-use Rattle.dz_name.specs.Name.{wire_of}
-use Rattle.dz_name.specs.inner.Kept.{labels_in}
+use Rattle.dz_name.specs.Name.{wire_of, labels_in}
 use Rattle.dz_name.specs.Numbers.{two, four, number_of_four}
 use Rattle.dz_record.specs.Record.{Record, IsRecord, record_octets}
 use Rattle.dz_name.specs.Words.{Octets, Kind}

@@ -1,5 +1,5 @@
 use Rattle.std.proofs.Common.{arith, length, ap}
-use Rattle.dz_name.specs.inner.Kept.{labels_of}
+use Rattle.dz_name.specs.Name.{labels_of}
 use Rattle.dz_name.proofs.PartLemmas.{ancestor_padded}
 use Rattle.dz_name.proofs.KeptLemmas.{kept_from, view_from}
 use Rattle.dz_name.proofs.name.Name.of_wire.Goals as goal
