@@ -1,0 +1,8 @@
+//! Serials of zones (RFC 1982): which of two is the newer, and sums. Nothing here allocates.
+#![tactic(auto)]
+
+mod serial;
+#[cfg(test)]
+mod tests;
+
+pub use serial::{add, neither_half_way, never_both, never_itself, newer, sums_are_newer};
