@@ -11,15 +11,15 @@ use Rattle.dz_io.specs.declared.run.ScriptError.{ScriptError}
 use Rattle.dz_io.specs.declared.run.ScriptError.TheVariants as errors
 use Rattle.dz_name.specs.Words.{Name, Octets}
 use Rattle.dz_table.specs.Slot.{SlotOf}
-use Rattle.catzd.specs.Answering.{State, is_skipped, answer_rules, answer_turn, line_turn, zone_turn, taking_turn, request_turn}
-use Rattle.catzd.specs.Taking.{taking_of}
+use Rattle.catzd.specs.Answering.{State, is_skipped, transfer_of, answer_rules, answer_turn, line_turn, zone_turn, taking_turn, request_turn}
+use Rattle.dz_message.specs.Frame.{frame}
+use Rattle.dz_take.specs.Outcome.{outcome}
+use Rattle.dz_take.specs.Transfer.{Decision, up_to_date, new, refused}
 use Rattle.catzd.specs.ZoneLine.{octets_in, zone_line}
 use Rattle.catzd.specs.Running.{status_of, Answers}
 use Rattle.catzd.specs.declared.answering.End.{End}
 use Rattle.catzd.specs.declared.answering.End.TheVariants as endings
 use Rattle.catzd.specs.declared.running.Status.TheVariants.{Done, NoMemory}
-use Rattle.catzd.specs.declared.taking.Taking.{Taking}
-use Rattle.catzd.specs.declared.taking.Taking.TheVariants as taking
 
 gains_none : (before : Option (List ℕ)) → Gains [] before before
 gains_none None = refl
@@ -43,14 +43,14 @@ either : {A : Type 0} (P : A → Type 0) (b : Bool) (x y : A) → P x → P y �
 either P true x y one two = one
 either P false x y one two = two
 
-taking_before : (apex : Name) (number : ℕ) (t : Taking) → IsTurnBefore (taking_turn apex number t)
-taking_before apex number (taking.Refused fault) = tt
-taking_before apex number taking.Unbuilt = λ is. cc
-taking_before apex number (taking.Taken zone) = tt
+taking_before : (apex : Name) (decision : Decision) → IsTurnBefore (taking_turn apex decision)
+taking_before apex (new zone) = tt
+taking_before apex (refused fault) = tt
+taking_before apex up_to_date = tt
 
 zone_before : (number : ℕ) (fields : Option (Name × Octets)) → IsTurnBefore (zone_turn number fields)
 zone_before number None = λ is. cc
-zone_before number (Some fields) = taking_before fields.0 number (taking_of fields.0 fields.1)
+zone_before number (Some fields) = taking_before fields.0 (outcome (transfer_of fields.0) (frame fields.1))
 
 request_before : (slots : List SlotOf) (number : ℕ) (octets : Option Octets) → IsTurnBefore (request_turn slots number octets)
 request_before slots number None = λ is. cc
@@ -91,7 +91,6 @@ done_goes input is = done_from (lines_of input) (beginning None) is
 -- after Done nothing is left of the input
 pub done_leaves : (input : Octets) (result : Result End ScriptError) (state : State) (left before after : Option Octets) → IsRun answer_rules None input result state left before after → status_of result ≡ Done → left ≡ Some []
 done_leaves input (Ok endings.Done) state left before after run is = run.1 (done_goes input run.0.0)
-done_leaves input (Ok endings.Unbuilt) state left before after run is = cc
 done_leaves input (Ok endings.BadInput) state left before after run is = cc
 done_leaves input (Err errors.Read) state left before after run is = cc
 done_leaves input (Err errors.Write) state left before after run is = cc

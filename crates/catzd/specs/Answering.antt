@@ -7,15 +7,17 @@ use Rattle.dz_io.specs.Script.{Turn, goes_on, ends, Said, Rules}
 use Rattle.dz_name.specs.Text.{text_of}
 use Rattle.dz_record.specs.Record.{soa_of}
 use Rattle.dz_zone.specs.Version.{Zone, apex_soa}
-use Rattle.dz_message.specs.Fault.{fault_number}
+use Rattle.dz_message.specs.Frame.{frame}
 use Rattle.dz_table.specs.Slot.{SlotOf}
 use Rattle.dz_reply.specs.Reply.{Reply, nothing, written, notify, reply_of}
-use Rattle.catzd.specs.declared.taking.Taking.{Taking}
-use Rattle.catzd.specs.declared.taking.Taking.TheVariants as taking
+use Rattle.dz_take.specs.Outcome.{outcome}
+use Rattle.dz_take.specs.Transfer.{Transfer, Decision, up_to_date, new, refused}
+use Rattle.dz_take.specs.declared.ask.Ask.TheVariants.{Axfr}
+use Rattle.dz_take.specs.declared.outcome.TakeFault.{TakeFault}
+use Rattle.catzd.specs.Reason.{reason_of}
 use Rattle.catzd.specs.declared.answering.End.{End}
-use Rattle.catzd.specs.declared.answering.End.TheVariants.{Done, Unbuilt, BadInput}
+use Rattle.catzd.specs.declared.answering.End.TheVariants.{Done, BadInput}
 use Rattle.catzd.specs.ZoneLine.{octets_in, zone_line}
-use Rattle.catzd.specs.Taking.{taking_of}
 use Rattle.dz_name.specs.Words.{Name, Octets}
 
 -- what `answer` goes on with: the table, once the zone is there
@@ -40,15 +42,24 @@ serial_of zone = option_map_or (λ soa. soa.serial) (option_and_then soa_of (ape
 abbrev pub slot_for : Name → Option Zone → List SlotOf
 slot_for apex version = record { zone = apex; refreshed = 0; version = version } ∷ []
 
--- what comes of the zone's octets. Before it is taken there is no table
-abbrev pub taking_turn : Name → ℕ → Taking → Turn State End
-taking_turn apex number (taking.Refused fault) = goes_on (numbered_line (codes "refused message ") (fault_number fault)) (Some (slot_for apex None))
-taking_turn apex number taking.Unbuilt = ends (numbered_line (codes "unbuilt ") number) None Unbuilt
-taking_turn apex number (taking.Taken zone) = goes_on (numbered_line (codes "taken ") (serial_of zone)) (Some (slot_for apex (Some zone)))
+-- the transfer that the first line is of: of the whole zone, with ID 1, and no version is held
+abbrev pub transfer_of : Name → Transfer
+transfer_of apex = record { apex = apex; ask = Axfr; id = 1; held = None }
 
+abbrev pub refusal : TakeFault → Octets
+refusal fault = codes "refused " ++ (reason_of fault ++ (10 ∷ []))
+
+-- what comes of the zone's octets: it is served with its version, or without one. That a held version is the primary's
+-- never comes, since none is held (`outcomes_fit`)
+abbrev pub taking_turn : Name → Decision → Turn State End
+taking_turn apex (new zone) = goes_on (numbered_line (codes "taken ") (serial_of zone)) (Some (slot_for apex (Some zone)))
+taking_turn apex (refused fault) = goes_on (refusal fault) (Some (slot_for apex None))
+taking_turn apex up_to_date = goes_on [] (Some (slot_for apex None))
+
+-- the one message of the line is the whole stream
 abbrev pub zone_turn : ℕ → Option (Name × Octets) → Turn State End
 zone_turn number None = ends (bad number) None BadInput
-zone_turn number (Some fields) = taking_turn fields.0 number (taking_of fields.0 fields.1)
+zone_turn number (Some fields) = taking_turn fields.0 (outcome (transfer_of fields.0) (frame fields.1))
 
 -- what is written for a reply
 abbrev pub reply_text : Reply → Octets

@@ -1,6 +1,6 @@
 pub mod Examples
 pub mod Answering
+pub mod Reason
 pub mod Running
-pub mod Taking
 pub mod Words
 pub mod ZoneLine

@@ -17,7 +17,6 @@ use Rattle.dz_name.specs.Words.{Octets}
 -- the status of a run of `answer`
 abbrev pub status_of : Result End ScriptError → Status
 status_of (Ok endings.Done) = Done
-status_of (Ok endings.Unbuilt) = Unbuilt
 status_of (Ok endings.BadInput) = BadInput
 status_of (Err errors.Read) = ReadFault
 status_of (Err errors.Write) = WriteFault

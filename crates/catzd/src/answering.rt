@@ -1,22 +1,27 @@
 //! What `answer` does with a line: it takes a zone from the first, and answers each further one as a request.
 
-ghost use Rattle.std.specs.Prelude.{◌≡◌, ◌++◌, [], ◌∷◌, Some, None, is_some, false, IfOk, codes};
+ghost use Rattle.std.specs.Prelude.{◌≡◌, ◌++◌, [], ◌∷◌, Some, None, is_some, false, IfOk, codes, ◌≤◌, length, option_map};
+ghost use Rattle.std.specs.Arc.{arc_value};
 ghost use Rattle.std.specs.Option.{ForSome};
 ghost use Rattle.hex.specs.Hex.{encode_lower};
 ghost use Rattle.dz_name.specs.Text.{text_of};
 ghost use Rattle.dz_reply.specs.Reply.{reply_of};
-ghost use Rattle.catzd.specs.Answering.{numbered_line, is_skipped, slot_for, taking_turn, zone_turn, reply_text, request_turn, line_turn, answer_turn, turn_from};
-ghost use Rattle.catzd.specs.Taking.{taking_of};
+ghost use Rattle.dz_name.specs.declared.dns.TheConstants.{MESSAGE_OCTETS};
+ghost use Rattle.dz_message.specs.Frame.{frame};
+ghost use Rattle.dz_take.specs.Fit.{Fits};
+ghost use Rattle.dz_take.specs.Outcome.{outcome};
+ghost use Rattle.dz_take.specs.Taken.{meaning_of};
+ghost use Rattle.catzd.specs.Answering.{numbered_line, is_skipped, transfer_of, refusal, slot_for, taking_turn, zone_turn, reply_text, request_turn, line_turn, answer_turn, turn_from};
 ghost use Rattle.catzd.specs.ZoneLine.{octets_in, zone_line};
 
-use crate::taking::{Taking, take_zone};
+use crate::reason::{joined, numbered, reason_of};
 use crate::zone_line::{read_octets, read_zone_line};
 use dz_header::ReplyBuffer;
 use dz_name::Name;
 use dz_reply::{Transport, Turn, reply_into};
 use dz_table::{Slot, Table};
+use dz_take::{Ask, Finished, Outcome, TakeFault, Taking};
 use dz_zone::Version;
-use itoa::Buffer;
 use std::alloc::{AllocError, Global};
 use std::marker::Model;
 use std::sync::Arc;
@@ -25,8 +30,6 @@ use std::sync::Arc;
 #[derive(Clone, Copy, Debug, PartialEq, Eq)]
 pub enum End {
     Done,
-    /// The zone's message isn't a whole transfer of a zone without fault.
-    Unbuilt,
     BadInput,
 }
 
@@ -110,33 +113,55 @@ impl Answering {
     {
         match read_zone_line(alloc, line)? {
             None => say_last(alloc, b"bad ", number, End::BadInput),
-            Some((apex, octets)) => self.take_message(alloc, number, &apex, octets.as_slice()),
+            Some((apex, octets)) => self.take_message(alloc, &apex, octets.as_slice()),
         }
     }
 
+    /// Takes the zone from its message.
     fn take_message(
         &mut self,
         alloc: Global,
-        number: u64,
         apex: &Name,
         octets: &[u8],
     ) -> Result<Saying, AllocError>
-        requires { self.old ≡ None }
-        ensures { IfOk result (λ s. taking_turn apex.now number (taking_of apex.now octets.now) ≡ turn_from s.text.items s.ending self.new) }
+        requires none { self.old ≡ None }
+        requires short { length octets.now ≤ MESSAGE_OCTETS }
+        ensures { IfOk result (λ s. taking_turn apex.now (outcome (transfer_of apex.now) (frame octets.now)) ≡ turn_from s.text.items s.ending self.new) }
     {
-        match take_zone(alloc, apex, octets)? {
-            Taking::Unbuilt => say_last(alloc, b"unbuilt ", number, End::Unbuilt),
-            Taking::Refused(fault) => {
+        let finished = take_zone(alloc, apex, octets)?;
+        self.serve(alloc, apex, finished.outcome())
+    }
+
+    /// Serves the zone with what came of its transfer.
+    fn serve(&mut self, alloc: Global, apex: &Name, outcome: &Outcome) -> Result<Saying, AllocError>
+        requires none { self.old ≡ None }
+        requires fits { Fits (transfer_of apex.now) (meaning_of outcome.now) }
+        ensures { IfOk result (λ s. taking_turn apex.now (meaning_of outcome.now) ≡ turn_from s.text.items s.ending self.new) }
+    {
+        match outcome {
+            Outcome::UpToDate => unreachable!(),
+            Outcome::Refused(fault) => {
                 self.table = Some(make_table(alloc, apex, None)?);
-                say(alloc, b"refused message ", u64::from(fault.number()))
+                say_refusal(alloc, fault)
             }
-            Taking::Taken(version) => {
+            Outcome::New(version) => {
                 let serial = version.soa().serial;
-                self.table = Some(make_table(alloc, apex, Some(version))?);
+                self.table = Some(make_table(alloc, apex, Some(version.clone()?))?);
                 say(alloc, b"taken ", u64::from(serial))
             }
         }
     }
+}
+
+/// What comes of the one message of a transfer of the whole zone with ID 1 (RFC 5936).
+fn take_zone(alloc: Global, apex: &Name, octets: &[u8]) -> Result<Finished, AllocError>
+    requires { length octets.now ≤ MESSAGE_OCTETS }
+    ensures transfer { IfOk result (λ f. f.transfer ≡ transfer_of apex.now) }
+    ensures octets { IfOk result (λ f. f.octets ≡ frame octets.now) }
+{
+    let mut taking = Taking::start(alloc, *apex, Ask::Axfr, 1, None);
+    taking.feed(octets)?;
+    taking.finish()
 }
 
 /// Takes a line as a request to the table.
@@ -193,15 +218,24 @@ fn hex_text(alloc: Global, octets: &[u8]) -> Result<Vec<u8>, AllocError>
 
 /// The table that holds one zone, refreshed at moment 0.
 #[tactic(auto, unfolding(dz_table::specs::Table::put))]
-fn make_table(alloc: Global, apex: &Name, version: Option<Version>) -> Result<Table, AllocError>
-    requires { ForSome version (λ v. v.apex ≡ apex.now) }
-    ensures { IfOk result (λ table. table ≡ slot_for apex.now version) }
+fn make_table(
+    alloc: Global,
+    apex: &Name,
+    version: Option<Arc<Version>>,
+) -> Result<Table, AllocError>
+    requires { ForSome version (λ v. v.value.apex ≡ apex.now) }
+    ensures { IfOk result (λ table. table ≡ slot_for apex.now (option_map arc_value version)) }
 {
-    let version = match version {
-        None => None,
-        Some(version) => Some(Arc::new(alloc, version)?),
-    };
     Table::empty(alloc).with(alloc, Slot::new(*apex, 0, version))
+}
+
+/// Says why there is no version, and goes on.
+fn say_refusal(alloc: Global, fault: &TakeFault) -> Result<Saying, AllocError>
+    ensures { IfOk result (λ s. (s.text.items ≡ refusal fault.now) × (s.ending ≡ None)) }
+{
+    let mut text = joined(alloc, b"refused ", reason_of(alloc, fault)?.as_slice())?;
+    text.push(b'\n')?;
+    Ok(Saying { text, ending: None })
 }
 
 /// Says a word and a number, and goes on.
@@ -228,9 +262,7 @@ fn say_last(alloc: Global, word: &[u8], number: u64, ending: End) -> Result<Sayi
 pub fn numbered_line(alloc: Global, word: &[u8], number: u64) -> Result<Vec<u8>, AllocError>
     ensures { IfOk result (λ text. text.items ≡ numbered_line word.now number) }
 {
-    let mut digits = Buffer::new();
-    let mut text = Vec::from_slice(alloc, word)?;
-    text.extend_from_slice(digits.format(number).as_bytes())?;
+    let mut text = numbered(alloc, word, number)?;
     text.push(b'\n')?;
     Ok(text)
 }

@@ -3,9 +3,9 @@
 
 mod answering;
 mod edge;
+mod reason;
 mod running;
 mod script;
-mod taking;
 #[cfg(test)]
 mod tests;
 mod words;

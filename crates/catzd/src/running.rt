@@ -27,7 +27,7 @@ pub enum Status {
     WriteFault = 5,
     /// Want of memory.
     NoMemory = 7,
-    /// What is asked for isn't built yet.
+    /// The command isn't built yet.
     Unbuilt = 9,
 }
 
@@ -40,9 +40,9 @@ pub struct Ended<K> {
 
 /// Runs the command that the words ask for.
 ///
-/// `answer` reads lines: first `zone <name> <hex>`, one message with ID 1 that holds a whole transfer (RFC 5936), and
-/// then requests in hex, each taken as over UDP at moment 0. It writes `taken <serial>` or `refused message <fault>`,
-/// and for each request the hex of the reply, `none`, or `notify <name>`. A line that is bad or unbuilt ends it.
+/// `answer` reads lines: first `zone <name> <hex>`, one message with ID 1 that is to hold a whole transfer (RFC 5936), and
+/// then requests in hex, each taken as over UDP at moment 0. It writes `taken <serial>` or `refused <reason>`, and for
+/// each request the hex of the reply, `none`, or `notify <name>`. A bad line ends it.
 pub fn run<S: Source, K: Sink>(
     alloc: Global,
     words: &Words,
@@ -122,7 +122,6 @@ fn status_of(run: Result<End, ScriptError>) -> Status
 {
     match run {
         Ok(End::Done) => Status::Done,
-        Ok(End::Unbuilt) => Status::Unbuilt,
         Ok(End::BadInput) => Status::BadInput,
         Err(ScriptError::Read) => Status::ReadFault,
         Err(ScriptError::Write) => Status::WriteFault,

@@ -1,7 +1,9 @@
 use crate::edge::ReadSource;
+use crate::reason::reason_of;
 use crate::running::{Ended, Status, answer, run};
 use crate::words::{Command, Words, read_words};
 use dz_io::{Failed, MemorySink, MemorySource, Source};
+use dz_take::{ShapeFault, TakeFault, ZoneFault};
 use std::alloc::{AllocError, Global};
 use std::io::{Error, ErrorKind, Read};
 use std::process::Abort;
@@ -112,18 +114,6 @@ fn says_that_a_line_is_bad(rt: HostRuntime) -> Result<(), AllocError> {
 }
 
 #[test]
-fn says_that_a_transfer_is_unbuilt(rt: HostRuntime) -> Result<(), AllocError> {
-    let without_question = b"zone example. 000184000000000000000000".as_slice();
-    expect(
-        &rt,
-        rt.alloc(),
-        &[without_question],
-        Status::Unbuilt,
-        &[b"unbuilt 1"],
-    )
-}
-
-#[test]
 fn refuses_octets_that_are_no_header(rt: HostRuntime) -> Result<(), AllocError> {
     expect(
         &rt,
@@ -132,6 +122,153 @@ fn refuses_octets_that_are_no_header(rt: HostRuntime) -> Result<(), AllocError> 
         Status::Done,
         &[b"refused message 2"],
     )
+}
+
+/// ID 1 and the flags of a response, in hex; the question for the zone, and one for another.
+const HEAD: &[u8] = b"00018400";
+
+const ASKED: &[u8] = b"076578616d706c650000fc0001";
+
+const ASKED_ELSE: &[u8] = b"056f746865720000fc0001";
+
+/// Records in hex: the SOA with serial 5 and with 6, and below the apex; an NS; addresses in the zone and outside it;
+/// a CNAME, and an address of its owner; two DNAME of one owner.
+const SOA: &[u8] =
+    b"076578616d706c65000006000100000e10002e026e7307696e76616c69640004686f737407696e76616c69640000000005000000640000003c000002580000001e";
+
+const SOA_6: &[u8] =
+    b"076578616d706c65000006000100000e10002e026e7307696e76616c69640004686f737407696e76616c69640000000006000000640000003c000002580000001e";
+
+const SOA_BELOW: &[u8] =
+    b"0162076578616d706c65000006000100000e10002e026e7307696e76616c69640004686f737407696e76616c69640000000005000000640000003c000002580000001e";
+
+const NS: &[u8] = b"076578616d706c65000002000100000e10000c026e7307696e76616c696400";
+
+const A: &[u8] = b"0161076578616d706c65000001000100000e100004c0000201";
+
+const A_OUTSIDE: &[u8] = b"056f74686572000001000100000e100004c0000201";
+
+const CNAME: &[u8] = b"0163076578616d706c65000005000100000e10000b0161076578616d706c6500";
+
+const CNAME_ELSE: &[u8] = b"0163076578616d706c65000005000100000e10000b0162076578616d706c6500";
+
+const A_BESIDE: &[u8] = b"0163076578616d706c65000001000100000e100004c0000201";
+
+const DNAME: &[u8] = b"0164076578616d706c65000027000100000e10000b0161076578616d706c6500";
+
+const DNAME_ELSE: &[u8] = b"0164076578616d706c65000027000100000e10000b0162076578616d706c6500";
+
+/// The first line with a message of these parts, at most nine questions and records.
+fn zone_line(
+    alloc: Global,
+    head: &[u8],
+    questions: &[&[u8]],
+    answers: &[&[u8]],
+) -> Result<Vec<u8>, AllocError> {
+    let mut line = Vec::from_slice(alloc, b"zone example. ")?;
+    line.extend_from_slice(head)?;
+    line.extend_from_slice(&[b'0', b'0', b'0', b'0' + (questions.len() % 10) as u8])?;
+    line.extend_from_slice(&[b'0', b'0', b'0', b'0' + (answers.len() % 10) as u8])?;
+    line.extend_from_slice(b"00000000")?;
+    for part in questions.iter().chain(answers) {
+        line.extend_from_slice(part)?;
+    }
+    Ok(line)
+}
+
+/// The message gives this line, and a query then finds the zone without a version.
+fn expect_refusal(
+    rt: &impl Abort,
+    alloc: Global,
+    line: &[u8],
+    want: &[u8],
+) -> Result<(), AllocError> {
+    let query = b"004000000001000000000000076578616d706c650000010001".as_slice();
+    let failure = b"004080020001000000000000076578616d706c650000010001".as_slice();
+    expect(rt, alloc, &[line, query], Status::Done, &[want, failure])
+}
+
+#[test]
+fn says_why_a_message_is_refused(rt: HostRuntime) -> Result<(), AllocError> {
+    let alloc = rt.alloc();
+    let rows: [(&[u8], &[&[u8]], &[u8]); 10] = [
+        (b"00098400", &[ASKED], b"refused wrong-id"),
+        (b"00010400", &[ASKED], b"refused wrong-id"),
+        (b"0001a400", &[ASKED], b"refused wrong-id"),
+        (b"00018405", &[ASKED], b"refused rcode 5"),
+        (HEAD, &[], b"refused wrong-question"),
+        (HEAD, &[ASKED_ELSE], b"refused wrong-question"),
+        (HEAD, &[ASKED, ASKED], b"refused wrong-question"),
+        (b"00098405", &[], b"refused wrong-id"),
+        (b"00018405", &[], b"refused rcode 5"),
+        (HEAD, &[ASKED], b"refused incomplete"),
+    ];
+    for (head, questions, want) in rows {
+        let line = zone_line(alloc, head, questions, &[SOA])?;
+        expect_refusal(&rt, alloc, line.as_slice(), want)?;
+    }
+    Ok(())
+}
+
+#[test]
+fn says_why_records_are_refused(rt: HostRuntime) -> Result<(), AllocError> {
+    let alloc = rt.alloc();
+    let rows: [(&[&[u8]], &[u8]); 13] = [
+        (&[], b"refused shape not-soa-first"),
+        (&[NS, SOA], b"refused shape not-soa-first"),
+        (&[SOA, NS, SOA_6], b"refused shape serial-gap"),
+        (&[SOA, NS, SOA, A], b"refused shape after-end"),
+        (&[SOA, NS, SOA_6, SOA, A], b"refused shape serial-gap"),
+        (&[SOA, SOA], b"refused zone no-ns"),
+        (&[SOA, NS, SOA_BELOW, SOA], b"refused zone soa-below"),
+        (&[SOA, SOA_BELOW, SOA], b"refused zone soa-below"),
+        (&[SOA, NS, A_OUTSIDE, SOA], b"refused zone out-of-zone"),
+        (
+            &[SOA, NS, A_BESIDE, CNAME, SOA],
+            b"refused zone cname-beside",
+        ),
+        (
+            &[SOA, NS, CNAME, CNAME_ELSE, SOA],
+            b"refused zone cname-twice",
+        ),
+        (
+            &[SOA, NS, DNAME, DNAME_ELSE, SOA],
+            b"refused zone dname-twice",
+        ),
+        (&[SOA, NS, A], b"refused incomplete"),
+    ];
+    for (answers, want) in rows {
+        let line = zone_line(alloc, HEAD, &[ASKED], answers)?;
+        expect_refusal(&rt, alloc, line.as_slice(), want)?;
+    }
+    Ok(())
+}
+
+/// Of every fault, also of those that one message of a whole zone can't have.
+#[test]
+fn each_reason_has_its_words(rt: HostRuntime) -> Result<(), AllocError> {
+    let alloc = rt.alloc();
+    let rows: [(TakeFault, &[u8]); 6] = [
+        (TakeFault::TooLong, b"too-long"),
+        (
+            TakeFault::OldSerial(2_147_483_653),
+            b"old-serial 2147483653",
+        ),
+        (
+            TakeFault::Shape(ShapeFault::DeleteMissing),
+            b"shape delete-missing",
+        ),
+        (
+            TakeFault::Shape(ShapeFault::AddPresent),
+            b"shape add-present",
+        ),
+        (TakeFault::Zone(ZoneFault::SoaTwice), b"zone soa-twice"),
+        (TakeFault::Zone(ZoneFault::TooMany), b"zone too-many"),
+    ];
+    for (fault, want) in rows {
+        assert_eq!(rt; reason_of(alloc, &fault)?.as_slice(), want);
+    }
+    Ok(())
 }
 
 #[test]

@@ -1,6 +1,7 @@
 //! The first line of `answer`.
 
-ghost use Rattle.std.specs.Prelude.{◌≡◌, ◌<◌, ◌==◌, IfOk, IfSome, Ok, Some, length, option_map, position};
+ghost use Rattle.std.specs.Prelude.{◌≡◌, ◌<◌, ◌≤◌, ◌==◌, IfOk, IfSome, Ok, Some, length, option_map, position};
+ghost use Rattle.dz_name.specs.declared.dns.TheConstants.{MESSAGE_OCTETS};
 ghost use Rattle.catzd.specs.ZoneLine.{message_octets, octets_in, cut_at_space, two_fields, zone_line};
 
 use dz_name::Name;
@@ -11,7 +12,8 @@ use std::alloc::{AllocError, Global};
 /// The name of the apex and the octets of the message in `zone <name> <hex>`; none where the line is of another form.
 #[tactic(auto, unfolding(crate::specs::ZoneLine::zone_line))]
 pub fn read_zone_line(alloc: Global, line: &[u8]) -> Result<Option<(Name, Vec<u8>)>, AllocError>
-    ensures { IfOk result (λ r. option_map (λ x. (x.0, x.1.items)) r ≡ zone_line line.now) }
+    ensures fields { IfOk result (λ r. option_map (λ x. (x.0, x.1.items)) r ≡ zone_line line.now) }
+    ensures short { IfOk result (λ r. IfSome r (λ x. length x.1.items ≤ MESSAGE_OCTETS)) }
 {
     if !line.starts_with(b"zone ") {
         return Ok(None);
@@ -27,7 +29,8 @@ fn read_fields(
     name: &[u8],
     text: &[u8],
 ) -> Result<Option<(Name, Vec<u8>)>, AllocError>
-    ensures { IfOk result (λ r. option_map (λ x. (x.0, x.1.items)) r ≡ two_fields (Some (name.now, text.now))) }
+    ensures fields { IfOk result (λ r. option_map (λ x. (x.0, x.1.items)) r ≡ two_fields (Some (name.now, text.now))) }
+    ensures short { IfOk result (λ r. IfSome r (λ x. length x.1.items ≤ MESSAGE_OCTETS)) }
 {
     match Name::parse(name) {
         Err(_) => Ok(None),
@@ -60,7 +63,8 @@ fn find_space(text: &[u8]) -> Option<usize>
 /// The octets of a message in hex, at least one and no more than a message has; none where the text is no such.
 #[tactic(auto, unfolding(crate::specs::ZoneLine::octets_in))]
 pub fn read_octets(alloc: Global, text: &[u8]) -> Result<Option<Vec<u8>>, AllocError>
-    ensures { IfOk result (λ r. option_map (λ x. x.items) r ≡ octets_in text.now) }
+    ensures octets { IfOk result (λ r. option_map (λ x. x.items) r ≡ octets_in text.now) }
+    ensures short { IfOk result (λ r. IfSome r (λ x. length x.items ≤ MESSAGE_OCTETS)) }
 {
     match hex::decode(alloc, text) {
         Err(FromHexError::OutOfMemory) => Err(AllocError),
@@ -70,7 +74,8 @@ pub fn read_octets(alloc: Global, text: &[u8]) -> Result<Option<Vec<u8>>, AllocE
 }
 
 fn within_limit(octets: Vec<u8>) -> Option<Vec<u8>>
-    ensures { option_map (λ x. x.items) result ≡ message_octets (Ok octets.items) }
+    ensures octets { option_map (λ x. x.items) result ≡ message_octets (Ok octets.items) }
+    ensures short { IfSome result (λ x. length x.items ≤ MESSAGE_OCTETS) }
 {
     if octets.is_empty() || octets.len() > MESSAGE_OCTETS {
         None

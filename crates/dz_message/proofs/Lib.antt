@@ -1,7 +1,9 @@
+pub mod FrameLemmas
 pub mod FitLemmas
 pub mod ManyLemmas
 pub mod RdataLemmas
 pub mod SpellingLemmas
 pub mod WritingLemmas
 pub mod PlaceLemmas
+pub mod QueryLemmas
 pub mod WrittenLemmas

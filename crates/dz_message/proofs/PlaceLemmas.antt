@@ -128,7 +128,7 @@ fields_there (field ∷ fields) m base at rdata more is le h =
     ] refl h
 
 -- RDATA has at most 65,535 octets (RFC 1035 section 4.1.3)
-short_rdata : (r : Record) → IsRecord r → length r.rdata ≤ 65535
+pub short_rdata : (r : Record) → IsRecord r → length r.rdata ≤ 65535
 short_rdata r is = elim (leb_tells (length r.rdata) 65535) [
   | inl w ↦ w.1
   | inr w ↦ let q = rw w.0 at is.rdata in absurd (cc)

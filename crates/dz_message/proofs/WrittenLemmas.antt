@@ -21,7 +21,7 @@ use Rattle.dz_header.proofs.PlaceLemmas.{length_there, drop_there}
 use Rattle.dz_message.proofs.PlaceLemmas.{two_there, fixed_octets, record_there, each_there}
 
 -- a question that is written reads as the question
-question_there : (m : List ℕ) (q : Question) (more : List ℕ) (at : ℕ) → IsAsking q → 0 ≤ at → drop at m ≡ question_octets q ++ more
+pub question_there : (m : List ℕ) (q : Question) (more : List ℕ) (at : ℕ) → IsAsking q → 0 ≤ at → drop at m ≡ question_octets q ++ more
     → IsQuestion m at q (at + length (question_octets q))
 unfolding question_octets
 question_there m q more at is low there =

@@ -2,7 +2,9 @@
 #![tactic(auto)]
 
 mod fault;
+mod frame;
 mod message;
+mod query;
 mod reading;
 #[cfg(test)]
 mod tests;
@@ -10,6 +12,8 @@ mod writing;
 
 pub use dz_header::{Header, Question};
 pub use fault::{MessageError, MessageFault, WriteError};
+pub use frame::{LENGTH_OCTETS, comes_back, each_is_cut, next_frame, push_frame};
 pub use message::Message;
+pub use query::write_query;
 pub use reading::read_message;
 pub use writing::write_message;

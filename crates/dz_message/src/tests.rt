@@ -1,4 +1,7 @@
-use crate::{Message, MessageError, MessageFault, WriteError, read_message, write_message};
+use crate::{
+    Message, MessageError, MessageFault, WriteError, next_frame, push_frame, read_message,
+    write_message, write_query,
+};
 use dz_header::Header;
 use dz_name::{Name, Octets};
 use dz_record::Rr;
@@ -218,5 +221,46 @@ fn a_message_has_at_most_65535_octets(rt: HostRuntime) -> Result<(), AllocError>
             Err(error) => assert!(rt; !fits && error == WriteError::TooLong),
         }
     }
+    Ok(())
+}
+
+#[test]
+fn frames_are_found_one_behind_the_other(rt: HostRuntime) -> Result<(), AllocError> {
+    let alloc = rt.alloc();
+    let mut out = Vec::new(alloc);
+    push_frame(&mut out, b"abc")?;
+    push_frame(&mut out, b"")?;
+    assert!(rt; out.as_slice() == b"\0\x03abc\0\0".as_slice());
+    assert!(rt; next_frame(out.as_slice(), 0) == Some((2, 5)));
+    assert!(rt; next_frame(out.as_slice(), 5) == Some((7, 7)));
+    // an octet too few, none, and past the end
+    assert!(rt; next_frame(b"\0\x03ab", 0).is_none());
+    assert!(rt; next_frame(out.as_slice(), 7).is_none());
+    assert!(rt; next_frame(out.as_slice(), 8).is_none());
+    Ok(())
+}
+
+#[test]
+fn a_query_asks_for_all_or_for_the_differences(rt: HostRuntime) -> Result<(), AllocError> {
+    let alloc = rt.alloc();
+    let zone = match Name::parse(b"example.") {
+        Ok(zone) => zone,
+        Err(_) => panic!(rt; "no name"),
+    };
+    let all = write_query(alloc, 1, &zone, None)?;
+    let asked = b"\0\x01\0\0\0\x01\0\0\0\0\0\0\x07example\0\0\xfc\0\x01";
+    assert!(rt; all.as_slice() == asked.as_slice());
+    let numbers = b"\0\0\0\x05\0\0\0\x64\0\0\0\x3c\0\0\x02\x58\0\0\0\x1e";
+    let rdata = joined(&rt, alloc, &[b"\x02ns\0\x04host\0", numbers]);
+    let held = match Rr::make(alloc, zone, 6, 3600, Octets::from_vec(rdata)) {
+        Ok(held) => held,
+        Err(_) => panic!(rt; "no record"),
+    };
+    assert!(rt; held.kind() == 6);
+    let differences = write_query(alloc, 258, &zone, Some(&held))?;
+    let front = b"\x01\x02\0\0\0\x01\0\0\0\x01\0\0\x07example\0\0\xfb\0\x01";
+    let record = b"\x07example\0\0\x06\0\x01\0\0\x0e\x10\0\x1e\x02ns\0\x04host\0";
+    let octets = joined(&rt, alloc, &[front, record, numbers]);
+    assert!(rt; differences.as_slice() == octets.as_slice());
     Ok(())
 }

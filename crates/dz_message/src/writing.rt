@@ -43,7 +43,7 @@ fn write_all(message: &Message, out: &mut Vec<u8>) -> Result<(), AllocError>
     Ok(())
 }
 
-fn write_head(header: Header, out: &mut Vec<u8>) -> Result<(), AllocError>
+pub(crate) fn write_head(header: Header, out: &mut Vec<u8>) -> Result<(), AllocError>
     ensures octets { OnOk result (out.new.items ≡ out.old.items ++ header_octets header) }
     ensures held { OnOk result (IsHeader header) }
 {
@@ -79,7 +79,7 @@ fn write_answers(answers: &[Rr], out: &mut Vec<u8>) -> Result<(), AllocError>
     Ok(())
 }
 
-fn write_answer(answer: &Rr, out: &mut Vec<u8>) -> Result<(), AllocError>
+pub(crate) fn write_answer(answer: &Rr, out: &mut Vec<u8>) -> Result<(), AllocError>
     ensures octets { OnOk result (out.new.items ≡ out.old.items ++ record_octets answer.now) }
     ensures held { OnOk result (IsRecord answer.now) }
 {
@@ -87,7 +87,7 @@ fn write_answer(answer: &Rr, out: &mut Vec<u8>) -> Result<(), AllocError>
 }
 
 #[tactic(auto, unfolding(crate::specs::Writing::question_octets))]
-fn write_question(question: &Question, out: &mut Vec<u8>) -> Result<(), AllocError>
+pub(crate) fn write_question(question: &Question, out: &mut Vec<u8>) -> Result<(), AllocError>
     ensures octets { OnOk result (out.new.items ≡ out.old.items ++ question_octets question.now) }
     ensures held { OnOk result (IsAsking question.now) }
 {

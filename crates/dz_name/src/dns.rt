@@ -57,8 +57,12 @@ pub const TYPE_OPT: u16 = 41;
 pub const TYPE_RRSIG: u16 = 46;
 /// The next name and the types of a name (RFC 4034 section 4).
 pub const TYPE_NSEC: u16 = 47;
+/// A digest of a zone (RFC 8976).
+pub const TYPE_ZONEMD: u16 = 63;
 /// The first of the numbers that are types of questions and transactions alone: TKEY (RFC 2930).
 pub const TYPE_TKEY: u16 = 249;
+/// A question for the differences from a version of a zone (RFC 1995).
+pub const TYPE_IXFR: u16 = 251;
 /// A question for a whole zone (RFC 5936).
 pub const TYPE_AXFR: u16 = 252;
 /// A question for records of mail agents, obsolete (RFC 1035 section 3.2.3).
@@ -92,3 +96,5 @@ pub const EDNS_OCTETS: usize = 1232;
 pub const ALIASES: usize = 16;
 /// How many records a zone has at most.
 pub const ZONE_RECORDS: usize = 250_000;
+/// How many octets a transfer has at most, its messages behind their lengths: 64 MiB.
+pub const TRANSFER_OCTETS: usize = 67_108_864;

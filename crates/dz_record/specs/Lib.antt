@@ -1,5 +1,6 @@
 pub mod Examples
 pub mod Fields
+pub mod Order
 pub mod Record
 pub mod Records
 pub mod inner

@@ -2,6 +2,7 @@
 #![tactic(auto)]
 
 mod fields;
+mod order;
 mod rr;
 #[cfg(test)]
 mod tests;

@@ -2,6 +2,7 @@ use crate::{Field, Rr, RrError, RrFault, Soa, fields_of, is_bad_type, is_rdata};
 use dz_name::{Name, Octets};
 use std::alloc::{AllocError, Global};
 use std::cmp::Ordering;
+use std::collections::BTreeSet;
 use std::process::Abort;
 use std::test::Fail;
 
@@ -159,6 +160,18 @@ fn records_stand_by_owner_type_and_rdata(rt: HostRuntime) {
             assert!(rt; left.same(right) == (i == j));
         }
     }
+}
+
+/// An ordered set has one of two records that differ in their TTL alone.
+#[test]
+fn records_that_are_the_same_are_equal(rt: HostRuntime) -> Result<(), AllocError> {
+    let alloc = rt.alloc();
+    let mut set = BTreeSet::new(alloc);
+    assert!(rt; set.insert(record(&rt, alloc, b"www", 1, 60, b"\x7f\0\0\x01"))?);
+    assert!(rt; !set.insert(record(&rt, alloc, b"www", 1, 3600, b"\x7f\0\0\x01"))?);
+    assert!(rt; set.insert(record(&rt, alloc, b"www", 1, 60, b"\x7f\0\0\x02"))?);
+    assert_eq!(rt; set.len(), 2);
+    Ok(())
 }
 
 #[test]

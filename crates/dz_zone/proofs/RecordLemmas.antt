@@ -1,6 +1,6 @@
 -- The order of records, and what it ties.
-use Rattle.std.proofs.Common.{◌≡◌, ℕ, Bool, true, false, not, ◌&&◌, List, [], ◌∷◌, refl, sym, ◌∙◌, ap, subst, arith, is_lt, is_eq, is_gt, Ordering, Less, Equal, Greater}
-use Rattle.std.specs.Ordering.{ordering_reverse, ordering_then, ordering_index, nat_cmp}
+use Rattle.std.proofs.Common.{◌≡◌, Bool, true, false, not, ◌&&◌, List, [], ◌∷◌, refl, sym, ◌∙◌, ap, is_lt, is_eq, is_gt, Ordering, Less, Equal, Greater}
+use Rattle.std.specs.Ordering.{ordering_reverse, ordering_index}
 use Rattle.std.specs.Prelude.{◌==◌}
 use Rattle.std.specs.Bool.{Decides}
 use Rattle.std.specs.List.{dedup, IsAllAdjacentAnswer}
@@ -8,22 +8,12 @@ use Rattle.std.proofs.lemmas.Bool.{or_parts, not-true, not-false, not_from_false
 use Rattle.dz_zone.specs.inner.Neighbours.{neighbours_from, neighbours}
 use Rattle.dz_zone.proofs.Pairs.{adjacent_answer}
 use Rattle.std.specs.List.Sorted.{IsStrictlySortedBy, IsSortedBy, IsStableBy, ties}
-use Rattle.std.specs.Cmp.{IsTotalOrder, IsStrictWeakOrder, Equal-is, tied_itself}
-use Rattle.std.specs.Cmp.Lexicographic.{slice_cmp}
-use Rattle.std.specs.FinMap.{slice_cmp-IsAntisymmetric, nat_cmp-IsAntisymmetric}
-use Rattle.std.specs.Str.{bytes_eq}
-use Rattle.std.proofs.lemmas.Cmp.{on_total, then_total, nat_cmp_total, nat_list_cmp_total}
+use Rattle.std.specs.Cmp.{IsStrictWeakOrder}
 use Rattle.std.proofs.lemmas.List.Sorted.{ranks_by}
-use Rattle.std.proofs.lemmas.Bool.Decides.{nat_tests, same_from_decides}
-use Rattle.std.proofs.lemmas.Slice.Eq.{bytes_eq-Decides}
-use Rattle.dz_name.specs.Name.{canonical_order}
-use Rattle.dz_name.specs.Order.{canonical_total, same_ties}
+use Rattle.dz_record.specs.Order.{record_total, same_ties}
 use Rattle.dz_record.specs.Record.{Record, record_order, same_record}
 use Rattle.dz_record.specs.Records.{distinct, in_order, insertion}
 use Rattle.dz_zone.proofs.Ordered.{firsts, put, puts, Ascends, Climbs, each_more, tidied, climbed, climbs_ascends}
-
-pub record_total : IsTotalOrder record_order
-record_total = then_total (then_total (on_total (λ r. r.owner) canonical_total) (on_total (λ r. r.kind) nat_cmp_total)) (on_total (λ r. r.rdata) nat_list_cmp_total)
 
 unfoldable pub before : Record → Record → Bool
 before a b = is_lt (record_order a b)
@@ -38,36 +28,6 @@ pub before_ranks : IsStrictWeakOrder before
 unfolding before
 before_ranks = before_is
 
-then_eq : (a b : Ordering) → is_eq (ordering_then a b) ≡ (is_eq a && is_eq b)
-then_eq Less b = refl
-then_eq Equal b = refl
-then_eq Greater b = refl
-
-nat_ties : (a b : ℕ) → (a == b) ≡ is_eq (nat_cmp a b)
-nat_ties a b = grind (arith, nat_tests)
-
-octets_tie : (a b : List ℕ) → bytes_eq a b ≡ is_eq (slice_cmp nat_cmp a b)
-octets_tie a b =
-    let d : Decides (is_eq (slice_cmp nat_cmp a b)) (a ≡ b) = (
-      λ t. slice_cmp-IsAntisymmetric nat_cmp-IsAntisymmetric a b ((Equal-is (slice_cmp nat_cmp a b)).0 t),
-      λ e. (Equal-is (slice_cmp nat_cmp a b)).1 (subst (λ x. slice_cmp nat_cmp a x ≡ Equal) e (tied_itself nat_list_cmp_total a)),
-    ) in
-    same_from_decides (bytes_eq a b) (is_eq (slice_cmp nat_cmp a b)) (bytes_eq-Decides a b) d
-
-and_regroup : (a b c : Bool) → (a && (b && c)) ≡ ((a && b) && c)
-and_regroup true b c = refl
-and_regroup false b c = refl
-
-pub same_order : (a b : Record) → same_record a b ≡ is_eq (record_order a b)
-same_order a b =
-    let x = canonical_order a.owner b.owner in
-    let y = nat_cmp a.kind b.kind in
-    let z = slice_cmp nat_cmp a.rdata b.rdata in
-    ap (λ t. t && (a.kind == b.kind && bytes_eq a.rdata b.rdata)) (same_ties a.owner b.owner)
-    ∙ (ap (λ t. is_eq x && (t && bytes_eq a.rdata b.rdata)) (nat_ties a.kind b.kind)
-    ∙ (ap (λ t. is_eq x && (is_eq y && t)) (octets_tie a.rdata b.rdata)
-    ∙ (and_regroup (is_eq x) (is_eq y) (is_eq z) ∙ sym (then_eq (ordering_then x y) z ∙ ap (λ t. t && is_eq z) (then_eq x y)))))
-
 tie_eq : (o p : Ordering) → p ≡ ordering_reverse o → is_eq p ≡ (not (is_lt p) && not (is_lt o))
 tie_eq Less p e = rw e refl
 tie_eq Equal p e = rw e refl
@@ -75,7 +35,7 @@ tie_eq Greater p e = rw e refl
 
 pub same_before : (a b : Record) → same_record a b ≡ ties before a b
 unfolding before
-same_before a b = same_order a b ∙ tie_eq (record_order b a) (record_order a b) (record_total.antisymm a b)
+same_before a b = same_ties a b ∙ tie_eq (record_order b a) (record_order a b) (record_total.antisymm a b)
 
 turn_gt : (o p : Ordering) → p ≡ ordering_reverse o → is_gt p ≡ is_lt o
 turn_gt Less p e = rw e refl

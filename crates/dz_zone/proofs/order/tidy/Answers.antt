@@ -3,7 +3,8 @@ use Rattle.std.proofs.lemmas.Fn.{dedup_same}
 use Rattle.std.proofs.lemmas.List.Sorted.{answers_always}
 use Rattle.std.proofs.lemmas.List.Kept.{IsStrictlySortedBy-dedup}
 use Rattle.dz_record.specs.Record.{same_record}
-use Rattle.dz_zone.proofs.RecordLemmas.{before_is, record_total, same_order, rising_canonical, sorted_canonical}
+use Rattle.dz_record.specs.Order.{record_total, same_ties}
+use Rattle.dz_zone.proofs.RecordLemmas.{before_is, rising_canonical, sorted_canonical}
 use Rattle.dz_zone.proofs.order.tidy.Goals as goal
 
 pub returns-then-rises : goal.returns-then-rises
@@ -17,6 +18,6 @@ returns-in-Ok c =
     let up = c.in-Ok.ensures.sorted _ before_is (answers_always _ _ _ (λ f a r g h. search rules)) in
     let stable = c.sort_by.ensures.stable _ before_is (answers_always _ _ _ (λ f a r g h. search rules)) in
     record {
-      rises = rw kept (IsStrictlySortedBy-dedup record_total same_order _ up);
+      rises = rw kept (IsStrictlySortedBy-dedup record_total same_ties _ up);
       value = kept ∙ sorted_canonical _ _ up stable;
     }

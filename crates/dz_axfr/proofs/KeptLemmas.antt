@@ -1,0 +1,147 @@
+-- What is kept of a whole form while it is fed.
+use Rattle.std.proofs.Common.{◌≡◌, ℕ, suc, ◌+◌, ◌<◌, ◌≤◌, true, false, List, [], ◌∷◌, ◌++◌, length, take, drop, get_or, refl, sym, ◌∙◌, ap, subst, arith, Some, None, Result, Ok, Err}
+use Rattle.std.proofs.lemmas.List.{append-nil}
+use Rattle.std.proofs.lemmas.List.Quantifiers.{position-Some}
+use Rattle.std.specs.Str.{bytes_eq}
+use Rattle.std.specs.List.{AllByRecursion, position}
+use Rattle.dz_name.specs.Words.{Name}
+use Rattle.dz_record.specs.Record.{Record}
+use Rattle.dz_record.specs.Records.{distinct}
+use Rattle.dz_form.specs.declared.fault.Progress.{Progress}
+use Rattle.dz_form.specs.declared.fault.Progress.TheVariants.{More, Ended}
+use Rattle.dz_form.specs.declared.fault.FeedError.{FeedError}
+use Rattle.dz_form.specs.declared.fault.FeedError.TheVariants.{Shape, OutOfMemory}
+use Rattle.dz_form.specs.declared.fault.ShapeFault.TheVariants.{SerialGap, AfterEnd}
+use Rattle.dz_form.specs.Apex.{is_apex_soa}
+use Rattle.dz_form.specs.Feeding.{IsOpen, Says}
+use Rattle.dz_form.specs.Place.{amid, ended, failed, read, said}
+use Rattle.dz_form.specs.Stands.{Stands, more, complete, is_complete, IsComplete}
+use Rattle.dz_form.proofs.ReadingLemmas.{stays_failed, read_pieces}
+use Rattle.dz_axfr.specs.Assembly.{Assembly}
+use Rattle.dz_axfr.specs.Whole.{IsWhole, Blames}
+use Rattle.dz_axfr.specs.Reading.{nothing, opened, one, place_of}
+use Rattle.dz_axfr.specs.inner.Kept.{kept_place, OpensAt, IsKept, Extends}
+use Rattle.dz_axfr.proofs.ListLemmas.{front_fails, none_passes, some_behind, none_behind, cut_at}
+use Rattle.dz_axfr.proofs.WholeLemmas.{read_body, agrees, whole_stands, whole_stands_once}
+
+module _ (apex : Name) where
+  pub no_soa_there : (kept records : List Record) → OpensAt apex kept → position (is_apex_soa apex) records ≡ None → read (one apex) (kept_place More kept) records ≡ kept_place More (kept ++ records)
+  no_soa_there [] records o e = absurd o
+  no_soa_there (first ∷ body) records o e =
+      ap (λ l. read (one apex) (amid (opened first body)) l) (sym (append-nil records))
+      ∙ read_body apex first body records [] (none_passes (is_apex_soa apex) records e)
+
+  soa_there : (first x : Record) (body records : List Record) (at : ℕ) → position (is_apex_soa apex) records ≡ Some at → x ≡ get_or records at x
+      → (is_apex_soa apex x ≡ true) × (read (one apex) (amid (opened first body)) records ≡ read (one apex) (one apex (opened first (body ++ take at records)) x) (drop (suc at) records))
+  soa_there first x body records at e is =
+      let w = position-Some (is_apex_soa apex) records at x e in
+      let t : is_apex_soa apex x ≡ true = ap (is_apex_soa apex) is ∙ w.1 in
+      let inner : AllByRecursion (λ r. is_apex_soa apex r ≡ false) (take at records) = front_fails (is_apex_soa apex) records at x (λ k b l. w.2 k b) in
+      (t, ap (read (one apex) (amid (opened first body))) (cut_at records at x w.0 is) ∙ read_body apex first body (take at records) (x ∷ drop (suc at) records) inner)
+
+  pub other_rdata : (kept records : List Record) (first x : Record) (at : ℕ) → OpensAt apex kept → first ≡ get_or kept 0 first → position (is_apex_soa apex) records ≡ Some at → x ≡ get_or records at x
+      → bytes_eq x.rdata first.rdata ≡ false → read (one apex) (kept_place More kept) records ≡ failed SerialGap
+  other_rdata [] records first x at o f e is n = absurd o
+  other_rdata (soa ∷ body) records first x at o f e is n =
+      let w = soa_there soa x body records at e is in
+      let m : bytes_eq x.rdata soa.rdata ≡ false = rw f at n in
+      w.1 ∙ (rw (w.0, m) (stays_failed (one apex) SerialGap (drop (suc at) records)))
+
+  pub more_behind : (kept records : List Record) (first x : Record) (at : ℕ) → OpensAt apex kept → first ≡ get_or kept 0 first → position (is_apex_soa apex) records ≡ Some at → x ≡ get_or records at x
+      → bytes_eq x.rdata first.rdata ≡ true → at + 1 < length records → read (one apex) (kept_place More kept) records ≡ failed AfterEnd
+  more_behind [] records first x at o f e is n b = absurd o
+  more_behind (soa ∷ body) records first x at o f e is n b =
+      let w = soa_there soa x body records at e is in
+      let m : bytes_eq x.rdata soa.rdata ≡ true = rw f at n in
+      let v = some_behind records (suc at) (omega arith) in
+      w.1 ∙ (rw (w.0, m, v.2) (stays_failed (one apex) AfterEnd v.1))
+
+  pub at_the_end : (kept records : List Record) (first x : Record) (at : ℕ) → OpensAt apex kept → first ≡ get_or kept 0 first → position (is_apex_soa apex) records ≡ Some at → x ≡ get_or records at x
+      → bytes_eq x.rdata first.rdata ≡ true → length records ≤ at + 1 → read (one apex) (kept_place More kept) records ≡ kept_place Ended (kept ++ take at records)
+  at_the_end [] records first x at o f e is n b = absurd o
+  at_the_end (soa ∷ body) records first x at o f e is n b =
+      let w = soa_there soa x body records at e is in
+      let m : bytes_eq x.rdata soa.rdata ≡ true = rw f at n in
+      w.1 ∙ (rw (w.0, m, none_behind records (suc at) (omega arith)) refl)
+
+  pub still_opens : (kept rest : List Record) → OpensAt apex kept → OpensAt apex (kept ++ rest)
+  still_opens [] rest o = absurd o
+  still_opens (first ∷ body) rest o = o
+
+  -- the first SOA alone
+  pub one_kept : (first : Record) → is_apex_soa apex first ≡ true → IsKept apex (first ∷ []) More (first ∷ [])
+  one_kept first t = record { opens = t; place = rw t refl }
+
+  pub one_open : (first : Record) → is_apex_soa apex first ≡ true → IsOpen (IsWhole apex) Blames (first ∷ [])
+  one_open first t = rw t at (whole_stands apex (first ∷ []))
+
+  -- while more is to come, the end isn't there
+  more_amid : (progress : Progress) (kept : List Record) → more ≡ said (kept_place progress kept) → progress ≡ More
+  more_amid More kept e = refl
+  more_amid Ended kept e = absurd (cc)
+
+  pub still_open : (kept fed : List Record) (progress : Progress) → IsKept apex kept progress fed → IsOpen (IsWhole apex) Blames fed → progress ≡ More
+  still_open kept fed progress k o = more_amid progress kept (whole_stands_once apex fed more o ∙ ap said k.place)
+
+  -- what the records lead to behind those that were fed
+  pub fed_on : (kept fed records : List Record) (progress : Progress) → IsKept apex kept progress fed → IsOpen (IsWhole apex) Blames fed → place_of apex (fed ++ records) ≡ read (one apex) (kept_place More kept) records
+  fed_on kept fed records progress k o =
+      let f = still_open kept fed progress k o in
+      read_pieces (one apex) (amid nothing) fed records ∙ ap (λ p. read (one apex) p records) (k.place ∙ ap (λ p. kept_place p kept) f)
+
+  says_more : (new all : List Record) → OpensAt apex new → place_of apex all ≡ kept_place More new → Says (Ok More) (Stands (IsWhole apex) Blames all)
+  says_more [] all o e = absurd o
+  says_more (first ∷ body) all o e = rw e at (whole_stands apex all)
+
+  says_place : (result : Result Progress FeedError) (old new all records : List Record) → Extends apex old records result new → place_of apex all ≡ read (one apex) (kept_place More old) records → Says result (Stands (IsWhole apex) Blames all)
+  says_place (Ok More) old new all records x e = says_more new all x.0 (e ∙ x.1)
+  says_place (Ok Ended) old new all records x e = (distinct new, rw (e ∙ x.1) at (whole_stands apex all))
+  says_place (Err (Shape fault)) old new all records x e = rw (e ∙ x.1) at (whole_stands apex all)
+  says_place (Err OutOfMemory) old new all records x e = tt
+
+  -- what `extend` left says what stands of all records
+  pub extended_says : (result : Result Progress FeedError) (old new fed records : List Record) (progress : Progress) → IsKept apex old progress fed → IsOpen (IsWhole apex) Blames fed → Extends apex old records result new
+      → Says result (Stands (IsWhole apex) Blames (fed ++ records))
+  extended_says result old new fed records progress k o x = says_place result old new (fed ++ records) records x (fed_on old fed records progress k o)
+
+  -- the records of a whole form that was fed
+  ended_kept : (progress : Progress) (kept zone : List Record) → OpensAt apex kept → kept_place progress kept ≡ ended zone → kept_place progress kept ≡ ended (distinct kept)
+  ended_kept Ended kept zone o e = refl
+  ended_kept More [] zone o e = absurd o
+  ended_kept More (first ∷ body) zone o e = absurd (cc)
+
+  pub whole_kept : (kept fed : List Record) (progress : Progress) → IsKept apex kept progress fed → IsComplete (IsWhole apex) fed → IsWhole apex fed (distinct kept)
+  whole_kept kept fed progress k w =
+      let e : kept_place progress kept ≡ ended w.0 = sym k.place ∙ (agrees apex).to_end fed w.0 w.1 in
+      (agrees apex).from_end fed (distinct kept) (k.place ∙ ended_kept progress kept w.0 k.opens e)
+
+  -- what `extend` left is kept of all records
+  kept_on : (old new fed records : List Record) (before progress : Progress) → IsKept apex old before fed → IsOpen (IsWhole apex) Blames fed → Extends apex old records (Ok progress) new → IsKept apex new progress (fed ++ records)
+  kept_on old new fed records before progress k o x = record { opens = x.0; place = fed_on old fed records before k o ∙ x.1 }
+
+  -- the same of an assembler as contracts see it
+  pub seen_kept : (seen : Assembly) (old new fed records : List Record) (before progress : Progress) → record { apex = apex; fed = fed } ≡ seen → IsKept apex old before fed
+      → IsOpen (IsWhole seen.apex) Blames seen.fed → Extends apex old records (Ok progress) new → IsKept apex new progress (fed ++ records)
+  seen_kept seen old new fed records before progress e k =
+      subst (λ (s : Assembly). IsOpen (IsWhole s.apex) Blames s.fed → Extends apex old records (Ok progress) new → IsKept apex new progress (fed ++ records)) e
+      (λ o x. kept_on old new fed records before progress k o x)
+
+  pub seen_says : (seen : Assembly) (result : Result Progress FeedError) (old new fed records : List Record) (progress : Progress) → record { apex = apex; fed = fed } ≡ seen → IsKept apex old progress fed
+      → IsOpen (IsWhole seen.apex) Blames seen.fed → Extends apex old records result new → Says result (Stands (IsWhole seen.apex) Blames (seen.fed ++ records))
+  seen_says seen result old new fed records progress e k =
+      subst (λ (s : Assembly). IsOpen (IsWhole s.apex) Blames s.fed → Extends apex old records result new → Says result (Stands (IsWhole s.apex) Blames (s.fed ++ records))) e
+      (λ o x. extended_says result old new fed records progress k o x)
+
+  pub seen_whole : (seen : Assembly) (kept fed : List Record) (progress : Progress) → record { apex = apex; fed = fed } ≡ seen → IsKept apex kept progress fed
+      → IsComplete (IsWhole seen.apex) seen.fed → IsWhole seen.apex seen.fed (distinct kept)
+  seen_whole seen kept fed progress e k =
+      subst (λ (s : Assembly). IsComplete (IsWhole s.apex) s.fed → IsWhole s.apex s.fed (distinct kept)) e (λ w. whole_kept kept fed progress k w)
+
+-- at the end the records that were fed are a whole form
+whole_of : (apex : Name) (fed zone : List Record) → Stands (IsWhole apex) Blames fed (complete zone) → IsWhole apex fed zone
+whole_of apex fed zone (is_complete f) = f
+
+pub ended_whole : (now apex : Name) (progress : Progress) (fed all : List Record) → now ≡ apex → fed ≡ all → progress ≡ Ended → Says (Ok progress) (Stands (IsWhole apex) Blames all) → IsComplete (IsWhole now) fed
+ended_whole now apex progress fed all h f e s =
+    let w : Says (Ok Ended) (Stands (IsWhole apex) Blames all) = subst (λ p. Says (Ok p) (Stands (IsWhole apex) Blames all)) e s in
+    rw (h, f) (w.0, whole_of apex all w.0 w.1)

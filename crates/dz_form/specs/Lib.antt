@@ -1,0 +1,5 @@
+pub mod Apex
+pub mod Feeding
+pub mod Place
+pub mod Stands
+pub mod inner

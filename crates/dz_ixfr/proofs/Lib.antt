@@ -1,0 +1,11 @@
+pub mod Amids
+pub mod ChangeLemmas
+pub mod FedLemmas
+pub mod FromEnd
+pub mod KeptLemmas
+pub mod OverlayLemmas
+pub mod Searched
+pub mod Soas
+pub mod Standings
+pub mod Ties
+pub mod ToEnd

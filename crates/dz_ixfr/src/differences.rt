@@ -1,0 +1,231 @@
+//! The incremental form, fed record by record.
+
+ghost use Rattle.std.specs.Prelude.{◌≡◌, ◌∷◌, ◌++◌, [], true, false, IfOk, OnOk};
+ghost use Rattle.dz_form.specs.Apex.{is_apex_soa, serial_of};
+ghost use Rattle.dz_form.specs.Feeding.{IsOpen, Says};
+ghost use Rattle.dz_form.specs.Stands.{Stands, IsComplete};
+ghost use Rattle.dz_ixfr.specs.Incremental.{IsIncremental, Blames};
+ghost use Rattle.dz_ixfr.specs.Reading.{reading_of};
+ghost use Rattle.dz_ixfr.specs.inner.Kept.{IsAtEnd};
+
+use crate::standing::Standing;
+use dz_form::{Fed, FeedError, Progress, ShapeFault, apex_serial, held_serial, same_rdata};
+use dz_name::Name;
+use dz_record::Rr;
+use dz_zone::Version;
+use std::alloc::{AllocError, Global};
+use std::marker::Model;
+use std::mem::replace;
+use std::snapshot::Snapshot;
+
+/// Where the form is.
+#[derive(Clone, Copy, Debug, PartialEq, Eq)]
+enum Stage {
+    /// The first SOA was read. The first difference begins at this serial.
+    Begun(u32),
+    /// Among deleted records.
+    Deleting,
+    /// Among the records that are added behind an SOA of this serial.
+    Adding(u32),
+    /// The closing SOA was read.
+    Ended,
+    /// What stood is gone, for want of memory at the end.
+    Lost,
+}
+
+/// What stands of a held zone, as far as its differences were read. Contracts see the held zone and all records that
+/// were fed.
+#[derive(Drop)]
+pub struct Differences {
+    alloc: Global,
+    held: Snapshot<Version>,
+    fed: Fed,
+    apex: Name,
+    first: Rr,
+    /// The serial of the first SOA.
+    goal: u32,
+    stage: Stage,
+    standing: Standing,
+    /// The records of the zone, once the form has ended.
+    zone: Vec<Rr>,
+}
+
+impl Model for Differences {
+    ghost use Rattle.dz_ixfr.specs.Assembly.{Assembly};
+    ghost use Rattle.dz_ixfr.specs.inner.Kept.{IsKept};
+
+    ghost Value = { Assembly };
+
+    ghost view = { λ d. record { held = d.held.value; fed = d.fed } };
+
+    ghost invariant = { λ d. IsKept d.held.value d.fed d.apex d.goal d.first d.stage d.standing d.zone.items };
+}
+
+impl Differences {
+    /// A form that begins with this SOA, whose owner is the apex of the held version. The held records are shared.
+    ///
+    /// # Errors
+    ///
+    /// `AllocError` where there is no memory for the records that stand.
+    pub fn start(alloc: Global, held: &Version, first: Rr) -> Result<Differences, AllocError>
+        requires soa { is_apex_soa held.now.apex first ≡ true }
+        ensures started { IfOk result (λ d. d ≡ record { held = held.now; fed = first ∷ [] }) }
+        ensures is_open { IfOk result (λ d. IsOpen (IsIncremental held.now) (Blames held.now.apex) (first ∷ [])) }
+    {
+        let goal = match apex_serial(held.apex(), &first) {
+            Some(serial) => serial,
+            None => unreachable!(),
+        };
+        let standing = Standing::over(alloc, held)?;
+        Ok(Differences {
+            alloc,
+            held: Snapshot::of(held),
+            fed: Fed::nothing().and(&first),
+            apex: *held.apex(),
+            first,
+            goal,
+            stage: Stage::Begun(held_serial(held)),
+            standing,
+            zone: Vec::new(alloc),
+        })
+    }
+
+    /// Reads on: whether the records that were fed are a whole form, or more is to come. After the end, and after an
+    /// error, it is fed no more.
+    ///
+    /// # Errors
+    ///
+    /// The fault of the first record with which no whole form goes on, or `AfterEnd` where records stand behind one; or
+    /// want of memory.
+    pub fn feed(&mut self, records: Vec<Rr>) -> Result<Progress, FeedError>
+        requires { IsOpen (IsIncremental self.old.held) (Blames self.old.held.apex) self.old.fed }
+        ensures held { self.new.held ≡ self.old.held }
+        ensures fed { OnOk result (self.new.fed ≡ self.old.fed ++ records.items) }
+        ensures says { Says result (Stands (IsIncremental self.old.held) (Blames self.old.held.apex) (self.old.fed ++ records.items)) }
+    {
+        let mut progress = Progress::More;
+        let mut rest = records.into_iter();
+        'records: while let Some(found) = rest.next() {
+            match self.take(found) {
+                Ok(next) => progress = next,
+                Err(error) => return Err(error),
+            }
+        }
+        Ok(progress)
+    }
+
+    /// The records of the zone, in canonical order: the first SOA and what stands.
+    pub fn finish(self) -> Vec<Rr>
+        requires { IsComplete (IsIncremental self.held) self.fed }
+        ensures { IsIncremental self.held self.fed result.items }
+    {
+        self.zone
+    }
+
+    /// Reads one record. A fault leaves what was read as it was.
+    fn take(&mut self, found: Rr) -> Result<Progress, FeedError>
+        ensures held { self.new.held ≡ self.old.held }
+        ensures fed { OnOk result (self.new.fed ≡ self.old.fed ++ found ∷ []) }
+        ensures says { Says result (λ reading. reading ≡ reading_of self.old.held (self.old.fed ++ found ∷ [])) }
+    {
+        match apex_serial(&self.apex, &found) {
+            Some(serial) => self.take_soa(serial, found),
+            None => self.take_other(found),
+        }
+    }
+
+    /// Reads an SOA of the apex, which has this serial.
+    fn take_soa(&mut self, serial: u32, found: Rr) -> Result<Progress, FeedError>
+        requires soa { is_apex_soa self.old.held.apex found ≡ true }
+        requires serial { serial ≡ serial_of found }
+        ensures held { self.new.held ≡ self.old.held }
+        ensures fed { OnOk result (self.new.fed ≡ self.old.fed ++ found ∷ []) }
+        ensures says { Says result (λ reading. reading ≡ reading_of self.old.held (self.old.fed ++ found ∷ [])) }
+    {
+        match self.stage {
+            Stage::Begun(held) => {
+                if serial != held {
+                    return Err(FeedError::Shape(ShapeFault::SerialGap));
+                }
+                self.stage = Stage::Deleting;
+                self.fed = self.fed.and(&found);
+                Ok(Progress::More)
+            }
+            Stage::Deleting => {
+                self.stage = Stage::Adding(serial);
+                self.fed = self.fed.and(&found);
+                Ok(Progress::More)
+            }
+            Stage::Adding(last) => {
+                if last == self.goal {
+                    return self.close(found);
+                }
+                if serial != last {
+                    return Err(FeedError::Shape(ShapeFault::SerialGap));
+                }
+                self.stage = Stage::Deleting;
+                self.fed = self.fed.and(&found);
+                Ok(Progress::More)
+            }
+            Stage::Ended => Err(FeedError::Shape(ShapeFault::AfterEnd)),
+            Stage::Lost => Err(FeedError::Shape(ShapeFault::AfterEnd)),
+        }
+    }
+
+    /// Reads the closing SOA, and makes the zone.
+    fn close(&mut self, found: Rr) -> Result<Progress, FeedError>
+        requires soa { is_apex_soa self.old.held.apex found ≡ true }
+        requires here { IsAtEnd self.old.held self.old.fed }
+        ensures held { self.new.held ≡ self.old.held }
+        ensures fed { OnOk result (self.new.fed ≡ self.old.fed ++ found ∷ []) }
+        ensures says { Says result (λ reading. reading ≡ reading_of self.old.held (self.old.fed ++ found ∷ [])) }
+    {
+        if !same_rdata(&found, &self.first) {
+            return Err(FeedError::Shape(ShapeFault::SerialGap));
+        }
+        let first = self.first.share()?;
+        let standing = replace(&mut self.standing, Standing::none(self.alloc));
+        match standing.merge(self.alloc, first) {
+            Ok(zone) => {
+                self.zone = zone;
+                self.stage = Stage::Ended;
+                self.fed = self.fed.and(&found);
+                Ok(Progress::Ended)
+            }
+            Err(_) => {
+                self.stage = Stage::Lost;
+                self.fed = self.fed.and(&found).and(&found);
+                Err(FeedError::OutOfMemory)
+            }
+        }
+    }
+
+    /// Reads a record that is no SOA of the apex.
+    fn take_other(&mut self, found: Rr) -> Result<Progress, FeedError>
+        requires other { is_apex_soa self.old.held.apex found ≡ false }
+        ensures held { self.new.held ≡ self.old.held }
+        ensures fed { OnOk result (self.new.fed ≡ self.old.fed ++ found ∷ []) }
+        ensures says { Says result (λ reading. reading ≡ reading_of self.old.held (self.old.fed ++ found ∷ [])) }
+    {
+        match self.stage {
+            Stage::Begun(_) => Err(FeedError::Shape(ShapeFault::SerialGap)),
+            Stage::Deleting => {
+                if !self.standing.remove(&found) {
+                    return Err(FeedError::Shape(ShapeFault::DeleteMissing));
+                }
+                self.fed = self.fed.and(&found);
+                Ok(Progress::More)
+            }
+            Stage::Adding(_) => {
+                let fed = self.fed.and(&found);
+                if !self.standing.insert(found)? {
+                    return Err(FeedError::Shape(ShapeFault::AddPresent));
+                }
+                self.fed = fed;
+                Ok(Progress::More)
+            }
+            Stage::Ended => Err(FeedError::Shape(ShapeFault::AfterEnd)),
+            Stage::Lost => Err(FeedError::Shape(ShapeFault::AfterEnd)),
+        }
+    }
+}

@@ -1,0 +1,12 @@
+//! Differences between versions of a zone (RFC 1995 section 4), assembled from the records of message after message.
+#![tactic(auto)]
+
+mod differences;
+mod laws;
+mod standing;
+#[cfg(test)]
+mod tests;
+
+pub use differences::Differences;
+pub use dz_form::{FeedError, Progress, ShapeFault};
+pub use laws::{changes_tell, incremental_form};

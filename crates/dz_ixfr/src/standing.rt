@@ -1,0 +1,246 @@
+//! What stands of a held zone while differences are applied.
+
+ghost use Rattle.std.specs.Prelude.{◌≡◌, ◌<◌, [], false, length, not, filter, map, slice_index_or, slice_set, IfOk, OnErr, OnOk};
+ghost use Rattle.std.specs.BTreeMap.{is_at};
+ghost use Rattle.std.specs.BTreeSet.{insert_key};
+ghost use Rattle.std.specs.Bool.{OnTrue, OnFalse};
+ghost use Rattle.std.specs.List.Sorted.{IsStrictlySortedBy};
+ghost use Rattle.std.specs.Set.{remove_key};
+ghost use Rattle.dz_record.specs.Record.{Record, record_order};
+ghost use Rattle.dz_record.specs.Records.{insertion};
+ghost use Rattle.dz_form.specs.Apex.{is_apex_soa};
+ghost use Rattle.dz_ixfr.specs.Incremental.{is_there, without, others};
+ghost use Rattle.dz_ixfr.specs.inner.Overlay.{Flagged, flagged, fallen, items, left_of, overlaid, has_tie, Rises, Finds, IsOverlay, first_before, Moves};
+
+use dz_form::is_apex_soa;
+use dz_name::Name;
+use dz_record::Rr;
+use dz_zone::Version;
+use std::alloc::{AllocError, Global};
+use std::cmp::Ordering;
+use std::collections::BTreeSet;
+use std::marker::Model;
+
+/// A record of the held zone, and whether it still stands.
+#[derive(Debug, Drop)]
+struct Held {
+    record: Rr,
+    stands: bool,
+}
+
+impl Model for Held {
+    ghost use Rattle.dz_record.specs.Record.{Record};
+    ghost use Rattle.dz_ixfr.specs.inner.Overlay.{Flagged};
+
+    ghost Value = { Flagged Record };
+
+    ghost view = { λ h. record { item = h.record; stands = h.stands } };
+}
+
+impl Held {
+    fn record(&self) -> &Rr
+        ensures { result.now ≡ self.now.item }
+    {
+        &self.record
+    }
+
+    fn stands(&self) -> bool
+        ensures { result ≡ self.now.stands }
+    {
+        self.stands
+    }
+
+    fn fall(&mut self)
+        ensures { self.new ≡ fallen self.old }
+    {
+        self.stands = false;
+    }
+}
+
+/// The held records in canonical order, each with a flag, and those that joined.
+#[derive(Debug, Drop)]
+pub(crate) struct Standing {
+    base: Vec<Held>,
+    added: BTreeSet<Rr>,
+}
+
+impl Model for Standing {
+    ghost use Rattle.std.specs.Prelude.{List};
+    ghost use Rattle.dz_record.specs.Record.{Record, record_order};
+    ghost use Rattle.dz_ixfr.specs.inner.Overlay.{IsOverlay, left_of, overlaid};
+
+    ghost Value = { List Record };
+
+    ghost view = { λ s. overlaid record_order s.added.keys (left_of s.base.items) };
+
+    ghost invariant = { λ s. IsOverlay record_order s.base.items s.added.keys };
+}
+
+impl Standing {
+    /// Nothing stands. It takes no memory.
+    pub(crate) fn none(alloc: Global) -> Standing
+        ensures { result ≡ [] }
+    {
+        Standing {
+            base: Vec::new(alloc),
+            added: BTreeSet::new(alloc),
+        }
+    }
+
+    /// The records of a version without the SOA of its apex; they are shared.
+    pub(crate) fn over(alloc: Global, held: &Version) -> Result<Standing, AllocError>
+        ensures { IfOk result (λ s. s ≡ others held.now) }
+    {
+        let base = shared(alloc, held.apex(), held.records())?;
+        let added = BTreeSet::new(alloc);
+        Ok(Standing { base, added })
+    }
+
+    /// Takes a record away, whatever its TTL, and says whether it was there.
+    pub(crate) fn remove(&mut self, found: &Rr) -> bool
+        ensures there { result ≡ is_there found.now self.old }
+        ensures left { self.new ≡ without found.now self.old }
+    {
+        if leave(&mut self.added, found) {
+            return true;
+        }
+        match search(self.base.as_slice(), found) {
+            Err(_) => false,
+            Ok(at) => {
+                let stood = self.base[at].stands();
+                fall_at(&mut self.base, at);
+                stood
+            }
+        }
+    }
+
+    /// Puts a record at its place unless the same is there, and says whether it was not. Where memory is wanting, what
+    /// stands is as it was.
+    pub(crate) fn insert(&mut self, found: Rr) -> Result<bool, AllocError>
+        ensures added { IfOk result (λ added. added ≡ not (is_there found self.old)) }
+        ensures joined { IfOk result (λ added. OnTrue added (self.new ≡ insertion found self.old)) }
+        ensures kept { IfOk result (λ added. OnFalse added (self.new ≡ self.old)) }
+        ensures unchanged { OnErr result (self.new ≡ self.old) }
+    {
+        if stands_in(self.base.as_slice(), &found) {
+            return Ok(false);
+        }
+        join(&mut self.added, found)
+    }
+
+    /// All that stands, and the SOA at its place, in one pass that merges.
+    pub(crate) fn merge(mut self, alloc: Global, soa: Rr) -> Result<Vec<Rr>, AllocError>
+        requires { is_there soa self ≡ false }
+        ensures { IfOk result (λ v. v.items ≡ insertion soa self) }
+    {
+        self.insert(soa)?;
+        let Standing { base, added } = self;
+        merged(alloc, base, added)
+    }
+}
+
+/// The records but the SOA of the apex; their octets are shared.
+fn shared(alloc: Global, apex: &Name, records: &[Rr]) -> Result<Vec<Held>, AllocError>
+    ensures { IfOk result (λ v. v.items ≡ map flagged (filter (λ r. not (is_apex_soa apex.now r)) records.now)) }
+{
+    let mut base = Vec::with_capacity(alloc, records.len())?;
+    'records: for found in records {
+        if !is_apex_soa(apex, found) {
+            base.push(Held {
+                record: found.share()?,
+                stands: true,
+            })?;
+        }
+    }
+    Ok(base)
+}
+
+/// Takes a record out of those that joined, and says whether it was among them.
+fn leave(added: &mut BTreeSet<Rr>, found: &Rr) -> bool
+    ensures there { result ≡ has_tie record_order found.now added.old.keys }
+    ensures left { added.new.keys ≡ remove_key (is_at (record_order found.now)) added.old.keys }
+{
+    added.remove(found)
+}
+
+/// Puts a record among those that joined unless it ties one, and says whether it doesn't.
+fn join(added: &mut BTreeSet<Rr>, found: Rr) -> Result<bool, AllocError>
+    ensures new { IfOk result (λ new. new ≡ not (has_tie record_order found added.old.keys)) }
+    ensures joined { OnOk result (added.new.keys ≡ insert_key record_order added.old.keys found) }
+    ensures rises { OnOk result (IsStrictlySortedBy record_order added.new.keys) }
+    ensures kept { IfOk result (λ new. OnFalse new (added.new.keys ≡ added.old.keys)) }
+    ensures unchanged { OnErr result (added.new.keys ≡ added.old.keys) }
+{
+    let new = added.insert(found)?;
+    Ok(new)
+}
+
+/// Where the record stands in the base, or where it would.
+fn search(base: &[Held], found: &Rr) -> Result<usize, usize>
+    requires { Rises record_order (items base.now) }
+    ensures { Finds record_order base.now found.now result }
+{
+    base.binary_search_by(|held| held.record().record_cmp(found))
+}
+
+/// Clears a flag.
+fn fall_at(base: &mut Vec<Held>, at: usize)
+    requires { at < length base.old.items }
+    ensures { (b : Flagged Record) → b ≡ slice_index_or base.old.items at b → base.new.items ≡ slice_set base.old.items at (fallen b) }
+{
+    base[at].fall();
+}
+
+/// Whether a record of the base stands.
+fn stands_in(base: &[Held], found: &Rr) -> bool
+    requires { Rises record_order (items base.now) }
+    ensures { result ≡ is_there found.now (left_of base.now) }
+{
+    match search(base, found) {
+        Err(_) => false,
+        Ok(at) => base[at].stands(),
+    }
+}
+
+/// Whether the first record that joined comes before this one.
+fn comes_first(added: &BTreeSet<Rr>, bound: &Rr) -> bool
+    ensures { result ≡ first_before record_order added.now.keys bound.now }
+{
+    match added.first() {
+        Some(first) => first.record_cmp(bound) == Ordering::Less,
+        None => false,
+    }
+}
+
+/// Moves the records that come before this one.
+fn push_before(out: &mut Vec<Rr>, added: &mut BTreeSet<Rr>, bound: &Rr) -> Result<(), AllocError>
+    ensures { OnOk result (Moves record_order out.old.items added.old.keys bound.now out.new.items added.new.keys) }
+{
+    'added: while comes_first(added, bound) {
+        match added.pop_first() {
+            Some(first) => out.push(first)?,
+            None => return Ok(()),
+        }
+    }
+    Ok(())
+}
+
+/// The records that stand and those that joined, in order, in one pass.
+fn merged(alloc: Global, base: Vec<Held>, mut added: BTreeSet<Rr>) -> Result<Vec<Rr>, AllocError>
+    requires { IsOverlay record_order base.items added.keys }
+    ensures { IfOk result (λ v. v.items ≡ overlaid record_order added.keys (left_of base.items)) }
+{
+    let mut out = Vec::with_capacity(alloc, base.len().saturating_add(added.len()))?;
+    let mut rest = base.into_iter();
+    'base: while let Some(held) = rest.next() {
+        let Held { record, stands } = held;
+        if stands {
+            push_before(&mut out, &mut added, &record)?;
+            out.push(record)?;
+        }
+    }
+    'added: while let Some(found) = added.pop_first() {
+        out.push(found)?;
+    }
+    Ok(out)
+}

@@ -1,0 +1,11 @@
+use Rattle.std.proofs.Common.{◌≡◌, ◌∙◌, ap, [], refl}
+use Rattle.dz_take.proofs.KindLemmas.{form_first, owner_is, none_first}
+use Rattle.dz_take.proofs.state.begin_form.Goals as goal
+
+pub feed_whole-requires-clause-apex : goal.feed_whole-requires-clause-apex
+feed_whole-requires-clause-apex c = ap (λ w. w.apex) c.in_ok-whole-in-None-differences_base.ensures.started ∙ owner_is c.args.transfer.now.apex c.args.first c.requires.soa
+
+pub returns-in-None : goal.returns-in-None
+returns-in-None c =
+    let none : c.args.records.items ≡ [] = none_first c.args.records.items (rw c.deref.ensures.value at c.in-None.ensures.value) in
+    rw none (form_first c.args.transfer.now c.args.first c.requires, refl, c.requires)

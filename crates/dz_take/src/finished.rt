@@ -1,0 +1,90 @@
+//! A transfer that was read.
+
+ghost use Rattle.std.specs.Prelude.{◌≡◌, length, option_map};
+ghost use Rattle.dz_take.specs.Outcome.{outcome, octets_used};
+ghost use Rattle.dz_take.specs.Taken.{IsTransfer, IsFinished, meaning_of};
+
+use crate::ask::Ask;
+use crate::outcome::Outcome;
+use crate::transfer::Transfer;
+use dz_name::{Name, Octets};
+use dz_zone::Version;
+use std::marker::Model;
+use std::sync::Arc;
+
+/// A transfer that was read, and what came of it. Contracts see the transfer and the octets that were read: its outcome
+/// is that of these octets, and no octets stand behind those that decide it.
+#[derive(Debug, Drop)]
+pub struct Finished {
+    transfer: Transfer,
+    octets: Octets,
+    outcome: Outcome,
+}
+
+impl Model for Finished {
+    ghost use Rattle.dz_take.specs.Taken.{Taken, IsFinished};
+
+    ghost Value = { Taken };
+
+    ghost view = { λ f. record { transfer = f.transfer; octets = f.octets } };
+
+    ghost invariant = { λ f. IsFinished f.transfer f.octets f.outcome };
+}
+
+impl Finished {
+    pub(crate) fn new(transfer: Transfer, octets: Octets, outcome: Outcome) -> Finished
+        requires { IsFinished transfer octets outcome }
+        ensures { result ≡ record { transfer = transfer; octets = octets } }
+    {
+        Finished {
+            transfer,
+            octets,
+            outcome,
+        }
+    }
+
+    /// The zone.
+    pub fn apex(&self) -> &Name
+        ensures { result.now ≡ self.now.transfer.apex }
+    {
+        self.transfer.apex()
+    }
+
+    /// What was asked for.
+    pub fn ask(&self) -> Ask
+        ensures { result ≡ self.now.transfer.ask }
+    {
+        self.transfer.ask()
+    }
+
+    /// The ID of the query.
+    pub fn id(&self) -> u16
+        ensures { result ≡ self.now.transfer.id }
+    {
+        self.transfer.id()
+    }
+
+    /// The version that was held as the transfer began, as it is shared.
+    pub fn held(&self) -> Option<&Arc<Version>>
+        ensures held { option_map (λ r. r.now.value) result ≡ self.now.transfer.held }
+        ensures valid { IsTransfer self.now.transfer }
+    {
+        self.transfer.held();
+        self.transfer.shared()
+    }
+
+    /// The octets that were read: the messages, each behind its length. All of them are used.
+    pub fn octets(&self) -> &Octets
+        ensures octets { result.now ≡ self.now.octets }
+        ensures used { octets_used self.now.transfer self.now.octets ≡ length self.now.octets }
+    {
+        &self.octets
+    }
+
+    /// What came of the transfer.
+    pub fn outcome(&self) -> &Outcome
+        ensures { meaning_of result.now ≡ outcome self.now.transfer self.now.octets }
+    {
+        &self.outcome
+    }
+}

@@ -1,0 +1,24 @@
+//! What comes of the octets of a transfer (RFC 5936, RFC 1995), message by message.
+#![tactic(auto)]
+
+mod ask;
+mod finished;
+mod fits;
+mod judging;
+mod laws;
+mod outcome;
+mod state;
+mod taking;
+#[cfg(test)]
+mod tests;
+mod transfer;
+
+pub use ask::Ask;
+pub use dz_form::{Progress, ShapeFault};
+pub use dz_message::MessageFault;
+pub use dz_zone::ZoneFault;
+pub use finished::Finished;
+pub use fits::outcomes_fit;
+pub use laws::{first_decides, form_decides, messages_decide};
+pub use outcome::{Outcome, TakeFault};
+pub use taking::Taking;

@@ -1,0 +1,40 @@
+//! What comes of a transfer.
+
+use dz_form::ShapeFault;
+use dz_message::MessageFault;
+use dz_zone::{Version, ZoneFault};
+use std::sync::Arc;
+
+/// Why a transfer is refused.
+#[derive(Clone, Copy, Debug, PartialEq, Eq)]
+pub enum TakeFault {
+    /// The stream ended before the form was complete.
+    Incomplete,
+    /// The octets of a message spell none.
+    Message(MessageFault),
+    /// A message isn't a response to the query's ID with opcode QUERY.
+    WrongId,
+    /// The first message has no question, or a message has another question than the query's.
+    WrongQuestion,
+    /// The response code of a message, which isn't 0.
+    Rcode(u8),
+    /// The records are no form.
+    Shape(ShapeFault),
+    /// The records are no zone.
+    Zone(ZoneFault),
+    /// The serial of the first SOA, which is neither the held one nor newer.
+    OldSerial(u32),
+    /// The stream is longer than 67,108,864 octets ([`dz_name::dns::TRANSFER_OCTETS`]).
+    TooLong,
+}
+
+/// What comes of a transfer.
+#[derive(Debug, Drop)]
+pub enum Outcome {
+    /// The primary has the version that is held.
+    UpToDate,
+    /// A newer version, or the first.
+    New(Arc<Version>),
+    /// None, and why.
+    Refused(TakeFault),
+}
