@@ -4,7 +4,7 @@ ghost use Rattle.std.specs.Prelude.{◌≡◌, ◌+◌, ◌<◌, ◌≤◌, leng
 ghost use Rattle.dz_header.specs.Question.{question_at};
 
 use dz_name::numbers::number_of_two;
-use dz_name::{Name, WireFault};
+use dz_name::{Name, Wire, WireFault};
 
 /// How many octets the type and the class of a question have (RFC 1035 section 4.1.2).
 pub const QUESTION_OCTETS: usize = 4;
@@ -23,18 +23,19 @@ pub struct Question {
 ///
 /// The first fault of its name, and then `Short` where type and class aren't all there.
 #[tactic(auto, unfolding(crate::specs::Question::question_at))]
-pub fn read_question(message: &[u8], at: usize) -> Result<(Question, usize), WireFault>
+pub fn read_question(message: &Wire<'_>, at: usize) -> Result<(Question, usize), WireFault>
     ensures reads { result ≡ question_at message.now at }
     ensures place { IfOk result (λ r. (at + QUESTION_OCTETS < r.1) × (r.1 ≤ length message.now)) }
 {
-    let (name, end) = match Name::read_at(message, at) {
+    let (name, end) = match Name::read_in(message, at) {
         Ok(found) => found,
         Err(fault) => return Err(fault),
     };
-    if message.len() - end < QUESTION_OCTETS {
+    let octets = message.octets();
+    if octets.len() - end < QUESTION_OCTETS {
         return Err(WireFault::Short);
     }
-    let behind = message.split_at(end).1;
+    let behind = octets.split_at(end).1;
     let question = Question {
         name,
         kind: number_of_two(behind),

@@ -2,7 +2,7 @@ use crate::{
     Edns, Flags, Header, RecordHead, ReplyBuffer, ResponseCode, Shape, Writer, edns_of, put_opt,
     read_head, read_header, read_question, read_shape, skip_records, write_header,
 };
-use dz_name::WireFault;
+use dz_name::{Wire, WireFault};
 use std::process::Abort;
 use std::test::*;
 
@@ -176,14 +176,14 @@ fn edns_is_read_and_written(rt: HostRuntime) -> Result<(), Fail> {
 #[test]
 fn questions_are_read_with_pointers(rt: HostRuntime) {
     let message = b"\x07Example\0\x03www\xc0\0\0\x1c\0\x01".as_slice();
-    match read_question(message, 9) {
+    match read_question(&Wire::plain(message), 9) {
         Ok((question, end)) => {
             assert!(rt; question.name.wire() == b"\x03www\x07example\0".as_slice());
             assert!(rt; question.kind == 28 && question.class == 1 && end == 19);
         }
         Err(fault) => panic!(rt; "{fault:?}"),
     }
-    match read_question(&message[..18], 9) {
+    match read_question(&Wire::plain(&message[..18]), 9) {
         Ok(_) => panic!(rt; "a class of one octet"),
         Err(fault) => assert_eq!(rt; fault, WireFault::Short),
     }

@@ -12,7 +12,7 @@ use dz_header::{
     HEAD_OCTETS, Header, Question, RecordHead, read_head, read_header, read_question, skip_records,
 };
 use dz_name::dns::{CLASS_IN, HEADER_OCTETS, MESSAGE_OCTETS};
-use dz_name::{Name, Octets};
+use dz_name::{Name, Octets, Wire, landings_of};
 use dz_record::{Field, Rr, fields_of, is_bad_type};
 use std::alloc::Global;
 
@@ -48,8 +48,10 @@ fn read_content(alloc: Global, octets: &[u8], header: Header) -> Result<Message,
     requires { HEADER_OCTETS ≤ length octets.now }
     ensures { Gives (λ m. m) result (content_of octets.now header) }
 {
-    let (questions, at) = read_questions(alloc, octets, header.counts[0], HEADER_OCTETS)?;
-    let (answers, at) = read_answers(alloc, octets, header.counts[1], at)?;
+    let landings = landings_of(alloc, octets)?;
+    let message = Wire::with_landings(octets, &landings);
+    let (questions, at) = read_questions(alloc, &message, header.counts[0], HEADER_OCTETS)?;
+    let (answers, at) = read_answers(alloc, &message, header.counts[1], at)?;
     read_end(octets, at, header.counts[2], header.counts[3])?;
     Ok(Message::new(header, questions, answers))
 }
@@ -68,7 +70,7 @@ fn read_end(octets: &[u8], at: usize, authority: u16, additional: u16) -> Result
 
 fn read_questions(
     alloc: Global,
-    message: &[u8],
+    message: &Wire<'_>,
     count: u16,
     at: usize,
 ) -> Result<(Vec<Question>, usize), MessageError>
@@ -87,7 +89,7 @@ fn read_questions(
 }
 
 #[tactic(auto, unfolding(crate::specs::Reading::question_in))]
-fn read_question_in(message: &[u8], at: usize) -> Result<(Question, usize), MessageFault>
+fn read_question_in(message: &Wire<'_>, at: usize) -> Result<(Question, usize), MessageFault>
     ensures reads { result ≡ question_in message.now at }
     ensures within { IfOk result (λ x. x.1 ≤ length message.now) }
 {
@@ -99,7 +101,7 @@ fn read_question_in(message: &[u8], at: usize) -> Result<(Question, usize), Mess
 
 fn read_answers(
     alloc: Global,
-    message: &[u8],
+    message: &Wire<'_>,
     count: u16,
     at: usize,
 ) -> Result<(Vec<Rr>, usize), MessageError>
@@ -118,12 +120,12 @@ fn read_answers(
 }
 
 #[tactic(auto, unfolding(crate::specs::Reading::record_at))]
-fn read_record(alloc: Global, message: &[u8], at: usize) -> Result<(Rr, usize), MessageError>
+fn read_record(alloc: Global, message: &Wire<'_>, at: usize) -> Result<(Rr, usize), MessageError>
     ensures reads { Gives (λ x. (x.0, x.1)) result (record_at message.now at) }
     ensures within { IfOk result (λ x. x.1 ≤ length message.now) }
 {
-    let (owner, at) = Name::read_at(message, at)?;
-    let head = read_head_at(message, at)?;
+    let (owner, at) = Name::read_in(message, at)?;
+    let head = read_head_at(message.octets(), at)?;
     let rdata = read_rdata(alloc, message, at + HEAD_OCTETS, head)?;
     Ok((
         Rr::from_parts(alloc, &owner, head.kind, head.ttl, rdata.as_slice())?,
@@ -148,7 +150,7 @@ fn read_head_at(message: &[u8], at: usize) -> Result<RecordHead, MessageFault>
 #[tactic(auto, unfolding(crate::specs::Reading::rdata_of))]
 fn read_rdata(
     alloc: Global,
-    message: &[u8],
+    message: &Wire<'_>,
     at: usize,
     head: RecordHead,
 ) -> Result<Octets, MessageError>
@@ -162,7 +164,7 @@ fn read_rdata(
         return Err(MessageError::Fault(MessageFault::BadType));
     }
     let size = head.size as usize;
-    if message.len() - at < size {
+    if message.octets().len() - at < size {
         return Err(MessageError::Fault(MessageFault::Wire));
     }
     let mut out = Vec::with_capacity(alloc, size)?;
@@ -175,7 +177,7 @@ fn read_rdata(
 
 /// Appends the canonical form of the fields that stand between two offsets.
 fn read_fields(
-    message: &[u8],
+    message: &Wire<'_>,
     at: usize,
     end: usize,
     fields: &[Field],
@@ -198,7 +200,7 @@ fn read_fields(
 
 /// Appends the canonical form of one field, and says where it ends.
 fn read_field(
-    message: &[u8],
+    message: &Wire<'_>,
     at: usize,
     end: usize,
     field: Field,
@@ -210,17 +212,14 @@ fn read_field(
     ensures within { IfOk result (λ next. next ≤ end) }
 {
     match field {
-        Field::FixedLength(count) => read_octets(message, at, end, count as usize, out),
+        Field::FixedLength(count) => read_octets(message.octets(), at, end, count as usize, out),
         Field::DomainName => read_name(message, at, end, out),
-        Field::CharacterString if at < end => read_octets(
-            message,
-            at,
-            end,
-            message[at] as usize + 1,
-            out,
-        ),
+        Field::CharacterString if at < end => {
+            let octets = message.octets();
+            read_octets(octets, at, end, octets[at] as usize + 1, out)
+        }
         Field::CharacterString => Err(MessageError::Fault(MessageFault::BadRdata)),
-        Field::Remainder => read_octets(message, at, end, end - at, out),
+        Field::Remainder => read_octets(message.octets(), at, end, end - at, out),
     }
 }
 
@@ -246,7 +245,7 @@ fn read_octets(
 
 #[tactic(auto, unfolding(crate::specs::Reading::name_within))]
 fn read_name(
-    message: &[u8],
+    message: &Wire<'_>,
     at: usize,
     end: usize,
     out: &mut Vec<u8>,
@@ -256,7 +255,7 @@ fn read_name(
     ensures reads { AppendsOne out.old.items out.new.items result (name_within message.now at end) }
     ensures within { IfOk result (λ next. next ≤ end) }
 {
-    let (name, next) = Name::read_at(message, at)?;
+    let (name, next) = Name::read_in(message, at)?;
     if end < next {
         return Err(MessageError::Fault(MessageFault::BadRdata));
     }

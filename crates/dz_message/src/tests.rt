@@ -57,6 +57,23 @@ fn names_may_be_pointers_and_come_in_lower_case(rt: HostRuntime) {
 }
 
 #[test]
+fn an_owner_may_be_a_pointer_to_the_last_pointer_of_a_chain(rt: HostRuntime) {
+    let alloc = rt.alloc();
+    let counts = b"\0\x01\x84\0\0\x01\0\x02\0\0\0\0\x07Example\0\0\xfc\0\x01";
+    // the chain is RDATA of the first answer, from offset 36 on: to 12, and to the pointer before
+    let chain = b"\0\xff\0\0\x01\0\0\0\0\0\x06\xc0\x0c\xc0\x24\xc0\x26";
+    let last = b"\xc0\x28\0\x01\0\x01\0\0\0\0\0\x04\x0a\0\0\x01";
+    let octets = joined(&rt, alloc, &[counts, chain, last]);
+    let message = read(&rt, alloc, octets.as_slice());
+    match message.answers() {
+        [_, record] => {
+            assert!(rt; record.owner_ref().wire() == b"\x07example\0".as_slice());
+        }
+        _ => panic!(rt; "not two answers"),
+    }
+}
+
+#[test]
 fn each_fault_comes_where_it_is_the_first(rt: HostRuntime) {
     let alloc = rt.alloc();
     let cases = [

@@ -17,6 +17,7 @@ mod tests_reading;
 #[cfg(test)]
 mod tests_text;
 mod text;
+mod wire;
 
 pub use label::Label;
 pub use name::Name;
@@ -24,3 +25,4 @@ pub use name_ref::NameRef;
 pub use octets::Octets;
 pub use reading::{WireFault, canonical_name_end};
 pub use text::NameError;
+pub use wire::{Wire, landings_of};

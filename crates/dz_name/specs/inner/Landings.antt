@@ -1,0 +1,28 @@
+-- Inner: where chains of pointers end, each of which leads to another (RFC 1035 section 4.1.4).
+use Rattle.std.specs.Prelude.{◌≡◌, ℕ, ◌+◌, ◌<◌, ◌≤◌, List, length, slice_index, nat_lt, if◌then◌else◌}
+use Rattle.dz_name.specs.Reading.{target_at}
+use Rattle.dz_name.specs.Words.{Octets}
+
+-- at an offset stands a pointer that leads to this earlier one
+pub record LeadsTo (m : Octets) (at target : ℕ) : Type 0 where
+  pub within : at + 1 < length m
+  pub pointer : 192 ≤ slice_index m at
+  pub target_is : target_at m at ≡ target
+  pub before : target < at
+
+abbrev pub LeadsOn : Octets → ℕ → Type 0
+LeadsOn m at = (target : ℕ) × LeadsTo m at target
+
+-- pointers lead from one offset to the other, none or more of them
+pub data Lands (m : Octets) : ℕ → ℕ → Type 0 where
+  stays : {at : ℕ} → Lands m at at
+  goes_on : {at target end : ℕ} → LeadsTo m at target → Lands m target end → Lands m at end
+
+-- a table of where the chains end: pointers lead there, and no further
+pub record AreLandings (m : Octets) (landings : List ℕ) : Type 0 where
+  pub led : (at : ℕ) → at < length landings → Lands m at (slice_index landings at)
+  pub ended : (at : ℕ) → at < length landings → ¬ LeadsOn m (slice_index landings at)
+
+-- where a pointer leads in the end, as the table tells it
+abbrev pub landing_in : List ℕ → ℕ → ℕ
+landing_in landings target = if nat_lt target (length landings) then slice_index landings target else target
