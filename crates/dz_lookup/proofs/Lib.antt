@@ -4,3 +4,5 @@ pub mod InOrder
 pub mod RunLemmas
 pub mod Walk
 pub mod Within
+pub mod NodeLemmas
+pub mod CountedLemmas

@@ -1,4 +1,5 @@
 pub mod Chain
+pub mod Counted
 pub mod Examples
 pub mod Found
 pub mod Runs

@@ -12,8 +12,10 @@ use arrayvec::ArrayVec;
 use dz_name::Name;
 use dz_name::dns::ALIASES;
 use dz_record::Rr;
+use dz_steps::Steps;
 use dz_zone::Version;
-use std::marker::Model;
+use std::marker::{Brand, Model};
+use std::sync::ledger::{Blank, Ledger};
 
 /// How a chain of aliases ends.
 #[derive(Clone, Copy, Debug)]
@@ -142,19 +144,30 @@ pub fn chase<'a>(version: &'a Version, name: &Name, kind: u16, chain: &mut Chain
     ensures ending { ending_of result ≡ (chain_of version.now.apex version.now.records name.now kind).ending }
 {
     chain.clear();
-    follow(version, name, kind, chain)
+    follow::<Brand>(Blank::new(1), version, name, kind, chain)
 }
 
-/// Follows CNAME records from name to name, and puts them into a chain without any.
-fn follow<'a>(version: &'a Version, name: &Name, kind: u16, chain: &mut Chain<'a>) -> Last<'a>
+/// Follows CNAME records from name to name, and puts them into a chain without any; counted in a ledger that is still
+/// blank.
+fn follow<'a, L: Ledger>(
+    blank: Blank,
+    version: &'a Version,
+    name: &Name,
+    kind: u16,
+    chain: &mut Chain<'a>,
+) -> Last<'a>
+    requires name { blank.name ≡ L.name }
+    requires parts { blank.parts ≡ L.parts }
+    requires whole { blank.parts ≡ 1 }
     requires within { is_within name.now version.now.apex ≡ true }
     requires empty { chain.old ≡ [] }
     ensures aliases { chain.new ≡ (chain_of version.now.apex version.now.records name.now kind).aliases }
     ensures ending { ending_of result ≡ (chain_of version.now.apex version.now.records name.now kind).ending }
 {
+    let mut steps = Steps::<L>::new(blank);
     let mut asked = *name;
     'aliases: while chain.len() < ALIASES {
-        let found = find(version, &asked, kind);
+        let found = find(version, &asked, kind, &mut steps);
         let alias = match found.alias() {
             None => return Last::Found(found, asked),
             Some(alias) => alias,

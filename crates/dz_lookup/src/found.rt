@@ -1,18 +1,21 @@
 //! What is found for a name and a type.
 
-ghost use Rattle.std.specs.Prelude.{◌≡◌, ◌<◌, ◌≤◌, length, drop, true, false, Some, All, option_map};
-ghost use Rattle.std.specs.List.Sorted.{IsStrictlySortedBy};
-ghost use Rattle.dz_name.specs.Name.{wire_of, is_within};
+ghost use Rattle.std.specs.Prelude.{◌≡◌, ◌≤◌, ◌-◌, length, true, false, option_map};
+ghost use Rattle.std.specs.List.Sorted.{IsStrictlySortedBy, IsNonDecreasingBy};
+ghost use Rattle.dz_name.specs.Name.{is_within, wildcard_of};
 ghost use Rattle.dz_record.specs.Record.{record_order};
-ghost use Rattle.dz_lookup.specs.Runs.{records_of, exists};
-ghost use Rattle.dz_lookup.specs.Found.{encloser, cut, wildcard_under, source, at_node, at_source, found, meaning, alias_of, HasRecords};
-ghost use Rattle.dz_lookup.specs.inner.Places.{from_owner, IsBegin};
+ghost use Rattle.dz_lookup.specs.Counted.{TakesSearches, IsLookup};
+ghost use Rattle.dz_lookup.specs.Runs.{exists};
+ghost use Rattle.dz_lookup.specs.Found.{encloser, cut, source, at_node, at_source, found, meaning, alias_of, HasRecords};
+ghost use Rattle.dz_lookup.specs.inner.Places.{from_owner, IsBegin, IsNodeOf, if_exists, servers_at};
 
-use crate::runs::{exists, exists_beside, owner_begin, owner_run, owns, rrset_run};
+use crate::runs::{Node, exists_at, exists_beside, node_of, of_type};
+use dz_name::Name;
 use dz_name::dns::{NAME_OCTETS, TYPE_ANY, TYPE_CNAME, TYPE_NS};
-use dz_name::{Name, NameRef};
 use dz_record::Rr;
+use dz_steps::Steps;
 use dz_zone::Version;
+use std::sync::ledger::Ledger;
 
 /// What a zone says of a name and a type (RFC 1034 section 4.3.2).
 #[derive(Clone, Copy, Debug)]
@@ -42,89 +45,128 @@ impl<'a> Found<'a> {
 }
 
 /// What a zone says of a name within its apex and a type (RFC 1034 section 4.3.2, RFC 4592); the type ANY asks for all
-/// records.
-pub fn find<'a>(version: &'a Version, name: &Name, kind: u16) -> Found<'a>
+/// records. The name is searched once; so is each name between it and the apex where the zone has a cut, and a wildcard
+/// where the name doesn't exist.
+pub fn find<'a, L: Ledger>(
+    version: &'a Version,
+    name: &Name,
+    kind: u16,
+    steps: &mut Steps<L>,
+) -> Found<'a>
     requires within { is_within name.now version.now.apex ≡ true }
     ensures found { meaning result ≡ found version.now.apex version.now.records name.now kind }
     ensures some { HasRecords (meaning result) }
+    ensures cost { IsLookup (length name.now) (length version.now.records) (steps.new - steps.old) }
+    ensures counted { steps.old ≤ steps.new }
 {
-    let records = version.records();
-    let begin = owner_begin(records, &name.as_ref());
-    match cut(version.apex(), records, name, begin) {
-        Some(above) => Found::Referral(rrset_run(records, &above, TYPE_NS)),
-        None => at_source(records, name, begin, kind),
+    let node = node_of(version, &name.as_ref(), steps);
+    match cut(version, name, &node, steps) {
+        Some(servers) => Found::Referral(servers),
+        None => at_source(version, name, &node, kind, steps),
     }
 }
 
-/// What the node has that answers for a name: the name itself, or else a wildcard. The name stands or would stand at the
-/// place `begin`.
-fn at_source<'a>(records: &'a [Rr], name: &Name, begin: usize, kind: u16) -> Found<'a>
-    requires sorted { IsStrictlySortedBy record_order records.now }
-    requires room { begin ≤ length records.now }
-    requires point { IsBegin (from_owner name.now) records.now begin }
-    ensures { meaning result ≡ at_source records.now kind (source records.now name.now) }
+/// What the node has that answers for a name: the name's own, or else a wildcard's.
+fn at_source<'a, L: Ledger>(
+    version: &'a Version,
+    name: &Name,
+    node: &Node<'a>,
+    kind: u16,
+    steps: &mut Steps<L>,
+) -> Found<'a>
+    requires node { IsNodeOf version.now.records name.now node.now.place node.now.records.now }
+    ensures found { meaning result ≡ at_source version.now.records kind (source version.now.records name.now) }
+    ensures cost { TakesSearches 1 (length version.now.records) (steps.new - steps.old) }
+    ensures counted { steps.old ≤ steps.new }
 {
-    let lent = name.as_ref();
-    if exists_beside(records, begin, &lent) {
-        return at_node(records, &lent, kind);
+    if exists_beside(version.records(), node.place, &name.as_ref()) {
+        return at_node(node.records, kind);
     }
-    match wildcard_for(records, name, begin) {
-        Some(wildcard) => at_node(records, &wildcard.as_ref(), kind),
+    match wildcard_for(version.records(), name, node.place) {
+        Some(wildcard) => at_wildcard(version, &wildcard, kind, steps),
         None => Found::NoName,
     }
 }
 
+/// What a wildcard has that answers, where it exists (RFC 4592 section 3.3.1).
+fn at_wildcard<'a, L: Ledger>(
+    version: &'a Version,
+    wildcard: &Name,
+    kind: u16,
+    steps: &mut Steps<L>,
+) -> Found<'a>
+    ensures found { meaning result ≡ at_source version.now.records kind (if_exists version.now.records wildcard.now) }
+    ensures cost { TakesSearches 1 (length version.now.records) (steps.new - steps.old) }
+    ensures counted { steps.old ≤ steps.new }
+{
+    let node = node_of(version, &wildcard.as_ref(), steps);
+    if exists_at(version.records(), node.place, &wildcard.as_ref()) {
+        at_node(node.records, kind)
+    } else {
+        Found::NoName
+    }
+}
+
 /// The records of a node that answer, or its CNAME, or nothing.
-fn at_node<'a>(records: &'a [Rr], node: &NameRef, kind: u16) -> Found<'a>
-    requires { IsStrictlySortedBy record_order records.now }
-    ensures { meaning result ≡ at_node kind (records_of records.now node.now) }
+fn at_node<'a>(node: &'a [Rr], kind: u16) -> Found<'a>
+    requires { IsNonDecreasingBy (λ r. r.kind) node.now }
+    ensures { meaning result ≡ at_node kind node.now }
 {
     let answers = if kind == TYPE_ANY {
-        owner_run(records, node)
+        node
     } else {
-        rrset_run(records, node, kind)
+        of_type(node, kind)
     };
     if !answers.is_empty() {
         return Found::Here(answers);
     }
-    match rrset_run(records, node, TYPE_CNAME).first() {
+    match of_type(node, TYPE_CNAME).first() {
         Some(alias) => Found::Alias(alias),
         None => Found::NoData,
     }
 }
 
-/// The zone cut nearest the apex that the name is at or below. Only the names below the apex are looked at, longer and
-/// longer, as far as they exist. The name stands or would stand at the place `begin`.
-fn cut<'n>(apex: &Name, records: &[Rr], name: &'n Name, begin: usize) -> Option<NameRef<'n>>
-    requires sorted { IsStrictlySortedBy record_order records.now }
-    requires owners { All (λ r. is_within r.owner apex.now ≡ true) records.now }
-    requires within { is_within name.now apex.now ≡ true }
-    requires room { begin ≤ length records.now }
-    requires point { IsBegin (from_owner name.now) records.now begin }
-    ensures { result ≡ cut apex.now records.now name.now }
+/// The NS records of the zone cut nearest the apex that the name is at or below. Only the names below the apex are looked
+/// at, longer and longer, as far as they exist.
+fn cut<'a, L: Ledger>(
+    version: &'a Version,
+    name: &Name,
+    node: &Node<'a>,
+    steps: &mut Steps<L>,
+) -> Option<&'a [Rr]>
+    requires within { is_within name.now version.now.apex ≡ true }
+    requires node { IsNodeOf version.now.records name.now node.now.place node.now.records.now }
+    ensures cut { option_map (λ r. r.now) result ≡ servers_at version.now.records (cut version.now.apex version.now.records name.now) }
+    ensures cost { TakesSearches (length name.now) (length version.now.records) (steps.new - steps.old) }
+    ensures counted { steps.old ≤ steps.new }
 {
-    let mut skip = name.label_count() - apex.label_count();
+    if !version.has_cuts() {
+        return None;
+    }
+    let records = version.records();
+    let mut skip = name.label_count() - version.apex().label_count();
     'labels: while 0 < skip {
         skip -= 1;
         let above = name.ancestor_ref(skip);
-        if !exists_beside(records, begin, &above) {
+        if !exists_beside(records, node.place, &above) {
             return None;
         }
-        if owns(records, &above, TYPE_NS) {
-            return Some(above);
+        let servers = of_type(node_of(version, &above, steps).records, TYPE_NS);
+        if !servers.is_empty() {
+            return Some(servers);
         }
     }
     None
 }
 
-/// The wildcard that answers for a name that doesn't exist, where there is one: the wildcard below its closest encloser
-/// (RFC 4592 section 3.3.1). The name would stand at the place `begin`.
+/// The wildcard that answers for a name that doesn't exist, whether the wildcard exists or not: the one below the name's
+/// closest encloser (RFC 4592 section 3.3.1). The name would stand at the place `begin`.
 fn wildcard_for(records: &[Rr], name: &Name, begin: usize) -> Option<Name>
     requires sorted { IsStrictlySortedBy record_order records.now }
     requires room { begin ≤ length records.now }
     requires point { IsBegin (from_owner name.now) records.now begin }
     requires missing { exists records.now name.now ≡ false }
-    ensures { result ≡ wildcard_under records.now (encloser records.now name.now) }
+    ensures { result ≡ option_map wildcard_of (encloser records.now name.now) }
 {
     let count = name.label_count();
     prove!(name.wire().len() <= NAME_OCTETS);
@@ -133,22 +175,8 @@ fn wildcard_for(records: &[Rr], name: &Name, begin: usize) -> Option<Name>
         skip += 1;
         let above = name.ancestor_ref(skip);
         if exists_beside(records, begin, &above) {
-            return wildcard_under(records, &above);
+            return Some(above.to_name().wildcard());
         }
     }
     None
-}
-
-/// The wildcard below a name, where it exists (RFC 4592 section 3.3.1).
-fn wildcard_under(records: &[Rr], above: &NameRef) -> Option<Name>
-    requires sorted { IsStrictlySortedBy record_order records.now }
-    requires room { length (wire_of above.now) < 254 }
-    ensures { result ≡ wildcard_under records.now (Some above.now) }
-{
-    let wildcard = above.to_name().wildcard();
-    if exists(records, &wildcard.as_ref()) {
-        Some(wildcard)
-    } else {
-        None
-    }
 }

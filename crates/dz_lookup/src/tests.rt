@@ -1,3 +1,6 @@
+ghost use Rattle.std.specs.Prelude.{◌≡◌, true};
+ghost use Rattle.dz_name.specs.Name.{is_within};
+
 use super::*;
 use dz_name::dns::{
     TYPE_A, TYPE_ANY, TYPE_CNAME, TYPE_MX, TYPE_NS, TYPE_PTR, TYPE_RRSIG, TYPE_SOA, TYPE_SRV,
@@ -5,9 +8,12 @@ use dz_name::dns::{
 };
 use dz_name::{Name, Octets};
 use dz_record::Rr;
+use dz_steps::Steps;
 use dz_zone::{Version, check};
 use std::alloc::{AllocError, Global};
+use std::marker::Brand;
 use std::process::Abort;
+use std::sync::ledger::{Blank, Ledger};
 use std::test::*;
 
 /// A host's hardware and system (RFC 1035 section 3.3.2), a type whose RDATA has no name.
@@ -181,11 +187,22 @@ fn shown(rt: &impl Abort, found: Found) -> Seen {
     }
 }
 
+/// What is found, counted in a ledger of its own.
+fn counted<'a, L: Ledger>(blank: Blank, version: &'a Version, name: &Name, kind: u16) -> Found<'a>
+    requires name { blank.name ≡ L.name }
+    requires parts { blank.parts ≡ L.parts }
+    requires whole { blank.parts ≡ 1 }
+    requires within { is_within name.now version.now.apex ≡ true }
+{
+    let mut steps = Steps::<L>::new(blank);
+    find(version, name, kind, &mut steps)
+}
+
 /// What is found.
 fn expect(rt: &impl Abort, version: &Version, name: &[u8], kind: u16, wanted: Seen) {
     let name = named(rt, name);
     assert!(rt; name.is_within(version.apex()));
-    let found = shown(rt, find(version, &name, kind));
+    let found = shown(rt, counted::<Brand>(Blank::new(1), version, &name, kind));
     assert_eq!(rt; found, wanted, "of {name:?} {kind}");
 }
 

@@ -2,7 +2,7 @@
 use Rattle.std.proofs.Common.{◌≡◌, ℕ, ◌≤◌, Bool, true, false, not, ◌&&◌, ◌||◌, cond, List, [], ◌∷◌, length, refl, sym, ◌∙◌, ap, subst, arith, is_lt, Ordering, Less, Equal, Greater, Some, None, inl, inr, get_or, take, drop, suc, ◌-◌}
 use Rattle.std.proofs.lemmas.List.{take_all}
 use Rattle.std.specs.Ordering.{ordering_reverse, ordering_then, nat_cmp}
-use Rattle.std.specs.Prelude.{filter, ◌==◌}
+use Rattle.std.specs.Prelude.{filter, ◌==◌, nat_lt, if◌then◌else◌}
 use Rattle.std.specs.List.{list_any, find, IsAllAdjacentAnswer}
 use Rattle.std.specs.List.Sorted.{IsStrictlySortedBy}
 use Rattle.std.specs.Cmp.{tied_itself}
@@ -13,7 +13,8 @@ use Rattle.dz_name.specs.Order.{canonical_total, canonical_same, same_decides, n
 use Rattle.dz_record.specs.Record.{Record, record_order, soa_of}
 use Rattle.dz_record.specs.Records.{in_order}
 use Rattle.dz_zone.specs.inner.Neighbours.{neighbours_from, neighbours}
-use Rattle.dz_zone.specs.Valid.{some_two, at_apex, is_beside_any, is_cname_and_other, clash, both_are, fault_of}
+use Rattle.dz_zone.specs.Valid.{some_two, at_apex, no_soa, soa_twice, soa_below, no_ns, out_of_zone, cname_beside, owned_twice, too_many, is_beside_any, is_cname_and_other, clash, both_are, fault_of}
+use Rattle.dz_zone.specs.declared.fault.ZoneFault.TheVariants.{NoSoa, SoaTwice, SoaBelow, NoNs, OutOfZone, CnameBeside, CnameTwice, DnameTwice, TooMany}
 use Rattle.dz_zone.proofs.Pairs.{any_puts, sum_puts, length_puts, two_puts, two_neighbours, ascends_filter, each_kept, each_true, two_filter, front_no, adjacent_answer}
 use Rattle.dz_zone.proofs.RecordLemmas.{before, rising_ascends, in_order_puts}
 
@@ -225,3 +226,25 @@ beside_split [] first h e up = absurd (omega arith)
 beside_split (r ∷ rs) first h e up =
     let n : suc (length rs) - 1 ≡ length rs = omega arith in
     rw (e, n, take_all (length rs) rs (omega arith)) (beside_walk r rs up)
+
+-- where no fault holds, there aren't too many records
+last_no : (a b c d e f g h i : Bool) → (
+    if a then Some NoSoa else if b then Some SoaTwice else if c then Some SoaBelow else if d then Some NoNs else if e then Some OutOfZone
+    else if f then Some CnameBeside else if g then Some CnameTwice else if h then Some DnameTwice else if i then Some TooMany else None
+    ) ≡ None → i ≡ false
+last_no true b c d e f g h i n = absurd (cc)
+last_no false true c d e f g h i n = absurd (cc)
+last_no false false true d e f g h i n = absurd (cc)
+last_no false false false true e f g h i n = absurd (cc)
+last_no false false false false true f g h i n = absurd (cc)
+last_no false false false false false true g h i n = absurd (cc)
+last_no false false false false false false true h i n = absurd (cc)
+last_no false false false false false false false true i n = absurd (cc)
+last_no false false false false false false false false true n = absurd (cc)
+last_no false false false false false false false false false n = refl
+
+pub few_records : (apex : List (List ℕ)) (rs : List Record) → fault_of apex rs ≡ None → length rs ≤ 250000
+unfolding fault_of
+few_records apex rs h =
+    let few : nat_lt 250000 (length rs) ≡ false = last_no (no_soa apex rs) (soa_twice apex rs) (soa_below apex rs) (no_ns apex rs) (out_of_zone apex rs) (cname_beside rs) (owned_twice 5 rs) (owned_twice 39 rs) (too_many rs) h in
+    grind (arith, nat_tests)

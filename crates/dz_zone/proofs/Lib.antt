@@ -3,3 +3,4 @@ pub mod Pairs
 pub mod RecordLemmas
 pub mod FaultLemmas
 pub mod WithinLemmas
+pub mod OwnerLemmas

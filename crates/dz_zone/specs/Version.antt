@@ -1,10 +1,11 @@
 -- Meaning: versions of zones, and which records make one (RFC 1034 section 3.6.2, RFC 2181 section 5, RFC 4034
 -- section 6).
-use Rattle.std.specs.Prelude.{◌≡◌, List, Option, Some, None, Result, Ok, Err, ⊤}
-use Rattle.std.specs.List.{All, find}
+use Rattle.std.specs.Prelude.{◌≡◌, Bool, ◌==◌, ◌&&◌, not, List, map, Option, Some, None, Result, Ok, Err, ⊤}
+use Rattle.std.specs.List.{All, find, list_any}
 use Rattle.std.specs.List.Sorted.{IsStrictlySortedBy}
 use Rattle.dz_name.specs.Words.{Name}
-use Rattle.dz_name.specs.declared.dns.TheConstants.{TYPE_SOA}
+use Rattle.dz_name.specs.declared.dns.TheConstants.{TYPE_NS, TYPE_SOA}
+use Rattle.dz_name.specs.Name.{same_name}
 use Rattle.dz_record.specs.Record.{Record, IsRecord, record_order}
 use Rattle.dz_record.specs.Records.{distinct, in_order}
 use Rattle.dz_zone.specs.Valid.{at_apex, fault_of}
@@ -29,6 +30,14 @@ pub record IsVersion (zone : Zone) : Type 0 where
 -- the zone that these records make, in whatever order they come: of those that are the same the first is kept
 abbrev pub zone_of : Name → List Record → Zone
 zone_of apex records = record { apex = apex; records = in_order (distinct records) }
+
+-- the owners of records, one for each
+abbrev pub owners_of : List Record → List Name
+owners_of records = map (λ r. r.owner) records
+
+-- a name below the apex owns an NS record: there is a zone cut (RFC 1034 section 4.2.1)
+abbrev pub has_cuts : Zone → Bool
+has_cuts zone = list_any (λ r. r.kind == TYPE_NS && not (same_name r.owner zone.apex)) zone.records
 
 -- what `check` answers: that zone, or the first fault of its records; want of memory says nothing
 abbrev pub IsChecked : Name → List Record → Result Zone ZoneError → Type 0

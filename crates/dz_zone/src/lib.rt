@@ -3,6 +3,7 @@
 #![tactic(auto)]
 
 mod fault;
+mod indexing;
 mod order;
 #[cfg(test)]
 mod tests;

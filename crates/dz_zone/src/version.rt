@@ -5,34 +5,40 @@ ghost use Rattle.dz_name.specs.Name.{is_within};
 ghost use Rattle.std.specs.List.{find};
 ghost use Rattle.std.specs.Option.{option_and_then};
 ghost use Rattle.dz_record.specs.Record.{soa_of, IsRecord};
-ghost use Rattle.dz_zone.specs.Version.{IsVersion, IsValid, IsChecked, apex_soa};
+ghost use Rattle.dz_index.specs.inner.Rows.{IsIndex};
+ghost use Rattle.dz_zone.specs.Version.{IsValid, IsChecked, apex_soa, owners_of, has_cuts};
 ghost use Rattle.dz_zone.specs.Valid.{at_apex};
 
 use crate::fault::ZoneError;
+use crate::indexing::{has_cuts, index_of};
 use crate::order::tidy;
 use crate::valid::{at_apex, fault_of};
+use dz_index::Index;
 use dz_name::Name;
 use dz_name::dns::TYPE_SOA;
 use dz_record::{Rr, Soa, look_at_all};
 use std::alloc::Global;
 use std::marker::Model;
 
-/// A version of a zone: the name of its apex, and its distinct records in canonical order, which have no fault.
+/// A version of a zone: the name of its apex, and its distinct records in canonical order, which have no fault. Beside
+/// them stand an index of the owners, and whether there is a zone cut.
 #[derive(Debug, Drop)]
 pub struct Version {
     apex: Name,
     records: Vec<Rr>,
+    index: Index,
+    has_cuts: bool,
 }
 
 impl Model for Version {
-    ghost use Rattle.dz_zone.specs.Version.{IsVersion};
     ghost use Rattle.dz_zone.specs.Version.{Zone};
+    ghost use Rattle.dz_zone.specs.inner.Kept.{IsKept};
 
     ghost Value = { Zone };
 
     ghost view = { λ v. record { apex = v.apex; records = v.records.items } };
 
-    ghost invariant = { λ v. IsVersion record { apex = v.apex; records = v.records.items } };
+    ghost invariant = { λ v. IsKept (record { apex = v.apex; records = v.records.items }) v.index v.has_cuts };
 }
 
 impl Version {
@@ -51,6 +57,20 @@ impl Version {
         ensures held { All IsRecord self.now.records }
     {
         self.records.as_slice()
+    }
+
+    /// The index of the owners of the records.
+    pub fn index(&self) -> &Index
+        ensures { IsIndex (owners_of self.now.records) result.now }
+    {
+        &self.index
+    }
+
+    /// Whether there is a zone cut: a name below the apex that owns an NS record (RFC 1034 section 4.2.1).
+    pub fn has_cuts(&self) -> bool
+        ensures { result ≡ has_cuts self.now }
+    {
+        self.has_cuts
     }
 
     /// The SOA record of the apex. It stands among the first of the records, since the apex comes first.
@@ -76,7 +96,7 @@ impl Version {
 
 /// The version of a zone that these records make, in any order: of those that are the same the first is kept. An error
 /// is the first fault that holds, or want of memory.
-pub fn check(_alloc: Global, apex: &Name, mut records: Vec<Rr>) -> Result<Version, ZoneError>
+pub fn check(alloc: Global, apex: &Name, mut records: Vec<Rr>) -> Result<Version, ZoneError>
     ensures { IsChecked apex.now records.items result }
 {
     tidy(&mut records)?;
@@ -84,9 +104,13 @@ pub fn check(_alloc: Global, apex: &Name, mut records: Vec<Rr>) -> Result<Versio
         Some(fault) => Err(ZoneError::Fault(fault)),
         None => {
             prove!(are_records(records.as_slice()));
+            let index = index_of(alloc, records.as_slice())?;
+            let has_cuts = has_cuts(apex, records.as_slice());
             Ok(Version {
                 apex: *apex,
                 records,
+                index,
+                has_cuts,
             })
         }
     }

@@ -1,5 +1,8 @@
 -- Inner: where records stand in a zone that is kept in order.
-use Rattle.std.specs.Prelude.{◌≡◌, ℕ, List, true, false}
+use Rattle.std.specs.Prelude.{◌≡◌, ℕ, ◌≤◌, List, true, false, length, Option, Some, None, option_map, if◌then◌else◌}
+use Rattle.std.specs.List.Sorted.{IsNonDecreasingBy}
+use Rattle.dz_name.specs.declared.dns.TheConstants.{TYPE_NS}
+use Rattle.dz_lookup.specs.Runs.{of_type, records_of, exists}
 use Rattle.std.specs.Ordering.{nat_cmp, ordering_then, is_lt, is_le}
 use Rattle.std.specs.List.Sorted.{IsPartitionPoint}
 use Rattle.std.specs.declared.cmp.Ordering.{Ordering}
@@ -27,3 +30,18 @@ pub record IsPlaceWithin (above : Name) (zone : List Record) (i : ℕ) : Type 0 
   pub name : Name
   pub within : is_within name above ≡ true
   pub begin : IsBegin (from_owner name) zone i
+
+-- the records of an owner, in order, and the place where they begin or would begin
+pub record IsNodeOf (zone : List Record) (name : Name) (place : ℕ) (records : List Record) : Type 0 where
+  pub within : place ≤ length zone
+  pub point : IsBegin (from_owner name) zone place
+  pub records_are : records ≡ records_of zone name
+  pub kinds : IsNonDecreasingBy (λ r. r.kind) records
+
+-- the name, where it exists
+abbrev pub if_exists : List Record → Name → Option Name
+if_exists zone name = if exists zone name then Some name else None
+
+-- the NS records of a cut, if there is one
+abbrev pub servers_at : List Record → Option Name → Option (List Record)
+servers_at zone above = option_map (λ name. of_type TYPE_NS (records_of zone name)) above

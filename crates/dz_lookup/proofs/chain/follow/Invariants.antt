@@ -4,11 +4,11 @@ use Rattle.dz_lookup.specs.Chain.{chain_from, chain_of}
 use Rattle.dz_lookup.proofs.chain.follow.Given as goal
 
 abbrev pub invariant-aliases : goal.invariant-aliases
-invariant-aliases l = record {
+invariant-aliases g l = record {
   few : length l.chain ≤ 16;
   within : is_within l.asked l.version.apex ≡ true;
   rest : chain_from (16 - length l.chain) l.version.apex l.version.records l.kind l.chain l.asked ≡ chain_of l.version.apex l.version.records l.name l.kind;
 }
 
 abbrev pub decreases-aliases : goal.decreases-aliases
-decreases-aliases l = 16 - length l.chain
+decreases-aliases g l = 16 - length l.chain

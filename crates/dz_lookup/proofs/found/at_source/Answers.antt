@@ -3,8 +3,8 @@ use Rattle.dz_lookup.proofs.Within.{drop_within}
 use Rattle.dz_lookup.proofs.found.at_source.Goals as goal
 
 pub exists_beside-requires-clause-point : goal.exists_beside-requires-clause-point
-exists_beside-requires-clause-point c = record {
+exists_beside-requires-clause-point g c = record {
   name = c.args.name.now;
-  within = rw c.as_ref-lent.ensures (drop_within c.args.name.now 0 0 (omega arith));
-  begin = c.requires.point;
+  within = rw c.as_ref.ensures (drop_within c.args.name.now 0 0 (omega arith));
+  begin = rw c.records.ensures.records c.requires.node.point;
 }

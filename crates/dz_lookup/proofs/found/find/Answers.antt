@@ -1,22 +1,33 @@
+use Rattle.std.proofs.Common.{◌∙◌, arith, ◌+◌, ◌-◌, length}
+use Rattle.dz_lookup.specs.Counted.{TakesSearches}
 use Rattle.dz_lookup.proofs.FoundLemmas.{has_records, found_below, found_elsewhere}
+use Rattle.dz_lookup.proofs.CountedLemmas.{searches_add, searches_more, is_lookup}
 use Rattle.dz_lookup.proofs.found.find.Goals as goal
 
 pub returns-in-Some-clause-found : goal.returns-in-Some-clause-found
-returns-in-Some-clause-found c =
-    found_below c.args.version.now.apex c.args.version.now.records c.args.name.now c.args.kind c.in-Some.above _
-    (rw (c.apex.ensures, c.records-records.ensures.records) at c.in-Some.ensures) (rw c.records-records.ensures.records at c.rrset_run.ensures)
+returns-in-Some-clause-found g c =
+    found_below c.args.version.now.apex c.args.version.now.records c.args.name.now c.args.kind c.in-Some.servers.now c.in-Some.ensures.cut
 
 pub returns-in-Some-clause-some : goal.returns-in-Some-clause-some
-returns-in-Some-clause-some c =
-    has_records c.args.version.now.apex c.args.version.now.records c.args.name.now c.args.kind _ c.records-records.ensures.valid.rises
-    (returns-in-Some-clause-found c)
+returns-in-Some-clause-some g c =
+    has_records c.args.version.now.apex c.args.version.now.records c.args.name.now c.args.kind _ c.node_of-node.ensures.rises (returns-in-Some-clause-found g c)
+
+pub returns-in-Some-clause-cost : goal.returns-in-Some-clause-cost
+returns-in-Some-clause-cost g c =
+    is_lookup (length c.args.name.now) (length c.args.version.now.records) (c.cut.new.steps - c.args.steps.now)
+    (searches_more (1 + length c.args.name.now) (length c.args.name.now + 2) _ _ (omega arith)
+    (searches_add 1 (length c.args.name.now) _ (c.node_of-node.new.steps - c.args.steps.now) (c.cut.new.steps - c.node_of-node.new.steps) _
+    c.node_of-node.ensures.cost c.in-Some.ensures.cost (omega (arith, c.node_of-node.ensures.counted, c.in-Some.ensures.counted))))
 
 pub returns-in-None-clause-found : goal.returns-in-None-clause-found
-returns-in-None-clause-found c =
-    found_elsewhere c.args.version.now.apex c.args.version.now.records c.args.name.now c.args.kind _
-    (rw (c.apex.ensures, c.records-records.ensures.records) at c.in-None.ensures) (rw c.records-records.ensures.records at c.at_source.ensures)
+returns-in-None-clause-found g c =
+    found_elsewhere c.args.version.now.apex c.args.version.now.records c.args.name.now c.args.kind _ c.in-None.ensures.cut c.at_source.ensures.found
 
-pub returns-in-None-clause-some : goal.returns-in-None-clause-some
-returns-in-None-clause-some c =
-    has_records c.args.version.now.apex c.args.version.now.records c.args.name.now c.args.kind _ c.records-records.ensures.valid.rises
-    (returns-in-None-clause-found c)
+pub returns-in-None-clause-cost : goal.returns-in-None-clause-cost
+returns-in-None-clause-cost g c =
+    is_lookup (length c.args.name.now) (length c.args.version.now.records) (c.at_source.new.steps - c.args.steps.now)
+    (searches_more (1 + length c.args.name.now + 1) (length c.args.name.now + 2) _ _ (omega arith)
+    (searches_add (1 + length c.args.name.now) 1 _ (c.cut.new.steps - c.args.steps.now) (c.at_source.new.steps - c.cut.new.steps) _
+    (searches_add 1 (length c.args.name.now) _ (c.node_of-node.new.steps - c.args.steps.now) (c.cut.new.steps - c.node_of-node.new.steps) _
+    c.node_of-node.ensures.cost c.in-None.ensures.cost (omega (arith, c.node_of-node.ensures.counted, c.in-None.ensures.counted)))
+    c.at_source.ensures.cost (omega (arith, c.node_of-node.ensures.counted, c.in-None.ensures.counted, c.at_source.ensures.counted))))

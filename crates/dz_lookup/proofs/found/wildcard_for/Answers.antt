@@ -1,8 +1,8 @@
-use Rattle.std.proofs.Common.{arith, ◌∙◌, ◌≡◌, [], sym, ap, drop, length, true, ◌+◌}
-use Rattle.std.specs.Prelude.{Some, None}
-use Rattle.dz_name.specs.Name.{wire_of}
+use Rattle.std.proofs.Common.{arith, ◌∙◌, ◌≡◌, [], sym, ap, drop, length, true, ◌+◌, refl}
+use Rattle.std.specs.Prelude.{Some, None, option_map}
+use Rattle.dz_name.specs.Name.{wire_of, wildcard_of}
 use Rattle.dz_lookup.specs.Runs.{exists}
-use Rattle.dz_lookup.specs.Found.{encloser, wildcard_under}
+use Rattle.dz_lookup.specs.Found.{encloser}
 use Rattle.dz_lookup.proofs.Walk.{encloser_step, encloser_here, encloser_root, wire_grows}
 use Rattle.std.proofs.lemmas.List.{drop_all}
 use Rattle.dz_name.proofs.PartLemmas.{name_drop}
@@ -16,11 +16,11 @@ exists_beside-requires-clause-point c = record {
   begin = c.requires.point;
 }
 
-pub wildcard_under-requires-clause-room : goal.wildcard_under-requires-clause-room
-wildcard_under-requires-clause-room c =
+pub wildcard-requires : goal.wildcard-requires
+wildcard-requires c =
     let name = name_drop c.labels.skip c.args.name.now c.wire.ensures.name in
     let grows = wire_grows c.args.name.now c.labels.skip (omega arith) name.each in
-    omega (arith, name.short, ap (λ l. length (wire_of l)) c.ancestor_ref-above.ensures)
+    omega (arith, name.short, ap (λ l. length (wire_of l)) (c.to_name.ensures ∙ c.ancestor_ref-above.ensures))
 
 pub returns-then-exists_beside : goal.returns-then-exists_beside
 returns-then-exists_beside c =
@@ -28,7 +28,7 @@ returns-then-exists_beside c =
     let step = encloser_step c.args.records.now c.args.name.now c.labels.skip (omega arith) c.labels.invariant.none_here in
     let e : encloser c.args.records.now c.args.name.now ≡ Some c.ancestor_ref-above.result =
     sym c.labels.invariant.rest ∙ (sym step ∙ (ap (encloser c.args.records.now) (sym c.ancestor_ref-above.ensures) ∙ encloser_here c.args.records.now c.ancestor_ref-above.result here)) in
-    c.wildcard_under.ensures ∙ ap (wildcard_under c.args.records.now) (sym e)
+    ap Some (c.wildcard.ensures ∙ ap wildcard_of c.to_name.ensures) ∙ ap (option_map wildcard_of) (sym e)
 
 pub labels-preserved : goal.labels-preserved
 labels-preserved c = record {
@@ -42,4 +42,4 @@ returns c =
     let root : drop c.labels.skip c.args.name.now ≡ [] = drop_all c.labels.skip c.args.name.now (omega arith) in
     let e : encloser c.args.records.now c.args.name.now ≡ None =
     sym c.labels.invariant.rest ∙ encloser_root c.args.records.now (drop c.labels.skip c.args.name.now) root c.labels.invariant.none_here in
-    ap (wildcard_under c.args.records.now) (sym e)
+    ap (option_map wildcard_of) (sym e)

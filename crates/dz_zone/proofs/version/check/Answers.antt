@@ -3,7 +3,7 @@ use Rattle.dz_record.specs.Record.{Record}
 use Rattle.dz_record.specs.Records.{distinct, in_order}
 use Rattle.dz_zone.specs.Valid.{fault_of}
 use Rattle.dz_zone.specs.declared.fault.ZoneFault.{ZoneFault}
-use Rattle.dz_zone.proofs.FaultLemmas.{fault_in_order}
+use Rattle.dz_zone.proofs.FaultLemmas.{fault_in_order, few_records}
 use Rattle.dz_zone.proofs.version.check.Goals as goal
 
 judged : (apex : List (List ℕ)) (records tidied slice : List Record) (r : Option ZoneFault) → tidied ≡ in_order (distinct records) → slice ≡ tidied → r ≡ fault_of apex slice → fault_of apex (distinct records) ≡ r
@@ -12,6 +12,10 @@ judged apex records tidied slice r t s e = sym (e ∙ (ap (fault_of apex) (s ∙
 pub returns-in-Some : goal.returns-in-Some
 returns-in-Some c = judged _ _ _ _ _ c.in_ok-tidy.ensures.value c.as_slice.ensures.value c.in-Some.ensures
 
-pub returns-in-None : goal.returns-in-None
-returns-in-None c =
+pub index_of-requires-clause-few : goal.index_of-requires-clause-few
+index_of-requires-clause-few c =
+    rw c.as_slice-in-None-2.ensures.value (few_records c.args.apex.now c.tidy.new.records.items (rw c.as_slice.ensures.value at (sym c.in-None.ensures)))
+
+pub returns-in_ok-index-in-None : goal.returns-in_ok-index-in-None
+returns-in_ok-index-in-None c =
     (judged _ _ _ _ _ c.in_ok-tidy.ensures.value c.as_slice.ensures.value c.in-None.ensures, rw c.in_ok-tidy.ensures.value refl)

@@ -7,4 +7,4 @@ pub unreachable-requires : goal.unreachable-requires
 unreachable-requires c =
     let apex = c.self.inside.apex in
     let records = c.self.inside.records.items in
-    found_some (at_apex 6 apex) records (has_soa apex records c.self.invariant.valid.faultless) (rw c.as_slice.ensures.value at (sym c.in-None.ensures))
+    found_some (at_apex 6 apex) records (has_soa apex records c.self.invariant.version.valid.faultless) (rw c.as_slice.ensures.value at (sym c.in-None.ensures))

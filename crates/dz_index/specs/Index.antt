@@ -1,0 +1,34 @@
+-- Meaning: the place of a name among the owners of a zone in canonical order (RFC 4034 section 6.1), and how many
+-- comparisons a search takes.
+use Rattle.std.specs.Prelude.{◌≡◌, ℕ, ◌+◌, ◌*◌, ◌≤◌, ◌^◌, true, false, List, length}
+use Rattle.std.specs.Ordering.{is_lt, is_le}
+use Rattle.std.specs.Prelude.{◌<◌, slice_index_or}
+use Rattle.std.specs.List.Sorted.{IsPartitionPoint}
+use Rattle.dz_name.specs.Name.{canonical_order}
+use Rattle.dz_name.specs.Words.{Name}
+
+-- so many owners come before the name, and no other does
+abbrev pub IsFirstOf : Name → List Name → ℕ → Type 0
+IsFirstOf name owners place =
+    IsPartitionPoint (λ owner. is_lt (canonical_order owner name) ≡ true) (λ owner. is_lt (canonical_order owner name) ≡ false) owners place
+
+-- so many owners come before the name or are it, and no other is
+abbrev pub IsEndOf : Name → List Name → ℕ → Type 0
+IsEndOf name owners place =
+    IsPartitionPoint (λ owner. is_le (canonical_order owner name) ≡ true) (λ owner. is_le (canonical_order owner name) ≡ false) owners place
+
+-- no owner comes behind the name
+abbrev pub IsLast : Name → List Name → Type 0
+IsLast name owners = (at : ℕ) (d : Name) → at < length owners → is_le (canonical_order (slice_index_or owners at d) name) ≡ true
+
+-- owners in canonical order, each of which may stand more than once
+abbrev pub InOrder : List Name → Type 0
+InOrder owners = (at : ℕ) (d : Name) → at + 1 < length owners → is_le (canonical_order (slice_index_or owners at d) (slice_index_or owners (at + 1) d)) ≡ true
+
+-- so many comparisons a search among so many names takes at most: one more than the binary logarithm of twice as many
+abbrev pub IsSearch : ℕ → ℕ → Type 0
+IsSearch names taken = 2 ^ taken ≤ 2 * names + 1
+
+-- the same for a search and one comparison more, so that several searches add up
+abbrev pub TakesAtMost : ℕ → ℕ → Type 0
+TakesAtMost names taken = (bits : ℕ) → 2 * names + 2 ≤ 2 ^ (bits + 1) → taken ≤ bits + 1

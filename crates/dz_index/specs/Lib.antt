@@ -1,0 +1,4 @@
+pub mod Examples
+pub mod Index
+pub mod SortKey
+pub mod inner

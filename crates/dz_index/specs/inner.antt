@@ -1,0 +1,2 @@
+-- Inner: how the code keeps an index.
+pub mod Rows

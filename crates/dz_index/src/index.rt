@@ -1,0 +1,246 @@
+//! An index of owners.
+
+ghost use Rattle.std.specs.Prelude.{◌≡◌, ℕ, ◌+◌, ◌-◌, ◌*◌, ◌<◌, ◌≤◌, List, [], ◌∷◌, ◌++◌, length, IfOk, slice_index, nat_lt, ◌&&◌};
+ghost use Rattle.std.specs.Str.{bytes_eq};
+ghost use Rattle.std.specs.Ordering.{is_eq};
+ghost use Rattle.dz_name.specs.Words.{Name};
+ghost use Rattle.dz_index.specs.Index.{IsFirstOf, IsEndOf, IsLast, InOrder, IsSearch, TakesAtMost};
+ghost use Rattle.dz_index.specs.inner.Rows.{count, total, key_at, compared, IsIndex, AreRising, IsPlaceAmong, repeated, added};
+
+use crate::sort_key::SortKey;
+use dz_name::{Name, NameRef};
+use dz_steps::Steps;
+use std::alloc::{AllocError, Global};
+use std::cmp::Ordering;
+use std::marker::Model;
+use std::sync::ledger::Ledger;
+
+/// The most owners of an index.
+pub const OWNERS: usize = 250_000;
+
+/// The distinct owners of a zone, each with the place of its first record: their sort keys in one block of octets, and
+/// eight octets beside each.
+#[derive(Debug, Drop)]
+pub struct Index {
+    octets: Vec<u8>,
+    bounds: Vec<u32>,
+    firsts: Vec<u32>,
+}
+
+/// A run of records: from one place up to another.
+#[derive(Clone, Copy, Debug, PartialEq, Eq)]
+pub struct Run {
+    pub begin: usize,
+    pub end: usize,
+}
+
+impl Model for Index {
+    ghost use Rattle.dz_index.specs.inner.Rows.{Rows, IsKept};
+
+    ghost Value = { Rows };
+
+    ghost view = { λ i. record { octets = i.octets.items; bounds = i.bounds.items; firsts = i.firsts.items } };
+
+    ghost invariant = { λ i. IsKept (record { octets = i.octets.items; bounds = i.bounds.items; firsts = i.firsts.items }) };
+}
+
+impl Index {
+    /// The index of owners in canonical order, each of which may stand more than once; at most 250,000.
+    pub fn over(alloc: Global, owners: Vec<Name>) -> Result<Index, AllocError>
+        requires few { length owners.items ≤ 250000 }
+        requires order { InOrder owners.items }
+        ensures { IfOk result (IsIndex owners.items) }
+    {
+        let mut index = Index::empty(alloc)?;
+        'owners: for owner in &owners {
+            index = index.with(&owner.as_ref())?;
+        }
+        Ok(index)
+    }
+
+    /// No owner yet.
+    pub fn empty(alloc: Global) -> Result<Index, AllocError>
+        ensures { IfOk result (IsIndex []) }
+    {
+        Ok(Index {
+            octets: Vec::new(alloc),
+            bounds: vec![in alloc; 0]?,
+            firsts: vec![in alloc; 0]?,
+        })
+    }
+
+    /// One more owner behind the others, or the last one once more.
+    pub fn with(self, name: &NameRef<'_>) -> Result<Index, AllocError>
+        requires few { total self < 250000 }
+        ensures total { IfOk result (λ i. total i ≡ total self + 1) }
+        ensures index { (owners : List Name) → IsIndex owners self → IsLast name.now owners → IfOk result (IsIndex (owners ++ name.now ∷ [])) }
+    {
+        let _ = &self.firsts;
+        let key = SortKey::of(name);
+        if self.ends_in(key.octets()) {
+            Ok(self.repeated())
+        } else {
+            self.added(key.octets())
+        }
+    }
+
+    /// How many owners come before a name in canonical order, which is the place of its first record.
+    pub fn first_of<L: Ledger>(&self, name: &Name, steps: &mut Steps<L>) -> usize
+        ensures within { result ≤ total self.now }
+        ensures place { (owners : List Name) → IsIndex owners self.now → IsFirstOf name.now owners result }
+        ensures cost { IsSearch (count self.now) (steps.new - steps.old) }
+        ensures counted { steps.old ≤ steps.new }
+    {
+        let key = SortKey::of(&name.as_ref());
+        let found = self.search(key.octets(), steps);
+        self.first(found)
+    }
+
+    /// Where the records of an owner begin and end, or would stand. It takes one comparison more than the search.
+    pub fn run_of<L: Ledger>(&self, name: &NameRef<'_>, steps: &mut Steps<L>) -> Run
+        ensures begins { result.begin ≤ total self.now }
+        ensures ends { result.end ≤ total self.now }
+        ensures begin { (owners : List Name) → IsIndex owners self.now → IsFirstOf name.now owners result.begin }
+        ensures end { (owners : List Name) → IsIndex owners self.now → IsEndOf name.now owners result.end }
+        ensures cost { TakesAtMost (total self.now) (steps.new - steps.old) }
+        ensures counted { steps.old ≤ steps.new }
+    {
+        let sort_key = SortKey::of(name);
+        let key = sort_key.octets();
+        let found = self.search(key, steps);
+        let begin = self.first(found);
+        if self.has_key(found, key, steps) {
+            Run {
+                begin,
+                end: self.end(found),
+            }
+        } else {
+            Run { begin, end: begin }
+        }
+    }
+
+    /// How many distinct owners there are.
+    pub fn len(&self) -> usize
+        ensures count { result ≡ count self.now }
+        ensures few { result ≤ total self.now }
+    {
+        self.firsts.len() - 1
+    }
+
+    /// How many owners there are, each as often as it stands.
+    pub fn total(&self) -> usize
+        ensures { result ≡ total self.now }
+    {
+        self.first(self.len())
+    }
+
+    /// The place of the first record of an owner, and behind the last owner how many records there are.
+    fn first(&self, number: usize) -> usize
+        requires { number ≤ count self.now }
+        ensures first { result ≡ slice_index self.now.firsts number }
+        ensures within { result ≤ total self.now }
+    {
+        self.firsts[number] as usize
+    }
+
+    /// The place behind the records of an owner.
+    fn end(&self, number: usize) -> usize
+        requires { number < count self.now }
+        ensures end { result ≡ slice_index self.now.firsts (number + 1) }
+        ensures within { result ≤ total self.now }
+    {
+        self.firsts[number + 1] as usize
+    }
+
+    fn key(&self, number: usize) -> &[u8]
+        requires { number < count self.now }
+        ensures { result.now ≡ key_at self.now number }
+    {
+        &self.octets[self.bounds[number] as usize..self.bounds[number + 1] as usize]
+    }
+
+    /// An owner's key beside another. All comparisons of keys are made here, and each is counted.
+    fn compare<L: Ledger>(&self, number: usize, key: &[u8], steps: &mut Steps<L>) -> Ordering
+        requires { number < count self.now }
+        ensures value { result ≡ compared (key_at self.now number) key.now }
+        ensures counted { steps.new ≡ steps.old + 1 }
+    {
+        steps.tick();
+        self.key(number).cmp(key)
+    }
+
+    /// Whether there is an owner of this number and it has this key.
+    fn has_key<L: Ledger>(&self, number: usize, key: &[u8], steps: &mut Steps<L>) -> bool
+        requires { number ≤ count self.now }
+        ensures value { result ≡ (nat_lt number (count self.now) && is_eq (compared (key_at self.now number) key.now)) }
+        ensures counted { steps.old ≤ steps.new }
+        ensures once { steps.new ≤ steps.old + 1 }
+    {
+        if number == self.len() {
+            return false;
+        }
+        self.compare(number, key, steps).is_eq()
+    }
+
+    /// How many keys come before a key.
+    fn search<L: Ledger>(&self, key: &[u8], steps: &mut Steps<L>) -> usize
+        ensures within { result ≤ count self.now }
+        ensures few { count self.now ≤ total self.now }
+        ensures place { AreRising self.now → IsPlaceAmong key.now self.now result }
+        ensures cost { IsSearch (count self.now) (steps.new - steps.old) }
+        ensures counted { steps.old ≤ steps.new }
+    {
+        let mut low = 0;
+        let mut high = self.len();
+        'search: while low < high {
+            let middle = low + (high - low) / 2;
+            if self.compare(middle, key, steps).is_lt() {
+                low = middle + 1;
+            } else {
+                high = middle;
+            }
+        }
+        low
+    }
+
+    /// Whether the last key is this one.
+    fn ends_in(&self, key: &[u8]) -> bool
+        ensures { result ≡ (nat_lt 0 (count self.now) && bytes_eq (key_at self.now (count self.now - 1)) key.now) }
+    {
+        let count = self.len();
+        0 < count && self.key(count - 1) == key
+    }
+
+    /// The last owner once more.
+    fn repeated(mut self) -> Index
+        requires few { total self < 250000 }
+        requires some { 0 < count self }
+        ensures { result ≡ repeated self }
+    {
+        let last = self.firsts.len() - 1;
+        self.firsts[last] += 1;
+        self
+    }
+
+    /// An owner with a key of its own behind the others.
+    fn added(self, key: &[u8]) -> Result<Index, AllocError>
+        requires few { total self < 250000 }
+        requires room { length key.now ≤ 512 }
+        ensures { IfOk result (λ i. i ≡ added self key.now) }
+    {
+        let Index {
+            mut octets,
+            mut bounds,
+            mut firsts,
+        } = self;
+        let total = firsts[firsts.len() - 1];
+        octets.extend_from_slice(key)?;
+        bounds.push(octets.len() as u32)?;
+        firsts.push(total + 1)?;
+        Ok(Index {
+            octets,
+            bounds,
+            firsts,
+        })
+    }
+}

@@ -1,0 +1,100 @@
+//! Sort keys of names.
+
+ghost use Rattle.std.specs.Prelude.{◌≡◌, ◌+◌, ◌<◌, ◌≤◌, [], ◌∷◌, length};
+ghost use Rattle.dz_index.specs.SortKey.{key_of, label_before, octet_before};
+
+use dz_name::NameRef;
+use std::marker::Model;
+
+/// The most octets of a key: two for each octet of a name in wire form.
+const ROOM: usize = 512;
+
+/// The sort key of a name: octets whose order is the canonical order of names (RFC 4034 section 6.1). Contracts see the
+/// octets.
+#[derive(Drop)]
+pub struct SortKey {
+    octets: [u8; ROOM],
+    start: usize,
+}
+
+impl Model for SortKey {
+    ghost use Rattle.std.specs.Prelude.{◌≤◌, drop};
+    ghost use Rattle.dz_name.specs.Words.{Octets};
+
+    ghost Value = { Octets };
+
+    ghost view = { λ k. drop k.start k.octets };
+
+    ghost invariant = { λ k. k.start ≤ 512 };
+}
+
+impl SortKey {
+    /// The key of a name.
+    pub fn of(name: &NameRef<'_>) -> SortKey
+        ensures { result ≡ key_of name.now }
+    {
+        let wire = name.wire();
+        let mut key = SortKey::empty();
+        let mut place = 0;
+        let mut count: usize = 0;
+        'labels: while wire[place] != 0 {
+            let end = place + 1 + wire[place] as usize;
+            key.prepend_label(&wire[place + 1..end]);
+            place = end;
+            count += 1;
+        }
+        key
+    }
+
+    /// At most 512 octets.
+    pub fn octets(&self) -> &[u8]
+        ensures value { result.now ≡ self.now }
+        ensures room { length result.now ≤ 512 }
+    {
+        &self.octets[self.start..]
+    }
+
+    fn empty() -> SortKey
+        ensures { result ≡ [] }
+    {
+        SortKey {
+            octets: [0; ROOM],
+            start: ROOM,
+        }
+    }
+
+    /// A label in front, with the octet that ends it.
+    fn prepend_label(&mut self, label: &[u8])
+        requires { length self.old + (length label.now + length label.now + 1) ≤ 512 }
+        ensures { self.new ≡ label_before label.now self.old }
+    {
+        self.prepend(0);
+        let mut left = label.len();
+        'octets: while 0 < left {
+            left -= 1;
+            self.prepend_octet(label[left]);
+        }
+    }
+
+    /// An octet of a label in front.
+    fn prepend_octet(&mut self, octet: u8)
+        requires { length self.old + 1 < 512 }
+        ensures octets { self.new ≡ octet_before octet self.old }
+        ensures room { length self.new ≤ length self.old + 2 }
+    {
+        if octet < 2 {
+            self.prepend(octet + 1);
+            self.prepend(1);
+        } else {
+            self.prepend(octet);
+        }
+    }
+
+    fn prepend(&mut self, octet: u8)
+        requires { length self.old < 512 }
+        ensures { self.new ≡ octet ∷ self.old }
+    {
+        self.start -= 1;
+        self.octets[self.start] = octet;
+    }
+}
