@@ -5,6 +5,8 @@ use Rattle.dz_name.specs.Words.{Name, Octets}
 use Rattle.dz_zone.specs.Version.{Zone}
 use Rattle.dz_form.specs.declared.fault.Progress.{Progress}
 use Rattle.dz_form.specs.declared.fault.Progress.TheVariants as progress
+use Rattle.dz_zonemd.specs.Standing.{standing}
+use Rattle.dz_zonemd.specs.declared.acceptance.Standing.{Standing}
 use Rattle.dz_take.specs.declared.ask.Ask.{Ask}
 use Rattle.dz_take.specs.declared.ask.Ask.TheVariants.{Axfr, Ixfr}
 use Rattle.dz_take.specs.declared.outcome.Outcome.{Outcome}
@@ -47,7 +49,14 @@ abbrev pub Shows : Progress → Option Decision → Type 0
 Shows progress.More decision = decision ≡ None
 Shows progress.Ended decision = IsSome decision
 
--- what came of a transfer is the outcome of its octets, and all of them are used
-pub record IsFinished (transfer : Transfer) (octets : Octets) (result : Outcome) : Type 0 where
+-- what the ZONEMD records of a new version say of it; nothing where there is no new version
+abbrev pub standing_of : Decision → Option Standing
+standing_of up_to_date = None
+standing_of (new zone) = Some (standing zone.apex zone.records)
+standing_of (refused fault) = None
+
+-- what came of a transfer is the outcome of its octets, all of them are used, and beside it stands its standing
+pub record IsFinished (transfer : Transfer) (octets : Octets) (result : Outcome) (shown : Option Standing) : Type 0 where
   pub outcome : meaning_of result ≡ outcome transfer octets
   pub used : octets_used transfer octets ≡ length octets
+  pub standing : shown ≡ standing_of (meaning_of result)

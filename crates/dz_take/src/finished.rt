@@ -2,23 +2,26 @@
 
 ghost use Rattle.std.specs.Prelude.{◌≡◌, length, option_map};
 ghost use Rattle.dz_take.specs.Outcome.{outcome, octets_used};
-ghost use Rattle.dz_take.specs.Taken.{IsTransfer, IsFinished, meaning_of};
+ghost use Rattle.dz_take.specs.Taken.{IsTransfer, meaning_of, standing_of};
 
 use crate::ask::Ask;
 use crate::outcome::Outcome;
 use crate::transfer::Transfer;
 use dz_name::{Name, Octets};
 use dz_zone::Version;
+use dz_zonemd::{Standing, standing};
 use std::marker::Model;
 use std::sync::Arc;
 
 /// A transfer that was read, and what came of it. Contracts see the transfer and the octets that were read: its outcome
-/// is that of these octets, and no octets stand behind those that decide it.
+/// is that of these octets, no octets stand behind those that decide it, and of a new version it keeps what the ZONEMD
+/// records of the version say.
 #[derive(Debug, Drop)]
 pub struct Finished {
     transfer: Transfer,
     octets: Octets,
     outcome: Outcome,
+    standing: Option<Standing>,
 }
 
 impl Model for Finished {
@@ -28,18 +31,21 @@ impl Model for Finished {
 
     ghost view = { λ f. record { transfer = f.transfer; octets = f.octets } };
 
-    ghost invariant = { λ f. IsFinished f.transfer f.octets f.outcome };
+    ghost invariant = { λ f. IsFinished f.transfer f.octets f.outcome f.standing };
 }
 
 impl Finished {
-    pub(crate) fn new(transfer: Transfer, octets: Octets, outcome: Outcome) -> Finished
-        requires { IsFinished transfer octets outcome }
+    pub(crate) fn new(transfer: Transfer, octets: Octets, came: Outcome) -> Finished
+        requires outcome { meaning_of came ≡ outcome transfer octets }
+        requires used { octets_used transfer octets ≡ length octets }
         ensures { result ≡ record { transfer = transfer; octets = octets } }
     {
+        let standing = standing_of(&came);
         Finished {
             transfer,
             octets,
-            outcome,
+            outcome: came,
+            standing,
         }
     }
 
@@ -86,5 +92,23 @@ impl Finished {
         ensures { meaning_of result.now ≡ outcome self.now.transfer self.now.octets }
     {
         &self.outcome
+    }
+
+    /// What the ZONEMD records of the new version say of it (RFC 8976 section 4); none exactly where the outcome is no new
+    /// version.
+    pub fn standing(&self) -> Option<Standing>
+        ensures { result ≡ standing_of (outcome self.now.transfer self.now.octets) }
+    {
+        self.standing
+    }
+}
+
+/// What the ZONEMD records of a new version say of it.
+fn standing_of(came: &Outcome) -> Option<Standing>
+    ensures { result ≡ standing_of (meaning_of came.now) }
+{
+    match came {
+        Outcome::New(version) => Some(standing(version.apex(), version.records())),
+        _ => None,
     }
 }

@@ -17,6 +17,7 @@ pub use ask::Ask;
 pub use dz_form::{Progress, ShapeFault};
 pub use dz_message::MessageFault;
 pub use dz_zone::ZoneFault;
+pub use dz_zonemd::Standing;
 pub use finished::Finished;
 pub use fits::outcomes_fit;
 pub use laws::{first_decides, form_decides, messages_decide};

@@ -3,7 +3,8 @@ ghost use Rattle.dz_message.specs.Frame.{messages_in};
 ghost use Rattle.dz_take.specs.Outcome.{decided};
 
 use crate::{
-    Ask, Finished, MessageFault, Outcome, Progress, ShapeFault, TakeFault, Taking, ZoneFault,
+    Ask, Finished, MessageFault, Outcome, Progress, ShapeFault, Standing, TakeFault, Taking,
+    ZoneFault,
 };
 use dz_name::numbers::{four, two};
 use dz_name::{Name, Octets};
@@ -520,4 +521,128 @@ fn a_stream_has_at_most_67108864_octets(rt: HostRuntime) -> Result<(), AllocErro
     feed_times(&rt, &mut taking, first.as_slice(), 1)?;
     feed_times(&rt, &mut taking, long.as_slice(), 1023)?;
     expect_too_long(&rt, taking, long.as_slice())
+}
+
+/// The zone of RFC 8976 appendix A.1, without its ZONEMD record and its addresses.
+const SIMPLE: [Row; 3] = [
+    Row::Other(
+        APEX,
+        6,
+        86400,
+        b"\x03ns1\x07example\0\x05admin\x07example\0xH\xb9\x1c\0\0\x07\x08\0\0\x03\x84\0\x09:\x80\0\x01Q\x80",
+    ),
+    Row::Other(APEX, 2, 86400, b"\x03ns1\x07example\0"),
+    Row::Other(APEX, 2, 86400, b"\x03ns2\x07example\0"),
+];
+
+const SIMPLE_AAAA: Row = Row::Other(
+    b"\x03ns2\x07example\0",
+    28,
+    3600,
+    b" \x01\x0d\xb8\0\0\0\0\0\0\0\0\0\0\0c",
+);
+
+/// The ZONEMD record of that appendix.
+const SHA384: Row = Row::Other(
+    APEX,
+    63,
+    86400,
+    &[
+        0x78, 0x48, 0xb9, 0x1c, 0x01, 0x01, 0xc6, 0x80, 0x90, 0xd9, 0x0a, 0x7a, 0xed, 0x71, 0x6b,
+        0xc4, 0x59, 0xf9, 0x34, 0x0e, 0x3d, 0x7c, 0x13, 0x70, 0xd4, 0xd2, 0x4b, 0x7e, 0x2f, 0xc3,
+        0xa1, 0xdd, 0xc0, 0xb9, 0xa8, 0x71, 0x53, 0xb9, 0xa9, 0x71, 0x3b, 0x3c, 0x9a, 0xe5, 0xcc,
+        0x27, 0x77, 0x7f, 0x98, 0xb8, 0xe7, 0x30, 0x04, 0x4c,
+    ],
+);
+
+/// SHA-512 of the same octets.
+const SHA512: Row = Row::Other(
+    APEX,
+    63,
+    86400,
+    &[
+        0x78, 0x48, 0xb9, 0x1c, 0x01, 0x02, 0x50, 0x0d, 0x47, 0xa5, 0x0c, 0x57, 0x2d, 0x7f, 0x95,
+        0x01, 0xa0, 0x1a, 0x5f, 0xa1, 0xfc, 0x2b, 0x64, 0xb1, 0xe9, 0xa5, 0x81, 0x98, 0x78, 0x4a,
+        0x6d, 0x9b, 0x0a, 0xb9, 0x5f, 0xbb, 0xa8, 0xa1, 0xdc, 0x9c, 0x78, 0x36, 0xc9, 0xac, 0x49,
+        0x60, 0xa5, 0x62, 0x5a, 0x7a, 0x67, 0xe3, 0xab, 0xe9, 0x63, 0xa4, 0xd8, 0x70, 0xcb, 0x97,
+        0xe3, 0xe6, 0x7f, 0xb0, 0xa1, 0x30, 0x46, 0x3b, 0x33, 0xf1,
+    ],
+);
+
+const SHA384_ZEROS: Row = Row::Other(
+    APEX,
+    63,
+    86400,
+    &[
+        0x78, 0x48, 0xb9, 0x1c, 0x01, 0x01, 0x00, 0x00, 0x00, 0x00, 0x00, 0x00, 0x00, 0x00, 0x00,
+        0x00, 0x00, 0x00, 0x00, 0x00, 0x00, 0x00, 0x00, 0x00, 0x00, 0x00, 0x00, 0x00, 0x00, 0x00,
+        0x00, 0x00, 0x00, 0x00, 0x00, 0x00, 0x00, 0x00, 0x00, 0x00, 0x00, 0x00, 0x00, 0x00, 0x00,
+        0x00, 0x00, 0x00, 0x00, 0x00, 0x00, 0x00, 0x00, 0x00,
+    ],
+);
+
+const ALGORITHM_3: Row = Row::Other(
+    APEX,
+    63,
+    86400,
+    &[
+        0x78, 0x48, 0xb9, 0x1c, 0x01, 0x03, 0x00, 0x00, 0x00, 0x00, 0x00, 0x00, 0x00, 0x00, 0x00,
+        0x00, 0x00, 0x00, 0x00, 0x00, 0x00, 0x00, 0x00, 0x00, 0x00, 0x00, 0x00, 0x00, 0x00, 0x00,
+        0x00, 0x00, 0x00, 0x00, 0x00, 0x00, 0x00, 0x00, 0x00, 0x00, 0x00, 0x00, 0x00, 0x00, 0x00,
+        0x00, 0x00, 0x00, 0x00, 0x00, 0x00, 0x00, 0x00, 0x00,
+    ],
+);
+
+/// The standing after a transfer of that zone in one message, with an address of this TTL and these ZONEMD records.
+fn standing_of(
+    rt: &impl Abort,
+    alloc: Global,
+    ttl: u32,
+    zonemds: &[Row],
+) -> Result<Option<Standing>, AllocError> {
+    let mut rows = Vec::new(alloc);
+    rows.extend_from_slice(&SIMPLE)?;
+    rows.extend_from_slice(zonemds)?;
+    rows.push(Row::Other(b"\x03ns1\x07example\0", 1, ttl, b"\xcb\0q?"))?;
+    rows.push(SIMPLE_AAAA)?;
+    rows.push(SIMPLE[0])?;
+    let mut messages = Vec::new(alloc);
+    messages.push(message(rt, alloc, (2, GOOD), AXFR, rows.as_slice())?)?;
+    let finished = take(rt, whole(rt, alloc), messages.as_slice())?;
+    assert!(rt; matches!(finished.outcome(), Outcome::New(_)));
+    Ok(finished.standing())
+}
+
+#[test]
+fn a_new_version_has_the_standing_of_its_records(rt: HostRuntime) -> Result<(), AllocError> {
+    let alloc = rt.alloc();
+    let rows: [(&[Row], Standing); 6] = [
+        (&[], Standing::Absent),
+        (&[SHA384], Standing::Good),
+        (&[ALGORITHM_3], Standing::Unsupported),
+        (&[SHA384_ZEROS], Standing::Bad),
+        (&[SHA384, SHA384_ZEROS, SHA512], Standing::Good),
+        (&[SHA384, SHA384_ZEROS], Standing::Bad),
+    ];
+    for (zonemds, standing) in rows {
+        assert_eq!(rt; standing_of(&rt, alloc, 3600, zonemds)?, Some(standing));
+    }
+    assert_eq!(rt;
+        standing_of(&rt, alloc, 3601, &[SHA384])?,
+        Some(Standing::Bad)
+    );
+    Ok(())
+}
+
+#[test]
+fn only_a_new_version_has_a_standing(rt: HostRuntime) -> Result<(), AllocError> {
+    let alloc = rt.alloc();
+    let same = from_5(&rt, alloc, &[Row::Soa(5)])?;
+    assert!(rt; matches!(same.outcome(), Outcome::UpToDate) && same.standing().is_none());
+    let older = from_5(&rt, alloc, &[Row::Soa(4)])?;
+    assert!(rt; matches!(older.outcome(), Outcome::Refused(_)) && older.standing().is_none());
+    let rows = &[Row::Soa(6), Row::Soa(5), Row::Soa(6), MAIL, Row::Soa(6)];
+    let newer = from_5(&rt, alloc, rows)?;
+    assert_eq!(rt; newer.standing(), Some(Standing::Absent));
+    Ok(())
 }

@@ -1,0 +1,16 @@
+pub mod AgainLemmas
+pub mod AnyOrderLemmas
+pub mod ChoiceLemmas
+pub mod EachLemmas
+pub mod KeptLemmas
+pub mod LawLemmas
+pub mod ListingLemmas
+pub mod NumberLemmas
+pub mod OrderLemmas
+pub mod ProcessLemmas
+pub mod SearchLemmas
+pub mod SortLemmas
+pub mod SpotLemmas
+pub mod WalkLemmas
+pub mod WalkedLemmas
+pub mod ZoneLemmas

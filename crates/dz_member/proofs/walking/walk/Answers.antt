@@ -1,0 +1,64 @@
+use Rattle.std.proofs.Common.{◌≡◌, sym, ◌∙◌, ap, map, append-nil}
+use Rattle.std.specs.Prelude.{drop}
+use Rattle.std.specs.Option.{option_map}
+use Rattle.dz_member.specs.Membership.{shown, settings_at, IsNumbered}
+use Rattle.dz_member.specs.Process.{Judgement}
+use Rattle.dz_member.specs.inner.Walk.{judge_of, pair_of}
+use Rattle.dz_member.proofs.SpotLemmas.{steps, spots_end, first_behind, left_of}
+use Rattle.dz_member.proofs.WalkedLemmas.{shown_more, all_more, parts_of, is_some_map, walked_members, walked_changes}
+use Rattle.dz_member.proofs.walking.walk.Goals as goal
+
+pub zones-smaller : goal.zones-smaller
+zones-smaller c =
+    let fold = c.args.fold.now in
+    let judge = judge_of fold (settings_at fold.config c.args.number).name c.args.position in
+    let ns = map (λ r. r.now) c.args.nodes.now in
+    let inv = c.zones.invariant in
+    let p = pair_of c.in-Some.pair in
+    let first = sym (rw (c.node_at.ensures, first_behind ns c.zones.at) at c.in-Some.ensures) in
+    let s = steps judge c.zones.held.now (drop c.zones.at ns) p (map (shown fold.config) c.zones.processed.members.items) c.zones.processed.changes.items _ _ (inv.held, inv.listed) first inv.members inv.changes in
+    let next : drop c.behind-at.result ns ≡ left_of p (drop c.zones.at ns) = rw (is_some_map (λ r. r.now) c.in-Some.pair.node, ← c.is_some.ensures) c.behind-at.ensures in
+    rw next s.goes.less
+
+pub zones-preserved : goal.zones-preserved
+zones-preserved c =
+    let fold = c.args.fold.now in
+    let judge = judge_of fold (settings_at fold.config c.args.number).name c.args.position in
+    let ns = map (λ r. r.now) c.args.nodes.now in
+    let inv = c.zones.invariant in
+    let p = pair_of c.in-Some.pair in
+    let o = option_map (λ r. r.now) c.node_at.result in
+    let first = sym (rw (c.node_at.ensures, first_behind ns c.zones.at) at c.in-Some.ensures) in
+    let s = steps judge c.zones.held.now (drop c.zones.at ns) p (map (shown fold.config) c.zones.processed.members.items) c.zones.processed.changes.items _ _ (inv.held, inv.listed) first inv.members inv.changes in
+    let next : drop c.behind-at.result ns ≡ left_of p (drop c.zones.at ns) = rw (is_some_map (λ r. r.now) c.in-Some.pair.node, ← c.is_some.ensures) c.behind-at.ensures in
+    let parts = parts_of (IsNumbered fold.config) c.zones.held.now o p (sym c.in-Some.ensures) inv.numbered in
+    let stands = ap (λ (j : Judgement). j.stands) c.judge.ensures.is in
+    let change = ap (λ (j : Judgement). j.change) c.judge.ensures.is in
+    record {
+      held = s.goes.held;
+      listed = rw next s.goes.listed;
+      numbered = parts.1;
+      kept = rw c.in_ok-add.ensures.members (all_more (IsNumbered fold.config) c.zones.processed.members.items c.judge.result.stands inv.kept c.judge.ensures.numbered);
+      members = rw (c.in_ok-add.ensures.members, next, shown_more (shown fold.config) c.zones.processed.members.items c.judge.result.stands, stands) s.members_on;
+      changes = rw (c.in_ok-add.ensures.changes, next, change) s.changes_on;
+    }
+
+pub returns-clause-members : goal.returns-clause-members
+returns-clause-members c =
+    let fold = c.args.fold.now in
+    let catalog = (settings_at fold.config c.args.number).name in
+    let judge = judge_of fold catalog c.args.position in
+    let ns = map (λ r. r.now) c.args.nodes.now in
+    let e = spots_end judge c.zones.held.now (drop c.zones.at ns) (rw (c.node_at.ensures, first_behind ns c.zones.at) at (sym c.in_default.ensures)) in
+    sym (append-nil (map (shown fold.config) c.zones.processed.members.items)) ∙ (rw e at c.zones.invariant.members)
+    ∙ walked_members fold catalog c.args.position c.memberships-members.result.now ns c.memberships-members.ensures.members
+
+pub returns-clause-changes : goal.returns-clause-changes
+returns-clause-changes c =
+    let fold = c.args.fold.now in
+    let catalog = (settings_at fold.config c.args.number).name in
+    let judge = judge_of fold catalog c.args.position in
+    let ns = map (λ r. r.now) c.args.nodes.now in
+    let e = spots_end judge c.zones.held.now (drop c.zones.at ns) (rw (c.node_at.ensures, first_behind ns c.zones.at) at (sym c.in_default.ensures)) in
+    sym (append-nil c.zones.processed.changes.items) ∙ (rw e at c.zones.invariant.changes)
+    ∙ walked_changes fold catalog c.args.position c.memberships-members.result.now ns c.memberships-members.ensures.members

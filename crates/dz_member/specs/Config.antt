@@ -1,0 +1,56 @@
+-- Meaning: which configurations are within the limits.
+use Rattle.std.specs.Prelude.{◌≡◌, ℕ, Bool, true, nat_le, not, ◌&&◌, List, length}
+use Rattle.std.specs.List.{list_all}
+use Rattle.std.specs.Str.{bytes_eq}
+use Rattle.dz_name.specs.Words.{Octets}
+use Rattle.dz_name.specs.Name.{same_name}
+use Rattle.dz_io.specs.declared.peer.Peer.{Peer}
+use Rattle.dz_member.specs.declared.config.GroupSettings.{GroupSettings}
+use Rattle.dz_member.specs.declared.config.CatalogSettings.{CatalogSettings}
+use Rattle.dz_member.specs.Twice.{has_twice}
+
+-- from 1 to this many
+abbrev pub is_count : ℕ → ℕ → Bool
+is_count most n = nat_le 1 n && nat_le n most
+
+-- a word has 1 to 255 octets of visible ASCII
+abbrev pub is_visible : ℕ → Bool
+is_visible octet = nat_le 33 octet && nat_le octet 126
+
+abbrev pub is_word : Octets → Bool
+is_word word = is_count 255 (length word) && list_all is_visible word
+
+-- there are 1 to 8 primaries, and no port is 0
+abbrev pub are_primaries : List Peer → Bool
+are_primaries peers = is_count 8 (length peers) && list_all (λ peer. nat_le 1 peer.port) peers
+
+abbrev pub is_group : GroupSettings → Bool
+is_group group = is_word group.word && are_primaries group.primaries
+
+-- a catalog has at most 64 groups
+abbrev pub is_catalog : CatalogSettings → Bool
+is_catalog catalog = are_primaries catalog.primaries && (nat_le (length catalog.groups) 64 && list_all is_group catalog.groups)
+
+-- there are 1 to 8 catalogs
+abbrev pub is_within_limits : List CatalogSettings → Bool
+is_within_limits catalogs = is_count 8 (length catalogs) && list_all is_catalog catalogs
+
+-- no word stands twice in a catalog, and no catalog twice
+abbrev pub same_word : GroupSettings → GroupSettings → Bool
+same_word a b = bytes_eq a.word b.word
+
+abbrev pub same_catalog : CatalogSettings → CatalogSettings → Bool
+same_catalog a b = same_name a.name b.name
+
+abbrev pub has_words_once : CatalogSettings → Bool
+has_words_once catalog = not (has_twice same_word catalog.groups)
+
+abbrev pub has_each_once : List CatalogSettings → Bool
+has_each_once catalogs = not (has_twice same_catalog catalogs) && list_all has_words_once catalogs
+
+-- a configuration is within the limits, and names nothing twice
+abbrev pub is_allowed : List CatalogSettings → Bool
+is_allowed catalogs = is_within_limits catalogs && has_each_once catalogs
+
+abbrev pub IsAllowed : List CatalogSettings → Type 0
+IsAllowed catalogs = is_allowed catalogs ≡ true

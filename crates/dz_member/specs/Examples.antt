@@ -1,0 +1,143 @@
+-- Judge: limits of a configuration, choices of groups, and what a listing changes, computed by the checker.
+use Rattle.std.specs.Prelude.{◌≡◌, refl, ℕ, true, false, List, [], ◌∷◌, Option, Some, None, codes}
+use Rattle.dz_name.specs.Words.{Name, Octets}
+use Rattle.dz_io.specs.declared.peer.Peer.{Peer}
+use Rattle.dz_member.specs.declared.config.Policy.TheVariants.{Off, Present}
+use Rattle.dz_member.specs.declared.config.GroupSettings.{GroupSettings}
+use Rattle.dz_member.specs.declared.config.CatalogSettings.{CatalogSettings}
+use Rattle.dz_member.specs.declared.listing.Node.{Node}
+use Rattle.dz_member.specs.declared.change.What.{What}
+use Rattle.dz_member.specs.declared.change.What.TheVariants.{Added, Removed, Reset, Moved, MovedReset, Clash, Regrouped}
+use Rattle.dz_member.specs.declared.change.Change.{Change}
+use Rattle.dz_member.specs.Config.{is_allowed, is_word}
+use Rattle.dz_member.specs.Membership.{choice_of}
+use Rattle.dz_member.specs.Fold.{FoldOf, started}
+use Rattle.dz_member.specs.Process.{judged, process, changes}
+
+abbrev host : ℕ → Peer
+host port = record { address = 192 ∷ 0 ∷ 2 ∷ 1 ∷ []; port = port }
+
+abbrev edge : GroupSettings
+edge = record { word = codes "edge"; policy = Present; primaries = host 53 ∷ [] }
+
+abbrev core : GroupSettings
+core = record { word = codes "core"; policy = Present; primaries = host 53 ∷ [] }
+
+abbrev one : Name
+one = codes "cat1" ∷ codes "example" ∷ []
+
+abbrev two : Name
+two = codes "cat2" ∷ codes "example" ∷ []
+
+abbrev catalog : Name → List GroupSettings → CatalogSettings
+catalog name groups = record { name = name; policy = Off; primaries = host 53 ∷ []; groups = groups }
+
+abbrev both : List CatalogSettings
+both = catalog one (edge ∷ core ∷ []) ∷ catalog two [] ∷ []
+
+-- ---- limits
+pub allowed : is_allowed both ≡ true
+allowed = refl
+
+pub no_catalog : is_allowed [] ≡ false
+no_catalog = refl
+
+pub catalog_twice : is_allowed (catalog one [] ∷ catalog one [] ∷ []) ≡ false
+catalog_twice = refl
+
+pub word_twice : is_allowed (catalog one (edge ∷ edge ∷ []) ∷ []) ≡ false
+word_twice = refl
+
+pub no_primary : is_allowed (record { name = one; policy = Off; primaries = []; groups = [] } ∷ []) ≡ false
+no_primary = refl
+
+pub port_zero : is_allowed (record { name = one; policy = Off; primaries = host 0 ∷ []; groups = [] } ∷ []) ≡ false
+port_zero = refl
+
+pub visible : is_word (33 ∷ 126 ∷ []) ≡ true
+visible = refl
+
+pub blank : is_word (codes "a b") ≡ false
+blank = refl
+
+-- ---- groups: one character string, and a word of the catalog; the first counts
+pub first_known : choice_of (edge ∷ core ∷ []) ((3 ∷ codes "abc") ∷ (4 ∷ codes "core") ∷ (4 ∷ codes "edge") ∷ []) ≡ Some (codes "core")
+unfolding choice_of
+first_known = refl
+
+pub two_strings : choice_of (edge ∷ []) ((4 ∷ 101 ∷ 100 ∷ 103 ∷ 101 ∷ 0 ∷ []) ∷ (5 ∷ codes "edge") ∷ []) ≡ None
+unfolding choice_of
+two_strings = refl
+
+-- ---- a change of ownership, listing by listing
+abbrev zone : Name
+zone = codes "example" ∷ []
+
+abbrev node : Octets → Option Name → Node
+node label coo = record { label = label; zone = zone; coo = coo; groups = [] }
+
+abbrev m1 : Octets
+m1 = codes "m1"
+
+abbrev told : What → List Change
+told what = record { zone = zone; what = what } ∷ []
+
+abbrev after1 : FoldOf
+after1 = record {
+  config = both;
+  members = record { zone = zone; catalog = one; label = m1; incarnation = 1; choice = None } ∷ [];
+  listings = Some (node m1 None ∷ []) ∷ None ∷ [];
+}
+
+pub added : changes (started both) one (node m1 None ∷ []) 1 ≡ told (Added one)
+unfolding changes judged
+added = refl
+
+pub added_fold : process (started both) one (node m1 None ∷ []) 1 ≡ after1
+unfolding process judged choice_of
+added_fold = refl
+
+pub clash : changes after1 two (node m1 None ∷ []) 2 ≡ told (Clash (Some one))
+unfolding changes judged
+clash = refl
+
+-- the coo alone changes nothing
+abbrev after4 : FoldOf
+after4 = record {
+  config = both;
+  members = record { zone = zone; catalog = one; label = m1; incarnation = 1; choice = None } ∷ [];
+  listings = Some (node m1 (Some two) ∷ []) ∷ Some (node m1 None ∷ []) ∷ [];
+}
+
+pub coo_alone : changes after1 one (node m1 (Some two) ∷ []) 4 ≡ []
+unfolding changes judged choice_of
+coo_alone = refl
+
+pub moved : changes after4 two (node m1 None ∷ []) 5 ≡ told (Moved one two)
+unfolding changes judged
+moved = refl
+
+pub moved_reset : changes after4 two (node (codes "m9") None ∷ []) 5 ≡ told (MovedReset one two)
+unfolding changes judged
+moved_reset = refl
+
+-- a coo of the new holder's own listing is no consent
+pub coo_of_the_new : changes after1 two (node m1 (Some two) ∷ []) 5 ≡ told (Clash (Some one))
+unfolding changes judged
+coo_of_the_new = refl
+
+pub reset : changes after1 one (node (codes "m2") None ∷ []) 6 ≡ told (Reset one)
+unfolding changes judged
+reset = refl
+
+pub removed : changes after1 one [] 6 ≡ told (Removed one)
+unfolding changes judged
+removed = refl
+
+pub regrouped : changes after1 one (record { label = m1; zone = zone; coo = None; groups = (4 ∷ codes "edge") ∷ [] } ∷ []) 6 ≡ told (Regrouped one)
+unfolding changes judged choice_of
+regrouped = refl
+
+pub configured : changes (started both) one (record { label = m1; zone = two; coo = None; groups = [] } ∷ []) 6 ≡ record { zone = two; what = Clash None } ∷ []
+unfolding changes judged
+configured = refl

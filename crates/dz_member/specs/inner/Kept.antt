@@ -1,0 +1,39 @@
+-- Inner: how a fold is kept, with numbers in place of names.
+use Rattle.std.specs.Prelude.{ℕ, true, List, Option, map}
+use Rattle.std.specs.Option.{option_map}
+use Rattle.std.specs.List.{All, filter_map}
+use Rattle.std.specs.Set.{sorted_merge}
+use Rattle.dz_name.specs.Words.{Name}
+use Rattle.dz_name.specs.Name.{canonical_order}
+use Rattle.dz_member.specs.declared.config.CatalogSettings.{CatalogSettings}
+use Rattle.dz_member.specs.declared.listing.Node.{Node}
+use Rattle.dz_member.specs.declared.membership.Membership.{Membership}
+use Rattle.dz_member.specs.declared.judging.Judged.{Judged}
+use Rattle.dz_member.specs.declared.change.Change.{Change}
+use Rattle.dz_member.specs.Membership.{MemberOf, shown, IsNumbered}
+use Rattle.dz_member.specs.Process.{Judgement, judged_at}
+use Rattle.dz_member.specs.Fold.{FoldOf, IsFold}
+
+-- the fold of a configuration, of memberships with numbers, and of listings
+abbrev pub fold_in : List CatalogSettings → List Membership → List (Option (List Node)) → FoldOf
+fold_in catalogs members listings = record { config = catalogs; members = map (shown catalogs) members; listings = listings }
+
+-- it is a fold, and there is a catalog and a group of each number
+pub record IsKept (catalogs : List CatalogSettings) (members : List Membership) (listings : List (Option (List Node))) : Type 0 where
+  pub fold : IsFold (fold_in catalogs members listings)
+  pub numbered : All (IsNumbered catalogs) members
+
+-- what was judged, with the names that the numbers stand for
+abbrev pub judgement_of : List CatalogSettings → Judged → Judgement
+judgement_of catalogs j = record { stands = option_map (shown catalogs) j.stands; change = j.change }
+
+-- what the nodes of a listing leave, given in the order of their zones
+abbrev pub zones_from : FoldOf → List Node → List Name
+zones_from fold nodes = sorted_merge canonical_order true (map (λ m. m.zone) fold.members) (map (λ node. node.zone) nodes)
+
+unfoldable pub members_from : FoldOf → Name → ℕ → List Node → List MemberOf
+members_from fold catalog position nodes = filter_map (λ zone. (judged_at fold catalog nodes position zone).stands) (zones_from fold nodes)
+
+unfoldable pub changes_from : FoldOf → Name → ℕ → List Node → List Change
+changes_from fold catalog position nodes =
+    filter_map (λ zone. option_map (λ what. record { zone = zone; what = what }) (judged_at fold catalog nodes position zone).change) (zones_from fold nodes)

@@ -1,0 +1,108 @@
+//! The last unbroken listing of a catalog, which folds share.
+
+ghost use Rattle.std.specs.Prelude.{◌≡◌, ◌<◌, length, replicate, slice_set, Some, None, IfOk, option_map};
+
+use crate::listing::Listing;
+use std::alloc::{AllocError, Global};
+use std::marker::Model;
+use std::mem;
+use std::sync::Arc;
+
+/// The last unbroken listing of a catalog, if it had one.
+#[derive(Debug, Drop)]
+pub(crate) struct Known {
+    listing: Option<Arc<Listing>>,
+}
+
+impl Model for Known {
+    ghost use Rattle.std.specs.Prelude.{List, Option, option_map};
+    ghost use Rattle.std.specs.Arc.{arc_value};
+    ghost use Rattle.dz_member.specs.declared.listing.Node.{Node};
+
+    ghost Value = { Option (List Node) };
+
+    ghost view = { λ k. option_map arc_value k.listing };
+}
+
+impl Known {
+    /// None yet.
+    pub(crate) fn nothing() -> Known
+        ensures { result ≡ None }
+    {
+        Known { listing: None }
+    }
+
+    pub(crate) fn of(alloc: Global, listing: Listing) -> Result<Known, AllocError>
+        ensures { IfOk result (λ k. k ≡ Some listing) }
+    {
+        let shared = Arc::new(alloc, listing)?;
+        Ok(Known {
+            listing: Some(shared),
+        })
+    }
+
+    pub(crate) fn listing(&self) -> Option<&Listing>
+        ensures { option_map (λ r. r.now) result ≡ self.now }
+    {
+        match &self.listing {
+            None => None,
+            Some(listing) => Some(&**listing),
+        }
+    }
+
+    /// The same listing once more.
+    pub(crate) fn share(&self) -> Result<Known, AllocError>
+        ensures { IfOk result (λ k. k ≡ self.now) }
+    {
+        let listing = match &self.listing {
+            None => None,
+            Some(listing) => Some(Arc::try_clone(listing)?),
+        };
+        Ok(Known { listing })
+    }
+}
+
+/// Nothing is known yet of so many catalogs.
+pub(crate) fn nothing_known(alloc: Global, count: usize) -> Result<Vec<Known>, AllocError>
+    ensures { IfOk result (λ ks. ks.items ≡ replicate count None) }
+{
+    let mut known = Vec::with_capacity(alloc, count)?;
+    'catalogs: for _place in 0..count {
+        known.push(Known::nothing())?;
+    }
+    Ok(known)
+}
+
+/// The same listings, but for a catalog's, which is the last now.
+pub(crate) fn with_listing(
+    alloc: Global,
+    known: &[Known],
+    number: usize,
+    listing: Listing,
+) -> Result<Vec<Known>, AllocError>
+    requires { number < length known.now }
+    ensures { IfOk result (λ ks. ks.items ≡ slice_set known.now number (Some listing)) }
+{
+    let mut copies = share_all(alloc, known)?;
+    let last = Known::of(alloc, listing)?;
+    put(&mut copies, number, last);
+    Ok(copies)
+}
+
+fn share_all(alloc: Global, known: &[Known]) -> Result<Vec<Known>, AllocError>
+    ensures { IfOk result (λ ks. ks.items ≡ known.now) }
+{
+    let mut copies = Vec::with_capacity(alloc, known.len())?;
+    'known: for one in known {
+        copies.push(one.share()?)?;
+    }
+    Ok(copies)
+}
+
+fn put(known: &mut Vec<Known>, number: usize, last: Known)
+    requires { number < length known.old.items }
+    ensures { known.new.items ≡ slice_set known.old.items number last }
+{
+    let old = mem::replace(&mut known[number], last);
+    drop(old);
+}

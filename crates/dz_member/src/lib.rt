@@ -1,0 +1,28 @@
+//! The configuration of catalogs, their listings, and which zones are members of which catalog (RFC 9432).
+#![tactic(auto)]
+
+mod change;
+mod config;
+mod fold;
+mod groups;
+mod judging;
+mod known;
+mod laws;
+mod limits;
+mod listing;
+mod membership;
+mod process;
+mod sorting;
+mod walking;
+
+pub use change::{Change, Changes, What};
+pub use config::{CatalogSettings, Config, GroupSettings, Groups, Peers, Policy};
+pub use fold::Fold;
+pub use laws::{changes_once, held_once, in_any_order, keeps_state, moves_with_consent, stays};
+pub use limits::{CATALOG_GROUPS, CATALOGS, PRIMARIES, WORD_OCTETS, is_word};
+pub use listing::{Broken, Listing, Node, Texts};
+pub use membership::{Member, Membership};
+pub use sorting::has_zone_twice;
+
+#[cfg(test)]
+mod tests;

@@ -1,0 +1,125 @@
+//! What a catalog lists (RFC 9432 section 4).
+
+ghost use Rattle.std.specs.Prelude.{◌≡◌, [], length};
+ghost use Rattle.dz_member.specs.Listing.{IsListing};
+
+use dz_name::{Label, Name, Octets};
+use std::alloc::Global;
+use std::marker::Model;
+
+/// The RDATA of TXT records, in the order of their octets.
+#[derive(Debug, Drop)]
+pub struct Texts {
+    items: Vec<Octets>,
+}
+
+impl Model for Texts {
+    ghost use Rattle.std.specs.Prelude.{List};
+    ghost use Rattle.dz_name.specs.Words.{Octets};
+
+    ghost Value = { List Octets };
+
+    ghost view = { λ t. t.items.items };
+}
+
+impl Texts {
+    /// Takes over a vector, without memory of its own.
+    pub fn from_vec(items: Vec<Octets>) -> Texts
+        ensures { result ≡ items.items }
+    {
+        Texts { items }
+    }
+
+    /// Gives the vector back.
+    pub fn into_vec(self) -> Vec<Octets>
+        ensures { result.items ≡ self }
+    {
+        self.items
+    }
+
+    pub fn as_slice(&self) -> &[Octets]
+        ensures { result.now ≡ self.now }
+    {
+        self.items.as_slice()
+    }
+}
+
+/// A member node: one label below `zones` and the catalog's name that owns a PTR (RFC 9432 section 4.1).
+#[derive(Debug, Drop)]
+pub struct Node {
+    pub label: Label,
+    /// The member zone, the target of the PTR.
+    pub zone: Name,
+    /// The catalog that may take the zone over (RFC 9432 section 4.3.1).
+    pub coo: Option<Name>,
+    /// The RDATA of the group's TXT records, in the order of their octets (RFC 9432 section 4.3.2).
+    pub groups: Texts,
+}
+
+/// The member nodes of a catalog: at most 65,536, in the order of their labels, no label and no zone twice.
+#[derive(Debug, Drop)]
+pub struct Listing {
+    nodes: Vec<Node>,
+}
+
+impl Model for Listing {
+    ghost use Rattle.std.specs.Prelude.{List};
+    ghost use Rattle.dz_member.specs.declared.listing.Node.{Node};
+    ghost use Rattle.dz_member.specs.Listing.{IsListing};
+
+    ghost Value = { List Node };
+
+    ghost view = { λ l. l.nodes.items };
+
+    ghost invariant = { λ l. IsListing l.nodes.items };
+}
+
+impl Listing {
+    /// The most nodes of a listing.
+    pub const NODES: usize = 65_536;
+
+    /// The listing without nodes. It takes no memory.
+    pub fn empty(alloc: Global) -> Listing
+        ensures { result ≡ [] }
+    {
+        Listing {
+            nodes: Vec::new(alloc),
+        }
+    }
+
+    /// The listing of these nodes, without memory of its own.
+    pub fn from_vec(nodes: Vec<Node>) -> Listing
+        requires { IsListing nodes.items }
+        ensures { result ≡ nodes.items }
+    {
+        Listing { nodes }
+    }
+
+    /// The nodes, in the order of their labels.
+    pub fn nodes(&self) -> &[Node]
+        ensures nodes { result.now ≡ self.now }
+        ensures listing { IsListing self.now }
+    {
+        self.nodes.as_slice()
+    }
+}
+
+/// Why a catalog's version has no listing. Where more than one holds, the first in this order counts (RFC 9432
+/// sections 4 and 5).
+#[derive(Clone, Copy, Debug, PartialEq, Eq)]
+pub enum Broken {
+    /// No TXT stands at `version` below the catalog's name.
+    NoVersion,
+    /// More than one stands there.
+    VersionTwice,
+    /// It isn't the one character string "2".
+    OtherVersion,
+    /// A member node has more than one PTR.
+    MemberTwice,
+    /// A `coo` below a member node has more than one PTR.
+    CooTwice,
+    /// There are more than 65,536 member nodes.
+    TooManyMembers,
+    /// Two member nodes have the same zone.
+    ZoneTwice,
+}

@@ -1,0 +1,151 @@
+//! The walk over members and nodes that both stand in the order of their zones.
+
+ghost use Rattle.std.specs.Prelude.{◌≡◌, ◌<◌, ◌++◌, length, map, drop, slice_get, if◌then◌else◌, option_map, OnOk, IfOk, All};
+ghost use Rattle.std.specs.Option.{option_to_list};
+ghost use Rattle.std.specs.List.Sorted.{IsStrictlySortedBy};
+ghost use Rattle.dz_name.specs.Name.{canonical_order};
+ghost use Rattle.dz_member.specs.Membership.{settings_at, shown, IsNumbered};
+ghost use Rattle.dz_member.specs.Fold.{IsFold};
+ghost use Rattle.dz_member.specs.inner.Kept.{members_from, changes_from};
+ghost use Rattle.dz_member.specs.inner.Walk.{first_pair, pair_of};
+
+use crate::change::Change;
+use crate::fold::Fold;
+use crate::judging::{Judged, judge};
+use crate::listing::Node;
+use crate::membership::Membership;
+use dz_name::Name;
+use std::alloc::{AllocError, Global};
+use std::cmp::Ordering;
+
+/// What a listing leaves.
+#[derive(Drop)]
+pub(crate) struct Processed {
+    pub(crate) members: Vec<Membership>,
+    pub(crate) changes: Vec<Change>,
+}
+
+/// The first zone of two lists in zone order, its membership, its node, and the memberships behind.
+#[derive(Clone, Copy)]
+struct Pair<'a> {
+    zone: &'a Name,
+    member: Option<&'a Membership>,
+    node: Option<&'a Node>,
+    held: &'a [Membership],
+}
+
+/// The first zone of memberships and of a list of nodes whose first is given.
+fn first_pair<'a>(held: &'a [Membership], node: Option<&'a Node>) -> Option<Pair<'a>>
+    ensures { option_map pair_of result ≡ first_pair held.now (option_map (λ r. r.now) node.entry) }
+{
+    match held.split_first() {
+        None => match node {
+            None => None,
+            Some(n) => Some(Pair {
+                zone: &n.zone,
+                member: None,
+                node: Some(n),
+                held,
+            }),
+        },
+        Some((m, members)) => match node {
+            None => Some(Pair {
+                zone: &m.zone,
+                member: Some(m),
+                node: None,
+                held: members,
+            }),
+            Some(n) => Some(match m.zone.canonical_cmp(&n.zone) {
+                Ordering::Less => Pair {
+                    zone: &m.zone,
+                    member: Some(m),
+                    node: None,
+                    held: members,
+                },
+                Ordering::Equal => Pair {
+                    zone: &m.zone,
+                    member: Some(m),
+                    node: Some(n),
+                    held: members,
+                },
+                Ordering::Greater => Pair {
+                    zone: &n.zone,
+                    member: None,
+                    node: Some(n),
+                    held,
+                },
+            }),
+        },
+    }
+}
+
+/// The node at a place, if there is one.
+fn node_at<'a>(nodes: &[&'a Node], at: usize) -> Option<&'a Node>
+    ensures { option_map (λ r. r.now) result ≡ slice_get (map (λ r. r.now) nodes.now) at }
+{
+    if at < nodes.len() {
+        Some(nodes[at])
+    } else {
+        None
+    }
+}
+
+/// The place of the first node that is left, after the one at a place where it was taken.
+fn behind(nodes: &[&Node], at: usize, taken: bool) -> usize
+    ensures { drop result (map (λ r. r.now) nodes.now) ≡ drop (if taken then 1 else 0) (drop at (map (λ r. r.now) nodes.now)) }
+{
+    if taken && at < nodes.len() {
+        at + 1
+    } else {
+        at
+    }
+}
+
+impl Processed {
+    /// Adds what was judged of a zone.
+    fn add(&mut self, zone: &Name, judged: &Judged) -> Result<(), AllocError>
+        ensures members { OnOk result (self.new.members.items ≡ self.old.members.items ++ option_to_list judged.now.stands) }
+        ensures changes { OnOk result (self.new.changes.items ≡ self.old.changes.items ++ option_to_list (option_map (λ what. record { zone = zone.now; what = what }) judged.now.change)) }
+    {
+        if let Some(member) = judged.stands {
+            self.members.push(member)?;
+        }
+        if let Some(what) = judged.change {
+            self.changes.push(Change { zone: *zone, what })?;
+        }
+        Ok(())
+    }
+}
+
+/// What a listing leaves, whose nodes are given in the order of their zones.
+pub(crate) fn walk(
+    alloc: Global,
+    fold: &Fold,
+    number: u8,
+    position: u64,
+    nodes: &[&Node],
+) -> Result<Processed, AllocError>
+    requires fold { IsFold fold.now }
+    requires number { number < length fold.now.config }
+    requires nodes { IsStrictlySortedBy canonical_order (map (λ n. n.zone) (map (λ r. r.now) nodes.now)) }
+    ensures members { IfOk result (λ p. map (shown fold.now.config) p.members.items ≡ members_from fold.now (settings_at fold.now.config number).name position (map (λ r. r.now) nodes.now)) }
+    ensures changes { IfOk result (λ p. p.changes.items ≡ changes_from fold.now (settings_at fold.now.config number).name position (map (λ r. r.now) nodes.now)) }
+    ensures numbered { IfOk result (λ p. All (IsNumbered fold.now.config) p.members.items) }
+{
+    let members = fold.memberships();
+    let mut processed = Processed {
+        members: Vec::with_capacity(alloc, members.len())?,
+        changes: Vec::new(alloc),
+    };
+    let mut held = members;
+    let mut at = 0;
+    'zones: while let Some(pair) = first_pair(held, node_at(nodes, at)) {
+        processed.add(
+            pair.zone,
+            &judge(fold, number, position, pair.member, pair.node),
+        )?;
+        held = pair.held;
+        at = behind(nodes, at, pair.node.is_some());
+    }
+    Ok(processed)
+}

@@ -1,0 +1,76 @@
+//! The digest of a zone.
+
+ghost use Rattle.std.specs.Prelude.{◌≡◌, ◌==◌, ◌≤◌, ◌++◌, ℕ, List, take, length};
+ghost use Rattle.std.specs.List.Sorted.{IsStrictlySortedBy};
+ghost use Rattle.dz_record.specs.Record.{record_order};
+ghost use Rattle.dz_zonemd.specs.Digested.{digested, is_left_out, type_covered};
+
+use dz_name::Name;
+use dz_name::dns::{TYPE_RRSIG, TYPE_ZONEMD};
+use dz_name::numbers::number_of_two;
+use dz_record::Rr;
+use sha2::Digest;
+
+/// So many octets of records are put together before they go into the hasher.
+const BATCH_OCTETS: usize = 4096;
+
+/// Whether a record isn't digested: a ZONEMD record of the apex, or an RRSIG record of the apex that covers it
+/// (RFC 8976 section 3.3.1.1). Types are told sooner than owners, so they are compared first.
+fn is_left_out(apex: &Name, rr: &Rr) -> bool
+    ensures { result ≡ is_left_out apex.now rr.now }
+{
+    let is_about_digests = match rr.kind() {
+        TYPE_ZONEMD => true,
+        TYPE_RRSIG => covers_zonemd(rr),
+        _ => false,
+    };
+    is_about_digests && rr.is_owned_by(apex)
+}
+
+/// Whether an RRSIG covers ZONEMD records (RFC 4034 section 3.1.1).
+fn covers_zonemd(rr: &Rr) -> bool
+    requires { rr.now.kind ≡ TYPE_RRSIG }
+    ensures { result ≡ (type_covered rr.now == TYPE_ZONEMD) }
+{
+    number_of_two(rr.rdata()) == TYPE_ZONEMD
+}
+
+/// Octets behind the first so many of a batch: they join the batch, or where there is no room the batch goes into the
+/// hasher first. How many octets the batch then has.
+fn join<D: Digest>(
+    hasher: &mut D,
+    batch: &mut [u8; BATCH_OCTETS],
+    count: usize,
+    octets: &[u8],
+) -> usize
+    requires { count ≤ BATCH_OCTETS }
+    ensures within { result ≤ BATCH_OCTETS }
+    ensures holds { (m : List ℕ) → D.holds hasher.old m → (n : List ℕ) × D.holds hasher.new n × (n ++ take result batch.new ≡ m ++ take count batch.old ++ octets.now) }
+{
+    if octets.len() <= BATCH_OCTETS - count {
+        batch[count..count + octets.len()].copy_from_slice(octets);
+        return count + octets.len();
+    }
+    hasher.update(&batch[..count]);
+    hasher.update(octets);
+    0
+}
+
+/// The digest of a zone by scheme SIMPLE (RFC 8976 section 3.3.1): of all records but the ZONEMD records of the apex and
+/// the RRSIG records of the apex that cover them. The records stand in canonical order, and no two are the same. Their
+/// octets go into the hasher in batches: so the memory in which they lie is read ahead of the hash.
+pub fn zone_digest<D: Digest>(apex: &Name, records: &[Rr]) -> D::Output
+    requires { IsStrictlySortedBy record_order records.now }
+    ensures { D.digest_of (digested apex.now records.now) result }
+{
+    let mut hasher = D::new();
+    let mut batch = [0u8; BATCH_OCTETS];
+    let mut count = 0;
+    'records: for record in records {
+        if !is_left_out(apex, record) {
+            count = join(&mut hasher, &mut batch, count, record.octets());
+        }
+    }
+    hasher.update(&batch[..count]);
+    hasher.finalize()
+}
