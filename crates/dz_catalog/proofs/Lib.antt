@@ -1,0 +1,6 @@
+pub mod BelowLemmas
+pub mod ListingLemmas
+pub mod NameLemmas
+pub mod OrderLemmas
+pub mod TwinLemmas
+pub mod ZoneLemmas

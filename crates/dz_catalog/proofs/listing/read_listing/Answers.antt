@@ -1,0 +1,6 @@
+use Rattle.std.proofs.Common.{sym, ◌∙◌, ap}
+use Rattle.dz_catalog.proofs.ListingLemmas.{reads_broken}
+use Rattle.dz_catalog.proofs.listing.read_listing.Goals as goal
+
+pub returns-in-Some : goal.returns-in-Some
+returns-in-Some c = reads_broken _ _ _ (cc)

@@ -1,0 +1,14 @@
+use Rattle.std.proofs.Common.{◌≡◌, sym, ◌∙◌}
+use Rattle.std.specs.Prelude.{Some, true}
+use Rattle.dz_name.specs.Name.{first_label}
+use Rattle.dz_record.specs.Record.{target_of}
+use Rattle.dz_catalog.specs.Member.{is_member}
+use Rattle.dz_catalog.proofs.BelowLemmas.{behind_is}
+use Rattle.dz_catalog.proofs.reading.node_behind.Goals as goal
+
+pub returns-in_ok-node-in-Some-Some : goal.returns-in_ok-node-in-Some-Some
+returns-in_ok-node-in-Some-Some c =
+    let m : is_member c.args.apex.now c.args.found.now ≡ true = sym c.is_member.ensures ∙ c.if-not-is_member.false in
+    let f : first_label c.args.found.now.owner ≡ Some c.in-Some-Some.label = cc in
+    let t : target_of c.args.found.now ≡ Some c.in-Some-Some.zone = cc in
+    behind_is c.args.apex.now c.args.found.now c.args.behind.now c.below.result.now c.owner_ref-owner.result c.in-Some-Some.label c.in-Some-Some.zone _ m f t c.owner_ref-owner.ensures c.below.ensures c.in_ok-node-in-Some-Some.ensures

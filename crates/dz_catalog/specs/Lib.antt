@@ -1,0 +1,6 @@
+pub mod Broken
+pub mod Examples
+pub mod Laws
+pub mod Listing
+pub mod Member
+pub mod inner

@@ -1,0 +1,8 @@
+//! Laws of listings.
+
+ghost use Rattle.dz_catalog.specs.Laws.{OrderIsFree};
+
+/// What a catalog lists, or why it is broken, doesn't hang on the order of its records.
+pub fn order_is_free()
+    ensures { OrderIsFree }
+{}

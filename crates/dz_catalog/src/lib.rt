@@ -1,0 +1,16 @@
+//! What a catalog zone lists (RFC 9432 section 4): its member nodes with their properties, or why it is broken.
+#![tactic(auto)]
+
+mod fault;
+mod judging;
+mod laws;
+mod listing;
+mod names;
+mod reading;
+#[cfg(test)]
+mod tests;
+mod zones;
+
+pub use fault::CatalogError;
+pub use laws::order_is_free;
+pub use listing::read_listing;

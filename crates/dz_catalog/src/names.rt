@@ -1,0 +1,81 @@
+//! Names of a catalog zone, told where they lie in the records.
+
+ghost use Rattle.std.specs.Prelude.{◌≡◌, ◌∷◌, ◌&&◌, codes};
+ghost use Rattle.std.specs.Option.{option_map};
+ghost use Rattle.dz_name.specs.Name.{same_name, first_label, parent_of};
+ghost use Rattle.dz_catalog.specs.Member.{begins_with, is_node, is_coo};
+
+use dz_name::{Label, Name, NameRef};
+
+/// The name one label up, on the same octets; none for the root.
+fn parent<'a>(name: &NameRef<'a>) -> Option<NameRef<'a>>
+    ensures { result ≡ parent_of name.now }
+{
+    if name.label_count() == 0 {
+        None
+    } else {
+        Some(NameRef::of_wire(name.behind(1)))
+    }
+}
+
+/// The octets of the first label, where they lie; none of the root.
+fn first_label<'a>(name: &NameRef<'a>) -> Option<&'a [u8]>
+    ensures { option_map (λ label. label.now) result ≡ first_label name.now }
+{
+    if name.label_count() == 0 {
+        None
+    } else {
+        Some(name.piece(0).split_at(1).1)
+    }
+}
+
+/// The first label; none of the root.
+pub(crate) fn first_of(name: &NameRef) -> Option<Label>
+    ensures { result ≡ first_label name.now }
+{
+    if name.label_count() == 0 {
+        None
+    } else {
+        Label::new(name.piece(0).split_at(1).1)
+    }
+}
+
+/// Whether the first label is this one.
+fn begins_with(label: &[u8], name: &NameRef) -> bool
+    ensures { result ≡ begins_with label.now name.now }
+{
+    match first_label(name) {
+        None => false,
+        Some(first) => first == label,
+    }
+}
+
+/// Whether a name is that one with this label in front.
+pub(crate) fn is_child(name: &NameRef, label: &[u8], above: &NameRef) -> bool
+    ensures { result ≡ same_name name.now (label.now ∷ above.now) }
+{
+    match parent(name) {
+        None => false,
+        Some(behind) => begins_with(label, name) && behind.same(above),
+    }
+}
+
+/// Whether a name is that of a member node.
+pub(crate) fn is_node(apex: &Name, name: &NameRef) -> bool
+    ensures { result ≡ is_node apex.now name.now }
+{
+    match parent(name) {
+        None => false,
+        Some(above) => is_child(&above, b"zones", &apex.as_ref()),
+    }
+}
+
+/// Whether a name is that of a change of ownership.
+pub(crate) fn is_coo(apex: &Name, name: &NameRef) -> bool
+    ensures { result ≡ is_coo apex.now name.now }
+{
+    match parent(name) {
+        None => false,
+        Some(node) => begins_with(b"coo", name) && is_node(apex, &node),
+    }
+}

@@ -1,0 +1,146 @@
+//! The member nodes, from records in canonical order.
+
+ghost use Rattle.std.specs.Prelude.{◌≡◌, ◌∷◌, ◌+◌, ◌<◌, ◌++◌, length, drop, not, IfOk, OnOk, find, position};
+ghost use Rattle.std.specs.List.{filter_map};
+ghost use Rattle.std.specs.List.Sorted.{IsStrictlySortedBy};
+ghost use Rattle.std.specs.Option.{option_map, option_to_list};
+ghost use Rattle.dz_name.specs.Name.{is_within};
+ghost use Rattle.dz_record.specs.Record.{record_order};
+ghost use Rattle.dz_catalog.specs.Member.{node_of, coo_name};
+ghost use Rattle.dz_catalog.specs.inner.Below.{below, is_at, coo_among, groups_among, node_among, node_behind};
+
+use crate::judging::{is_member, member_count};
+use crate::names::{first_of, is_child};
+use dz_member::{Node, Texts};
+use dz_name::dns::{TYPE_PTR, TYPE_TXT};
+use dz_name::{Label, Name, NameRef, Octets};
+use dz_record::Rr;
+use std::alloc::{AllocError, Global};
+
+/// The member nodes, in the order of their labels. Each record is looked at a few times at most: what belongs to a node
+/// stands right behind it.
+pub(crate) fn nodes(alloc: Global, apex: &Name, records: &[Rr]) -> Result<Vec<Node>, AllocError>
+    requires { IsStrictlySortedBy record_order records.now }
+    ensures { IfOk result (λ v. v.items ≡ filter_map (node_of apex.now records.now) records.now) }
+{
+    let mut nodes = Vec::with_capacity(alloc, member_count(apex, records))?;
+    'records: for (place, found) in records.iter().enumerate() {
+        let node = node_behind(alloc, apex, found, behind(records, place))?;
+        add(&mut nodes, node)?;
+    }
+    Ok(nodes)
+}
+
+/// The records behind a place.
+fn behind(records: &[Rr], place: usize) -> &[Rr]
+    requires { place < length records.now }
+    ensures { result.now ≡ drop (place + 1) records.now }
+{
+    &records[place + 1..]
+}
+
+/// Puts a node behind the others, if there is one.
+fn add(nodes: &mut Vec<Node>, node: Option<Node>) -> Result<(), AllocError>
+    ensures { OnOk result (nodes.new.items ≡ nodes.old.items ++ option_to_list node) }
+{
+    if let Some(node) = node {
+        nodes.push(node)?;
+    }
+    Ok(())
+}
+
+/// The member node of a record, if it is a member record, by the records behind it.
+#[tactic(auto, unfolding(crate::specs::inner::Below::node_behind))]
+fn node_behind(
+    alloc: Global,
+    apex: &Name,
+    found: &Rr,
+    behind: &[Rr],
+) -> Result<Option<Node>, AllocError>
+    ensures { IfOk result (λ node. node ≡ node_behind apex.now found.now behind.now) }
+{
+    if !is_member(apex, found) {
+        return Ok(None);
+    }
+    let owner = found.owner_ref();
+    match (first_of(&owner), found.target()) {
+        (Some(label), Some(zone)) => {
+            let node = node_among(alloc, label, zone, &owner, below(&owner, behind))?;
+            Ok(Some(node))
+        }
+        _ => Ok(None),
+    }
+}
+
+/// The node of a label and a zone, by the records below it.
+fn node_among(
+    alloc: Global,
+    label: Label,
+    zone: Name,
+    owner: &NameRef,
+    records: &[Rr],
+) -> Result<Node, AllocError>
+    ensures { IfOk result (λ node. node ≡ node_among owner.now records.now label zone) }
+{
+    let groups = groups_among(alloc, owner, records)?;
+    Ok(Node {
+        label,
+        zone,
+        coo: coo_among(owner, records),
+        groups,
+    })
+}
+
+/// Of records behind one of a node, those of the node and of the names below it.
+fn below<'a>(node: &NameRef, records: &'a [Rr]) -> &'a [Rr]
+    ensures { result.now ≡ below node.now records.now }
+{
+    match place_outside(node, records) {
+        None => records,
+        Some(end) => &records[..end],
+    }
+}
+
+/// The place of the first record whose owner is neither the node nor below it.
+fn place_outside(node: &NameRef, records: &[Rr]) -> Option<usize>
+    ensures { result ≡ position (λ r. not (is_within r.owner node.now)) records.now }
+{
+    records.iter().position(|r| !r.owner_ref().is_within(node))
+}
+
+/// Whether a record is of this type, and its owner has this label in front of the node's name.
+fn is_at(kind: u16, label: &[u8], node: &NameRef, found: &Rr) -> bool
+    ensures { result ≡ is_at kind (label.now ∷ node.now) found.now }
+{
+    found.kind() == kind && is_child(&found.owner_ref(), label, node)
+}
+
+/// The first record of a node's change of ownership.
+fn first_coo<'a>(node: &NameRef, records: &'a [Rr]) -> Option<&'a Rr>
+    ensures { option_map (λ r. r.now) result ≡ find (is_at TYPE_PTR (coo_name node.now)) records.now }
+{
+    records.iter().find(|r| is_at(TYPE_PTR, b"coo", node, r))
+}
+
+/// The catalog that a node's change of ownership names.
+fn coo_among(node: &NameRef, records: &[Rr]) -> Option<Name>
+    ensures { result ≡ coo_among node.now records.now }
+{
+    match first_coo(node, records) {
+        None => None,
+        Some(coo) => coo.target(),
+    }
+}
+
+/// A node's groups.
+fn groups_among(alloc: Global, node: &NameRef, records: &[Rr]) -> Result<Texts, AllocError>
+    ensures { IfOk result (λ groups. groups ≡ groups_among node.now records.now) }
+{
+    let mut groups = Vec::new(alloc);
+    'records: for found in records {
+        if is_at(TYPE_TXT, b"group", node, found) {
+            groups.push(Octets::from_vec(Vec::from_slice(alloc, found.rdata())?))?;
+        }
+    }
+    Ok(Texts::from_vec(groups))
+}

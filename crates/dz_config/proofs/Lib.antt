@@ -1,0 +1,4 @@
+pub mod NumberLemmas
+pub mod TreeLemmas
+pub mod PartLemmas
+pub mod LaterLemmas

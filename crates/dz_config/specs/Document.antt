@@ -1,0 +1,114 @@
+-- Meaning: the configuration that a document has, or the least fault of it. A document is a table as TOML defines it
+-- (TOML 1.1): however it is written, by headers, dotted keys or inline tables.
+use Rattle.std.specs.Prelude.{Bool, ◌||◌, not, List, [], ◌∷◌, map, codes, Option, Some, None, Result, Ok, Err, if◌then◌else◌}
+use Rattle.std.specs.List.{list_any}
+use Rattle.std.specs.Option.{option_and_then, option_map_or}
+use Rattle.std.specs.Str.{bytes_eq}
+use Rattle.dz_io.specs.declared.peer.Peer.{Peer}
+use Rattle.dz_member.specs.Config.{is_within_limits, has_each_once}
+use Rattle.dz_member.specs.declared.config.CatalogSettings.{CatalogSettings}
+use Rattle.dz_member.specs.declared.config.GroupSettings.{GroupSettings}
+use Rattle.dz_member.specs.declared.config.Policy.{Policy}
+use Rattle.dz_name.specs.Text.{name_of_text}
+use Rattle.dz_name.specs.Words.{Name, Octets}
+use Rattle.toml.specs.Data.{Data, Items, no_items, item, Members, no_members, member, get_member, as_str, as_array, as_table}
+use Rattle.dz_config.specs.Peer.{peer_of, policy_of}
+use Rattle.dz_config.specs.Reading.{Reading, both, made, read_in, gathered}
+use Rattle.dz_config.specs.declared.fault.ConfigFault.TheVariants.{UnknownKey, MissingValue, BadName, UnknownPolicy, BadPeer, OutOfLimits, Twice}
+use Rattle.dz_config.specs.declared.keys.Place.{Place}
+use Rattle.dz_config.specs.declared.keys.Place.TheVariants.{Document, Catalog, Group}
+
+-- the keys of the document, of a catalog and of a group
+abbrev pub is_key : Place → Octets → Bool
+is_key Document key = bytes_eq key (codes "listen") || bytes_eq key (codes "catalog")
+is_key Catalog key = bytes_eq key (codes "name") || (bytes_eq key (codes "policy") || (bytes_eq key (codes "primaries") || bytes_eq key (codes "group")))
+is_key Group key = bytes_eq key (codes "word") || (bytes_eq key (codes "policy") || bytes_eq key (codes "primaries"))
+
+abbrev pub keys_of : Members → List Octets
+keys_of no_members = []
+keys_of (member key value members) = key ∷ keys_of members
+
+abbrev pub known : Place → Members → Reading (Unit {0})
+known place table = if list_any (λ key. not (is_key place key)) (keys_of table) then Err UnknownKey else Ok tt
+
+-- a value of the kind that is wanted
+abbrev pub wanted : {X : Type 0} → Option X → Reading X
+wanted (Some x) = Ok x
+wanted None = Err MissingValue
+
+abbrev pub list_of : Items → List Data
+list_of no_items = []
+list_of (item value items) = value ∷ list_of items
+
+abbrev pub text_at : Octets → Members → Reading Octets
+text_at key table = wanted (option_and_then as_str (get_member key table))
+
+abbrev pub values_at : Octets → Members → Reading (List Data)
+values_at key table = made list_of (wanted (option_and_then as_array (get_member key table)))
+
+-- a name, a policy and a peer of a text
+abbrev pub name_read : {E : Type 0} → Result Name E → Reading Name
+name_read (Ok name) = Ok name
+name_read (Err fault) = Err BadName
+
+abbrev pub name_from : Octets → Reading Name
+name_from text = name_read (name_of_text text)
+
+abbrev pub policy_from : Octets → Reading Policy
+policy_from text = option_map_or Ok (policy_of text) (Err UnknownPolicy)
+
+abbrev pub peer_from : Octets → Reading Peer
+peer_from text = option_map_or Ok (peer_of text) (Err BadPeer)
+
+-- the primaries of a catalog or a group
+abbrev pub primary_of : Data → Reading Peer
+primary_of value = read_in peer_from (wanted (as_str value))
+
+abbrev pub primaries_of : Members → Reading (List Peer)
+primaries_of table = read_in (λ values. gathered (map primary_of values)) (values_at (codes "primaries") table)
+
+-- a group
+abbrev pub group_in : Members → Reading GroupSettings
+group_in table =
+    made (λ p. record { word = p.1.0; policy = p.1.1.0; primaries = p.1.1.1 })
+    (both (known Group table) (both (text_at (codes "word") table) (both (read_in policy_from (text_at (codes "policy") table)) (primaries_of table))))
+
+abbrev pub group_of : Data → Reading GroupSettings
+group_of value = read_in group_in (wanted (as_table value))
+
+-- the groups of a catalog, which may be missing
+abbrev pub groups_from : Option Data → Members → Reading (List GroupSettings)
+groups_from None table = Ok []
+groups_from (Some value) table = read_in (λ values. gathered (map group_of values)) (values_at (codes "group") table)
+
+abbrev pub groups_of : Members → Reading (List GroupSettings)
+groups_of table = groups_from (get_member (codes "group") table) table
+
+-- a catalog
+abbrev pub catalog_in : Members → Reading CatalogSettings
+catalog_in table =
+    made (λ p. record { name = p.1.0; policy = p.1.1.0; primaries = p.1.1.1.0; groups = p.1.1.1.1 })
+    (both (known Catalog table)
+    (both (read_in name_from (text_at (codes "name") table)) (both (read_in policy_from (text_at (codes "policy") table)) (both (primaries_of table) (groups_of table)))))
+
+abbrev pub catalog_of : Data → Reading CatalogSettings
+catalog_of value = read_in catalog_in (wanted (as_table value))
+
+abbrev pub catalogs_of : Members → Reading (List CatalogSettings)
+catalogs_of table = read_in (λ values. gathered (map catalog_of values)) (values_at (codes "catalog") table)
+
+-- where the peer listens, and the catalogs, within their limits or not
+abbrev pub settings_of : Members → Reading (Peer × List CatalogSettings)
+settings_of table =
+    made (λ p. p.1) (both (known Document table) (both (read_in peer_from (text_at (codes "listen") table)) (catalogs_of table)))
+
+-- counts and words are judged last, and then whether a catalog or a word stands twice
+abbrev pub judged : Peer × List CatalogSettings → Reading (Peer × List CatalogSettings)
+judged settings =
+    if not (is_within_limits settings.1) then Err OutOfLimits
+    else if not (has_each_once settings.1) then Err Twice
+    else Ok settings
+
+-- the configuration of a document, or its least fault
+abbrev pub config_of : Members → Reading (Peer × List CatalogSettings)
+config_of table = read_in judged (settings_of table)

@@ -1,0 +1,6 @@
+pub mod Config
+pub mod Document
+pub mod Examples
+pub mod Laws
+pub mod Peer
+pub mod Reading

@@ -1,0 +1,64 @@
+-- Meaning: the texts of peers, policies and words.
+use Rattle.std.specs.Prelude.{ℕ, ◌+◌, ◌-◌, ◌*◌, Bool, false, ◌==◌, ◌&&◌, ◌||◌, not, nat_le, [], ◌∷◌, length, take, drop, position, fold, codes, Option, Some, None, option_map, if◌then◌else◌}
+use Rattle.std.specs.Char.{is_ascii_digit}
+use Rattle.std.specs.List.{list_all}
+use Rattle.std.specs.Option.{option_and_then, option_map_or}
+use Rattle.std.specs.Str.{bytes_eq}
+use Rattle.dz_io.specs.declared.peer.Peer.{Peer}
+use Rattle.dz_member.specs.Config.{is_word}
+use Rattle.dz_member.specs.declared.config.Policy.{Policy}
+use Rattle.dz_member.specs.declared.config.Policy.TheVariants.{Off, Present, Require}
+use Rattle.dz_name.specs.Words.{Octets}
+
+-- the number that decimal digits spell
+abbrev pub value_of : Octets → ℕ
+value_of digits = fold (λ n digit. n * 10 + (digit - 48)) 0 digits
+
+-- one digit or more, no zero in front of another
+abbrev pub is_decimal : Octets → Bool
+is_decimal [] = false
+is_decimal (digit ∷ digits) = list_all is_ascii_digit (digit ∷ digits) && (not (digit == 48) || length digits == 0)
+
+-- a decimal number up to a most
+abbrev pub number_of : ℕ → Octets → Option ℕ
+number_of most text = if is_decimal text && nat_le (value_of text) most then Some (value_of text) else None
+
+-- what stands before the first such octet, and behind it
+abbrev pub cut : ℕ → Octets → Option (Octets × Octets)
+cut octet text = option_map (λ at. (take at text, drop (at + 1) text)) (position (λ x. x == octet) text)
+
+abbrev pub four : Option ℕ → Option ℕ → Option ℕ → Option ℕ → Option Octets
+four (Some a) (Some b) (Some c) (Some d) = Some (a ∷ b ∷ c ∷ d ∷ [])
+four _ _ _ _ = None
+
+-- an IPv4 address: four numbers up to 255 with dots between them
+abbrev pub numbers_of : Octets → Octets → Octets → Octets → Option Octets
+numbers_of a b c d = four (number_of 255 a) (number_of 255 b) (number_of 255 c) (number_of 255 d)
+
+abbrev pub address_of : Octets → Option Octets
+address_of text =
+    option_and_then (λ p. option_and_then (λ q. option_and_then (λ r. numbers_of p.0 q.0 r.0 r.1) (cut 46 q.1)) (cut 46 p.1)) (cut 46 text)
+
+-- a port: a number from 1 to 65535
+abbrev pub port_of : Octets → Option ℕ
+port_of text = option_and_then (λ port. if nat_le 1 port then Some port else None) (number_of 65535 text)
+
+-- a peer: an address, and behind a colon its port; without one the port is 53
+abbrev pub peer_from : Option Octets → Option ℕ → Option Peer
+peer_from (Some address) (Some port) = Some (record { address = address; port = port })
+peer_from _ _ = None
+
+abbrev pub peer_of : Octets → Option Peer
+peer_of text = option_map_or (λ p. peer_from (address_of p.0) (port_of p.1)) (cut 58 text) (peer_from (address_of text) (Some 53))
+
+-- a policy by its name
+abbrev pub policy_of : Octets → Option Policy
+policy_of text =
+    if bytes_eq text (codes "off") then Some Off
+    else if bytes_eq text (codes "present") then Some Present
+    else if bytes_eq text (codes "require") then Some Require
+    else None
+
+-- a word: 1 to 255 characters of visible ASCII
+abbrev pub word_of : Octets → Option Octets
+word_of text = if is_word text then Some text else None

@@ -1,0 +1,284 @@
+//! The settings in a document's tables, or the least of the faults found in them.
+
+ghost use Rattle.std.specs.Prelude.{◌≡◌, IfOk, map, codes};
+ghost use Rattle.toml.specs.View.{view, table_view};
+ghost use Rattle.dz_config.specs.Document.{text_at, name_from, policy_from, peer_from, primary_of, primaries_of, group_in, group_of, groups_of, catalog_in, catalog_of, catalogs_of, settings_of};
+ghost use Rattle.dz_config.specs.Reading.{made, read_in, gathered};
+
+use crate::fault::ConfigFault;
+use crate::keys::{Place, known};
+use crate::peer::{read_peer, read_policy};
+use crate::reading::{both, more};
+use crate::tree::{table_of, text_at, text_of, value_at, values_at};
+use dz_io::Peer;
+use dz_member::{CatalogSettings, Config, GroupSettings, Groups, Peers, Policy};
+use dz_name::{Name, Octets};
+use std::alloc::{AllocError, Global};
+use toml::{Table, Value};
+
+/// The name of a text.
+fn name_from(text: &str) -> Result<Name, ConfigFault>
+    ensures { result ≡ name_from text.now }
+{
+    match Name::parse(text.as_bytes()) {
+        Ok(name) => Ok(name),
+        Err(_) => Err(ConfigFault::BadName),
+    }
+}
+
+/// The name of a catalog.
+fn name_at(table: &Table) -> Result<Name, ConfigFault>
+    ensures { result ≡ read_in name_from (text_at (codes "name") (table_view table.now)) }
+{
+    match text_at(table, "name") {
+        Ok(text) => name_from(text),
+        Err(fault) => Err(fault),
+    }
+}
+
+/// The policy of a text.
+fn policy_from(text: &str) -> Result<Policy, ConfigFault>
+    ensures { result ≡ policy_from text.now }
+{
+    match read_policy(text.as_bytes()) {
+        Some(policy) => Ok(policy),
+        None => Err(ConfigFault::UnknownPolicy),
+    }
+}
+
+/// The policy of a catalog or a group.
+fn policy_at(table: &Table) -> Result<Policy, ConfigFault>
+    ensures { result ≡ read_in policy_from (text_at (codes "policy") (table_view table.now)) }
+{
+    match text_at(table, "policy") {
+        Ok(text) => policy_from(text),
+        Err(fault) => Err(fault),
+    }
+}
+
+/// The peer of a text.
+fn peer_from(text: &str) -> Result<Peer, ConfigFault>
+    ensures { result ≡ peer_from text.now }
+{
+    match read_peer(text.as_bytes()) {
+        Some(peer) => Ok(peer),
+        None => Err(ConfigFault::BadPeer),
+    }
+}
+
+/// Where the server listens.
+fn listen_at(table: &Table) -> Result<Peer, ConfigFault>
+    ensures { result ≡ read_in peer_from (text_at (codes "listen") (table_view table.now)) }
+{
+    match text_at(table, "listen") {
+        Ok(text) => peer_from(text),
+        Err(fault) => Err(fault),
+    }
+}
+
+/// One of the primaries.
+fn primary_of(value: &Value) -> Result<Peer, ConfigFault>
+    ensures { result ≡ primary_of (view value.now) }
+{
+    match text_of(value) {
+        Ok(text) => peer_from(text),
+        Err(fault) => Err(fault),
+    }
+}
+
+/// The primaries of these values.
+fn primaries(alloc: Global, values: &[Value]) -> Result<Result<Vec<Peer>, ConfigFault>, AllocError>
+    ensures { IfOk result (λ r. made (λ v. v.items) r ≡ gathered (map primary_of (map view values.now))) }
+{
+    let mut all = Ok(Vec::new(alloc));
+    'values: for value in values {
+        all = more(all, primary_of(value))?;
+    }
+    Ok(all)
+}
+
+/// The primaries of a catalog or a group.
+fn primaries_at(alloc: Global, table: &Table) -> Result<Result<Peers, ConfigFault>, AllocError>
+    ensures { IfOk result (λ r. r ≡ primaries_of (table_view table.now)) }
+{
+    match values_at(table, "primaries") {
+        Err(fault) => Ok(Err(fault)),
+        Ok(values) => match primaries(alloc, values)? {
+            Ok(peers) => Ok(Ok(Peers::from_vec(peers))),
+            Err(fault) => Ok(Err(fault)),
+        },
+    }
+}
+
+/// The word of a group, within its limits or not.
+fn word_at(alloc: Global, table: &Table) -> Result<Result<Octets, ConfigFault>, AllocError>
+    ensures { IfOk result (λ r. r ≡ text_at (codes "word") (table_view table.now)) }
+{
+    match text_at(table, "word") {
+        Err(fault) => Ok(Err(fault)),
+        Ok(text) => {
+            let word = Vec::from_slice(alloc, text.as_bytes())?;
+            Ok(Ok(Octets::from_vec(word)))
+        }
+    }
+}
+
+/// A group of its parts.
+fn group_from(
+    parts: Result<((), (Octets, (Policy, Peers))), ConfigFault>,
+) -> Result<GroupSettings, ConfigFault>
+    ensures { result ≡ made (λ p. record { word = p.1.0; policy = p.1.1.0; primaries = p.1.1.1 }) parts }
+{
+    match parts {
+        Ok(((), (word, (policy, primaries)))) => Ok(GroupSettings {
+            word,
+            policy,
+            primaries,
+        }),
+        Err(fault) => Err(fault),
+    }
+}
+
+/// The group of a table.
+fn group_in(alloc: Global, table: &Table) -> Result<Result<GroupSettings, ConfigFault>, AllocError>
+    ensures { IfOk result (λ r. r ≡ group_in (table_view table.now)) }
+{
+    let word = word_at(alloc, table)?;
+    let primaries = primaries_at(alloc, table)?;
+    let known = known(Place::Group, table);
+    let fetched = both(policy_at(table), primaries);
+    let parts = both(word, fetched);
+    let all = both(known, parts);
+    Ok(group_from(all))
+}
+
+/// The group that a value is.
+fn group_of(alloc: Global, value: &Value) -> Result<Result<GroupSettings, ConfigFault>, AllocError>
+    ensures { IfOk result (λ r. r ≡ group_of (view value.now)) }
+{
+    match table_of(value) {
+        Ok(table) => group_in(alloc, table),
+        Err(fault) => Ok(Err(fault)),
+    }
+}
+
+/// The groups of these values.
+fn groups(
+    alloc: Global,
+    values: &[Value],
+) -> Result<Result<Vec<GroupSettings>, ConfigFault>, AllocError>
+    ensures { IfOk result (λ r. made (λ v. v.items) r ≡ gathered (map group_of (map view values.now))) }
+{
+    let mut all = Ok(Vec::new(alloc));
+    'values: for value in values {
+        let group = group_of(alloc, value)?;
+        all = more(all, group)?;
+    }
+    Ok(all)
+}
+
+/// The groups of a catalog; none where it has no such key.
+fn groups_at(alloc: Global, table: &Table) -> Result<Result<Groups, ConfigFault>, AllocError>
+    ensures { IfOk result (λ r. r ≡ groups_of (table_view table.now)) }
+{
+    if value_at(table, "group").is_none() {
+        return Ok(Ok(Groups::from_vec(Vec::new(alloc))));
+    }
+    match values_at(table, "group") {
+        Err(fault) => Ok(Err(fault)),
+        Ok(values) => match groups(alloc, values)? {
+            Ok(groups) => Ok(Ok(Groups::from_vec(groups))),
+            Err(fault) => Ok(Err(fault)),
+        },
+    }
+}
+
+/// A catalog of its parts.
+fn catalog_from(
+    parts: Result<((), (Name, (Policy, (Peers, Groups)))), ConfigFault>,
+) -> Result<CatalogSettings, ConfigFault>
+    ensures { result ≡ made (λ p. record { name = p.1.0; policy = p.1.1.0; primaries = p.1.1.1.0; groups = p.1.1.1.1 }) parts }
+{
+    match parts {
+        Ok(((), (name, (policy, (primaries, groups))))) => Ok(CatalogSettings {
+            name,
+            policy,
+            primaries,
+            groups,
+        }),
+        Err(fault) => Err(fault),
+    }
+}
+
+/// The catalog of a table.
+fn catalog_in(
+    alloc: Global,
+    table: &Table,
+) -> Result<Result<CatalogSettings, ConfigFault>, AllocError>
+    ensures { IfOk result (λ r. r ≡ catalog_in (table_view table.now)) }
+{
+    let primaries = primaries_at(alloc, table)?;
+    let groups = groups_at(alloc, table)?;
+    let known = known(Place::Catalog, table);
+    let hosts = both(primaries, groups);
+    let fetched = both(policy_at(table), hosts);
+    let parts = both(name_at(table), fetched);
+    let all = both(known, parts);
+    Ok(catalog_from(all))
+}
+
+/// The catalog that a value is.
+fn catalog_of(
+    alloc: Global,
+    value: &Value,
+) -> Result<Result<CatalogSettings, ConfigFault>, AllocError>
+    ensures { IfOk result (λ r. r ≡ catalog_of (view value.now)) }
+{
+    match table_of(value) {
+        Ok(table) => catalog_in(alloc, table),
+        Err(fault) => Ok(Err(fault)),
+    }
+}
+
+/// The catalogs of these values.
+fn catalogs(
+    alloc: Global,
+    values: &[Value],
+) -> Result<Result<Vec<CatalogSettings>, ConfigFault>, AllocError>
+    ensures { IfOk result (λ r. made (λ v. v.items) r ≡ gathered (map catalog_of (map view values.now))) }
+{
+    let mut all = Ok(Vec::new(alloc));
+    'values: for value in values {
+        let catalog = catalog_of(alloc, value)?;
+        all = more(all, catalog)?;
+    }
+    Ok(all)
+}
+
+/// The catalogs of a document.
+fn catalogs_at(alloc: Global, table: &Table) -> Result<Result<Config, ConfigFault>, AllocError>
+    ensures { IfOk result (λ r. r ≡ catalogs_of (table_view table.now)) }
+{
+    match values_at(table, "catalog") {
+        Err(fault) => Ok(Err(fault)),
+        Ok(values) => match catalogs(alloc, values)? {
+            Ok(catalogs) => Ok(Ok(Config::from_vec(catalogs))),
+            Err(fault) => Ok(Err(fault)),
+        },
+    }
+}
+
+/// The settings of a document, within their limits or not.
+pub(crate) fn settings(
+    alloc: Global,
+    table: &Table,
+) -> Result<Result<(Peer, Config), ConfigFault>, AllocError>
+    ensures { IfOk result (λ r. r ≡ settings_of (table_view table.now)) }
+{
+    let catalogs = catalogs_at(alloc, table)?;
+    let known = known(Place::Document, table);
+    match both(known, both(listen_at(table), catalogs)) {
+        Ok(((), settings)) => Ok(Ok(settings)),
+        Err(fault) => Ok(Err(fault)),
+    }
+}

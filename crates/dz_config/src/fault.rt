@@ -1,0 +1,74 @@
+//! Why a text configures nothing.
+
+ghost use Rattle.std.specs.Prelude.{◌≡◌};
+ghost use Rattle.dz_config.specs.Reading.{number_of, least};
+ghost use Rattle.dz_config.specs.declared.fault.ConfigError.TheVariants.{OutOfMemory};
+
+use std::alloc::AllocError;
+
+/// What is wrong with a configuration. Where more than one holds, the first in this order counts.
+#[derive(Clone, Copy, Debug, PartialEq, Eq)]
+pub enum ConfigFault {
+    /// The text is longer than 1,048,576 octets ([`crate::TEXT_OCTETS`]), or it is no TOML.
+    NotToml,
+    /// A table has a key that it doesn't know.
+    UnknownKey,
+    /// A key is missing, or its value is of another kind.
+    MissingValue,
+    /// A catalog's name is no domain name.
+    BadName,
+    /// A policy is none of `off`, `present` and `require`.
+    UnknownPolicy,
+    /// A host is no address and no address with a port.
+    BadPeer,
+    /// There are too few or too many catalogs, groups or primaries, or a word isn't 1 to 255 octets of visible ASCII.
+    OutOfLimits,
+    /// A catalog stands twice, or a word twice in one catalog.
+    Twice,
+}
+
+impl ConfigFault {
+    /// The number of the fault, from 1 to 8.
+    pub fn number(self) -> u8
+        ensures { result ≡ number_of self }
+    {
+        match self {
+            ConfigFault::NotToml => 1,
+            ConfigFault::UnknownKey => 2,
+            ConfigFault::MissingValue => 3,
+            ConfigFault::BadName => 4,
+            ConfigFault::UnknownPolicy => 5,
+            ConfigFault::BadPeer => 6,
+            ConfigFault::OutOfLimits => 7,
+            ConfigFault::Twice => 8,
+        }
+    }
+}
+
+/// The lesser of two faults.
+pub(crate) fn least(one: ConfigFault, other: ConfigFault) -> ConfigFault
+    ensures { result ≡ least one other }
+{
+    if one.number() <= other.number() {
+        one
+    } else {
+        other
+    }
+}
+
+/// Why there is no configuration.
+#[derive(Clone, Copy, Debug, PartialEq, Eq)]
+pub enum ConfigError {
+    /// The text has none.
+    Fault(ConfigFault),
+    /// Memory is wanting.
+    OutOfMemory,
+}
+
+impl From<AllocError> for ConfigError {
+    ghost from_gives = { λ _ e. e ≡ OutOfMemory };
+
+    fn from(_error: AllocError) -> ConfigError {
+        ConfigError::OutOfMemory
+    }
+}
