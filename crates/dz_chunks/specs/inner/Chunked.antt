@@ -1,0 +1,63 @@
+-- Inner: entries in the order of their keys, cut into chunks.
+use Rattle.std.specs.Prelude.{◌≡◌, ℕ, zero, suc, ◌+◌, ◌≤◌, Bool, false, T, List, [], ◌∷◌, ◌++◌, length}
+use Rattle.std.specs.Ordering.{is_lt, is_gt, is_eq}
+use Rattle.std.specs.FinMap.{is_sorted}
+use Rattle.std.specs.declared.cmp.Ordering.{Ordering}
+use Rattle.std.specs.declared.cmp.Ordering.TheVariants.{Less, Greater}
+
+-- the entries of all chunks
+abbrev pub flat : {A : Type 0} → List (List A) → List A
+flat [] = []
+flat (c ∷ cs) = c ++ flat cs
+
+-- two neighbouring chunks have at least 128 entries together
+abbrev pub Joined : {A : Type 0} → List A → List (List A) → Type 0
+Joined c [] = Unit {0}
+Joined c (d ∷ ds) = 128 ≤ length c + length d
+
+-- each chunk has 1 to 128 entries, and two neighbours at least 128
+abbrev pub AreChunks : {A : Type 0} → List (List A) → Type 0
+AreChunks [] = Unit {0}
+AreChunks (c ∷ cs) = (1 ≤ length c) × (length c ≤ 128) × Joined c cs × AreChunks cs
+
+-- how many entries the chunk at a place has, and the one before it. Where there is none, 128: nothing is joined with it
+abbrev pub length_at : {A : Type 0} → List (List A) → ℕ → ℕ
+length_at [] at = 128
+length_at (c ∷ cs) zero = length c
+length_at (c ∷ cs) (suc at) = length_at cs at
+
+abbrev pub length_before : {A : Type 0} → List (List A) → ℕ → ℕ
+length_before cs zero = 128
+length_before cs (suc at) = length_at cs at
+
+module _ {K X : Type 0} (R : K → K → Ordering) where
+  -- each key comes before this one, or each comes behind it
+  abbrev pub AllBefore : K → List (K × X) → Type 0
+  AllBefore k [] = Unit {0}
+  AllBefore k (e ∷ es) = (R k e.0 ≡ Greater) × AllBefore k es
+
+  abbrev pub AllBehind : K → List (K × X) → Type 0
+  AllBehind k [] = Unit {0}
+  AllBehind k (e ∷ es) = (R k e.0 ≡ Less) × AllBehind k es
+
+  -- the last key comes before this one
+  abbrev pub ends_before : K → List (K × X) → Bool
+  ends_before k [] = false
+  ends_before k (e ∷ []) = is_lt (R e.0 k)
+  ends_before k (e ∷ f ∷ es) = ends_before k (f ∷ es)
+
+module _ {K X : Type 0} (R : K → K → Ordering) where
+  -- the first key doesn't come before this one
+  abbrev pub NotBefore : K → List (K × X) → Type 0
+  NotBefore k [] = Unit {0}
+  NotBefore k (e ∷ es) = is_gt (R k e.0) ≡ false
+
+  -- the first key is this one
+  abbrev pub begins_at : K → List (K × X) → Bool
+  begins_at k [] = false
+  begins_at k (e ∷ es) = is_eq (R k e.0)
+
+-- the chunks of a map
+pub record IsChunked {K X : Type 0} (R : K → K → Ordering) (cs : List (List (K × X))) : Type 0 where
+  pub sorted : T (is_sorted R (flat cs))
+  pub sized : AreChunks cs

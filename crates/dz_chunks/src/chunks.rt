@@ -1,0 +1,163 @@
+//! A finite map in shared chunks.
+
+ghost use Rattle.std.specs.Prelude.{◌≡◌, ℕ, ◌+◌, ◌-◌, ◌*◌, ◌/◌, ◌^◌, ◌<◌, ◌≤◌, List, [], ◌∷◌, ◌++◌, length, map, T, IfOk, min, IsTrue};
+ghost use Rattle.std.specs.FinMap.{is_sorted, find, put};
+ghost use Rattle.std.specs.Option.{option_map};
+ghost use Rattle.std.specs.Arc.{arc_value};
+ghost use Rattle.dz_chunks.specs.Map.{without_key};
+ghost use Rattle.dz_chunks.specs.inner.Chunked.{flat, IsChunked};
+
+use crate::chunk::{Chunk, chunk_for, count_entries, push_chunk, value_among};
+use crate::entries::{with_entry, without_entry};
+use crate::joins::rebuilt;
+use crate::share::Share;
+use crate::walk::Walk;
+use dz_steps::Steps;
+use std::alloc::{AllocError, Global};
+use std::marker::Model;
+use std::sync::Arc;
+use std::sync::ledger::Ledger;
+
+/// A chunk with one entry.
+fn first_chunk<K: Copy, V: Drop>(
+    alloc: Global,
+    key: K,
+    value: V,
+) -> Result<Vec<Arc<Chunk<K, V>>>, AllocError>
+    ensures { IfOk result (λ v. map arc_value v.items ≡ ((key, value) ∷ []) ∷ []) }
+{
+    let mut entries = Vec::new(alloc);
+    entries.push((key, value))?;
+    let mut chunks = Vec::new(alloc);
+    push_chunk(alloc, &mut chunks, entries)?;
+    Ok(chunks)
+}
+
+/// The chunks with a value at a key.
+fn chunks_with<K: Ord + Copy, V: Share + Drop, L: Ledger>(
+    alloc: Global,
+    chunks: &[Arc<Chunk<K, V>>],
+    key: K,
+    value: V,
+    steps: &mut Steps<L>,
+) -> Result<Vec<Arc<Chunk<K, V>>>, AllocError>
+    requires { IsChunked K.cmp (map arc_value chunks.now) }
+    ensures map { IfOk result (λ v.
+        flat (map arc_value v.items) ≡ put K.cmp key value (flat (map arc_value chunks.now))) }
+    ensures chunked { IfOk result (λ v. IsChunked K.cmp (map arc_value v.items)) }
+    ensures cost { steps.new ≤ steps.old + (256 + length chunks.now) }
+{
+    if chunks.is_empty() {
+        return first_chunk(alloc, key, value);
+    }
+    let at = chunk_for(chunks, &key);
+    let entries = with_entry(alloc, chunks[at].entries(), key, value, steps)?;
+    rebuilt(alloc, chunks, at, entries, steps)
+}
+
+/// The chunks but the entry at a key.
+fn chunks_without<K: Ord + Copy, V: Share + Drop, L: Ledger>(
+    alloc: Global,
+    chunks: &[Arc<Chunk<K, V>>],
+    key: &K,
+    steps: &mut Steps<L>,
+) -> Result<Vec<Arc<Chunk<K, V>>>, AllocError>
+    requires { IsChunked K.cmp (map arc_value chunks.now) }
+    ensures map { IfOk result (λ v.
+        flat (map arc_value v.items)
+        ≡ without_key K.cmp key.now (flat (map arc_value chunks.now))) }
+    ensures chunked { IfOk result (λ v. IsChunked K.cmp (map arc_value v.items)) }
+    ensures cost { steps.new ≤ steps.old + (256 + length chunks.now) }
+{
+    if chunks.is_empty() {
+        return Ok(Vec::new(alloc));
+    }
+    let at = chunk_for(chunks, key);
+    let entries = without_entry(alloc, chunks[at].entries(), key, steps)?;
+    rebuilt(alloc, chunks, at, entries, steps)
+}
+
+/// A finite map. A changed map is a new one, which shares with the old one all chunks of entries but the few that the
+/// change touches; the old one stays as it was. Contracts see its entries in ascending order of their keys.
+#[derive(Drop)]
+pub struct Chunks<K: Ord, V> {
+    chunks: Vec<Arc<Chunk<K, V>>>,
+}
+
+impl<K: Ord, V> Model for Chunks<K, V> {
+    ghost use Rattle.std.specs.Prelude.{List, map};
+    ghost use Rattle.std.specs.Arc.{arc_value};
+    ghost use Rattle.dz_chunks.specs.inner.Chunked.{flat, IsChunked};
+
+    ghost Value = { List (K × V) };
+
+    ghost view = { λ s. flat (map arc_value s.chunks.items) };
+
+    ghost invariant = { λ s. IsChunked K.cmp (map arc_value s.chunks.items) };
+}
+
+impl<K: Ord + Copy, V> Chunks<K, V> {
+    /// The map of no keys. It takes no memory.
+    pub fn empty(alloc: Global) -> Chunks<K, V>
+        ensures { result ≡ [] }
+    {
+        Chunks {
+            chunks: Vec::new(alloc),
+        }
+    }
+
+    /// How many keys there are; past the end of `usize` it is that end.
+    pub fn len(&self) -> usize
+        ensures { result ≡ min (length self.now) (2 ^ 64 - 1) }
+    {
+        count_entries(self.chunks.as_slice())
+    }
+
+    /// The keys with their values, in ascending order of the keys.
+    pub fn walk(&self) -> Walk<'_, K, V>
+        ensures entries { result ≡ self.now }
+        ensures ascending { IsTrue (is_sorted K.cmp self.now) }
+    {
+        Walk::over(self.chunks.as_slice())
+    }
+
+    /// The value at a key, and None exactly where the key isn't there.
+    pub fn get(&self, key: &K) -> Option<&V>
+        ensures { option_map (λ value. value.now) result ≡ find K.cmp key.now self.now }
+    {
+        value_among(self.chunks.as_slice(), key)
+    }
+}
+
+impl<K: Ord + Copy, V: Share + Drop> Chunks<K, V> {
+    /// The map with a value at a key, in place of the one that is there. The error is want of memory. A step is an entry
+    /// or a reference to a chunk copied: at most 256 entries and one reference for each chunk.
+    pub fn with<L: Ledger>(
+        &self,
+        alloc: Global,
+        key: K,
+        value: V,
+        steps: &mut Steps<L>,
+    ) -> Result<Chunks<K, V>, AllocError>
+        ensures map { IfOk result (λ changed. changed ≡ put K.cmp key value self.now) }
+        ensures cost { steps.new ≤ steps.old + 256 + (length self.now / 64 + 1) }
+    {
+        let chunks = chunks_with(alloc, self.chunks.as_slice(), key, value, steps)?;
+        Ok(Chunks { chunks })
+    }
+
+    /// The map without a key. Where the key isn't there it is an equal map. The error is want of memory. It copies no
+    /// more than [`Chunks::with`].
+    pub fn without<L: Ledger>(
+        &self,
+        alloc: Global,
+        key: &K,
+        steps: &mut Steps<L>,
+    ) -> Result<Chunks<K, V>, AllocError>
+        ensures map { IfOk result (λ changed. changed ≡ without_key K.cmp key.now self.now) }
+        ensures cost { steps.new ≤ steps.old + 256 + (length self.now / 64 + 1) }
+    {
+        let chunks = chunks_without(alloc, self.chunks.as_slice(), key, steps)?;
+        Ok(Chunks { chunks })
+    }
+}

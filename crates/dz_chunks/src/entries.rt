@@ -1,0 +1,174 @@
+//! Entries in ascending order of their keys.
+
+ghost use Rattle.std.specs.Prelude.{◌≡◌, ℕ, ◌+◌, ◌-◌, ◌<◌, ◌≤◌, List, [], ◌∷◌, ◌++◌, length, take, drop, T, true, OnOk, IfOk, slice_index_or};
+ghost use Rattle.std.specs.FinMap.{is_sorted, find, put};
+ghost use Rattle.std.specs.Option.{option_map};
+ghost use Rattle.dz_chunks.specs.Map.{without_key};
+ghost use Rattle.dz_chunks.specs.inner.Chunked.{AllBefore, NotBefore, begins_at};
+
+use crate::share::Share;
+use dz_steps::Steps;
+use std::alloc::{AllocError, Global};
+use std::sync::ledger::Ledger;
+
+/// Copies entries behind others. All entries are copied here, and each is counted.
+pub(crate) fn copy_entries<K: Copy, V: Share + Drop, L: Ledger>(
+    copies: &mut Vec<(K, V)>,
+    entries: &[(K, V)],
+    steps: &mut Steps<L>,
+) -> Result<(), AllocError>
+    ensures copied { OnOk result (copies.new.items ≡ copies.old.items ++ entries.now) }
+    ensures counted { OnOk result (steps.new ≡ steps.old + length entries.now) }
+    ensures cost { steps.new ≤ steps.old + length entries.now }
+{
+    for entry in entries {
+        steps.tick();
+        copies.push((entry.0, entry.1.share()?))?;
+    }
+    Ok(())
+}
+
+/// The place of the first entry whose key doesn't come before a key.
+fn place_of<K: Ord + Copy, V>(entries: &[(K, V)], key: &K) -> usize
+    requires { T (is_sorted K.cmp entries.now) }
+    ensures within { result ≤ length entries.now }
+    ensures before { AllBefore K.cmp key.now (take result entries.now) }
+    ensures here { NotBefore K.cmp key.now (drop result entries.now) }
+{
+    entries.partition_point(|entry| entry.0.cmp(key).is_lt())
+}
+
+/// Whether a key stands at a place.
+fn is_at<K: Ord + Copy, V>(entries: &[(K, V)], place: usize, key: &K) -> bool
+    ensures { result ≡ begins_at K.cmp key.now (drop place entries.now) }
+{
+    place < entries.len() && key.cmp(&entries[place].0).is_eq()
+}
+
+/// The value at a key.
+pub(crate) fn value_of<'a, K: Ord + Copy, V>(entries: &'a [(K, V)], key: &K) -> Option<&'a V>
+    requires { T (is_sorted K.cmp entries.now) }
+    ensures { option_map (λ value. value.now) result ≡ find K.cmp key.now entries.now }
+{
+    let place = place_of(entries, key);
+    if is_at(entries, place, key) {
+        Some(&entries[place].1)
+    } else {
+        None
+    }
+}
+
+/// The entries with another value at a place.
+fn replaced<K: Copy, V: Share + Drop, L: Ledger>(
+    alloc: Global,
+    entries: &[(K, V)],
+    place: usize,
+    value: V,
+    steps: &mut Steps<L>,
+) -> Result<Vec<(K, V)>, AllocError>
+    requires within { place < length entries.now }
+    ensures items { (d : K × V) → IfOk result (λ v.
+        v.items
+        ≡ take place entries.now
+        ++ ((slice_index_or entries.now place d).0, value) ∷ drop (place + 1) entries.now) }
+    ensures cost { steps.new ≤ steps.old + length entries.now }
+{
+    let mut copies = Vec::with_capacity(alloc, entries.len())?;
+    copy_entries(&mut copies, &entries[..place], steps)?;
+    copies.push((entries[place].0, value))?;
+    copy_entries(&mut copies, &entries[place + 1..], steps)?;
+    Ok(copies)
+}
+
+/// The entries with one more at a place.
+fn inserted<K: Copy, V: Share + Drop, L: Ledger>(
+    alloc: Global,
+    entries: &[(K, V)],
+    place: usize,
+    entry: (K, V),
+    steps: &mut Steps<L>,
+) -> Result<Vec<(K, V)>, AllocError>
+    requires within { place ≤ length entries.now }
+    requires short { length entries.now ≤ 128 }
+    ensures items { IfOk result (λ v.
+        v.items ≡ take place entries.now ++ entry ∷ drop place entries.now) }
+    ensures cost { steps.new ≤ steps.old + length entries.now }
+{
+    let mut copies = Vec::with_capacity(alloc, entries.len() + 1)?;
+    copy_entries(&mut copies, &entries[..place], steps)?;
+    copies.push(entry)?;
+    copy_entries(&mut copies, &entries[place..], steps)?;
+    Ok(copies)
+}
+
+/// The entries but the one at a place.
+fn removed<K: Copy, V: Share + Drop, L: Ledger>(
+    alloc: Global,
+    entries: &[(K, V)],
+    place: usize,
+    steps: &mut Steps<L>,
+) -> Result<Vec<(K, V)>, AllocError>
+    requires within { place < length entries.now }
+    ensures items { IfOk result (λ v.
+        v.items ≡ take place entries.now ++ drop (place + 1) entries.now) }
+    ensures cost { steps.new ≤ steps.old + length entries.now }
+{
+    let mut copies = Vec::with_capacity(alloc, entries.len())?;
+    copy_entries(&mut copies, &entries[..place], steps)?;
+    copy_entries(&mut copies, &entries[place + 1..], steps)?;
+    Ok(copies)
+}
+
+/// The entries as they are.
+fn unchanged<K: Copy, V: Share + Drop, L: Ledger>(
+    alloc: Global,
+    entries: &[(K, V)],
+    steps: &mut Steps<L>,
+) -> Result<Vec<(K, V)>, AllocError>
+    ensures items { IfOk result (λ v. v.items ≡ entries.now) }
+    ensures cost { steps.new ≤ steps.old + length entries.now }
+{
+    let mut copies = Vec::with_capacity(alloc, entries.len())?;
+    copy_entries(&mut copies, entries, steps)?;
+    Ok(copies)
+}
+
+/// The entries with a value at a key.
+pub(crate) fn with_entry<K: Ord + Copy, V: Share + Drop, L: Ledger>(
+    alloc: Global,
+    entries: &[(K, V)],
+    key: K,
+    value: V,
+    steps: &mut Steps<L>,
+) -> Result<Vec<(K, V)>, AllocError>
+    requires sorted { T (is_sorted K.cmp entries.now) }
+    requires short { length entries.now ≤ 128 }
+    ensures put { IfOk result (λ v. v.items ≡ put K.cmp key value entries.now) }
+    ensures cost { steps.new ≤ steps.old + length entries.now }
+{
+    let place = place_of(entries, &key);
+    if is_at(entries, place, &key) {
+        replaced(alloc, entries, place, value, steps)
+    } else {
+        inserted(alloc, entries, place, (key, value), steps)
+    }
+}
+
+/// The entries but the one at a key.
+pub(crate) fn without_entry<K: Ord + Copy, V: Share + Drop, L: Ledger>(
+    alloc: Global,
+    entries: &[(K, V)],
+    key: &K,
+    steps: &mut Steps<L>,
+) -> Result<Vec<(K, V)>, AllocError>
+    requires sorted { T (is_sorted K.cmp entries.now) }
+    ensures left { IfOk result (λ v. v.items ≡ without_key K.cmp key.now entries.now) }
+    ensures cost { steps.new ≤ steps.old + length entries.now }
+{
+    let place = place_of(entries, key);
+    if is_at(entries, place, key) {
+        removed(alloc, entries, place, steps)
+    } else {
+        unchanged(alloc, entries, steps)
+    }
+}

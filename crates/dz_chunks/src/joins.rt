@@ -1,0 +1,231 @@
+//! Chunks with other entries in place of one: split where they are too many, joined with a neighbour where they are few.
+
+ghost use Rattle.std.specs.Prelude.{◌≡◌, ℕ, ◌+◌, ◌-◌, ◌<◌, ◌≤◌, List, [], ◌∷◌, ◌++◌, length, take, drop, map, OnOk, IfOk};
+ghost use Rattle.std.specs.Arc.{arc_value};
+ghost use Rattle.dz_chunks.specs.inner.Chunked.{flat, length_at, length_before, AreChunks};
+
+use crate::chunk::{CHUNK, Chunk, copy_chunks, length_at, length_before, push_chunk};
+use crate::entries::copy_entries;
+use crate::share::Share;
+use dz_steps::Steps;
+use std::alloc::{AllocError, Global};
+use std::sync::Arc;
+use std::sync::ledger::Ledger;
+
+/// The first part of a split.
+const HALF: usize = 64;
+
+/// Entries, and the place in front of which, or behind which, they stand.
+#[derive(Drop)]
+struct Part<K, V> {
+    place: usize,
+    entries: Vec<(K, V)>,
+}
+
+/// Copies of entries in front of others.
+fn prepended<K: Copy, V: Share + Drop, L: Ledger>(
+    alloc: Global,
+    first: &[(K, V)],
+    mut rest: Vec<(K, V)>,
+    steps: &mut Steps<L>,
+) -> Result<Vec<(K, V)>, AllocError>
+    ensures items { IfOk result (λ v. v.items ≡ first.now ++ rest.items) }
+    ensures counted { IfOk result (λ v. steps.new ≡ steps.old + length first.now) }
+    ensures cost { steps.new ≤ steps.old + length first.now }
+{
+    let mut both = Vec::with_capacity(alloc, CHUNK)?;
+    copy_entries(&mut both, first, steps)?;
+    both.append(&mut rest)?;
+    Ok(both)
+}
+
+/// Entries together with the chunk before a place, if they are fewer than 128 together.
+fn joined_before<K: Ord + Copy, V: Share + Drop, L: Ledger>(
+    alloc: Global,
+    chunks: &[Arc<Chunk<K, V>>],
+    at: usize,
+    entries: Vec<(K, V)>,
+    steps: &mut Steps<L>,
+) -> Result<Part<K, V>, AllocError>
+    requires within { at ≤ length chunks.now }
+    requires short { length entries.items ≤ 128 }
+    requires sized { AreChunks (map arc_value chunks.now) }
+    ensures within { IfOk result (λ part. part.place ≤ at) }
+    ensures entries { IfOk result (λ part.
+        flat (take part.place (map arc_value chunks.now)) ++ part.entries.items
+        ≡ flat (take at (map arc_value chunks.now)) ++ entries.items) }
+    ensures short { IfOk result (λ part. length part.entries.items ≤ 128) }
+    ensures longer { IfOk result (λ part. length entries.items ≤ length part.entries.items) }
+    ensures joined { IfOk result (λ part.
+        128 ≤ length_before (map arc_value chunks.now) part.place + length part.entries.items) }
+    ensures counted { IfOk result (λ part.
+        steps.new + length entries.items ≡ steps.old + length part.entries.items) }
+    ensures cost { steps.new + length entries.items ≤ steps.old + 128 }
+{
+    let room = CHUNK - entries.len();
+    if length_before(chunks, at) >= room {
+        return Ok(Part { place: at, entries });
+    }
+    let entries = prepended(alloc, chunks[at - 1].entries(), entries, steps)?;
+    Ok(Part {
+        place: at - 1,
+        entries,
+    })
+}
+
+/// Entries together with the chunk at a place behind them, if they are fewer than 128 together.
+fn joined_behind<K: Ord + Copy, V: Share + Drop, L: Ledger>(
+    chunks: &[Arc<Chunk<K, V>>],
+    at: usize,
+    mut entries: Vec<(K, V)>,
+    steps: &mut Steps<L>,
+) -> Result<Part<K, V>, AllocError>
+    requires within { at ≤ length chunks.now }
+    requires short { length entries.items ≤ 128 }
+    requires sized { AreChunks (map arc_value chunks.now) }
+    ensures within { IfOk result (λ part. part.place ≤ length chunks.now) }
+    ensures later { IfOk result (λ part. at ≤ part.place) }
+    ensures entries { IfOk result (λ part.
+        part.entries.items ++ flat (drop part.place (map arc_value chunks.now))
+        ≡ entries.items ++ flat (drop at (map arc_value chunks.now))) }
+    ensures short { IfOk result (λ part. length part.entries.items ≤ 128) }
+    ensures longer { IfOk result (λ part. length entries.items ≤ length part.entries.items) }
+    ensures joined { IfOk result (λ part.
+        128 ≤ length part.entries.items + length_at (map arc_value chunks.now) part.place) }
+    ensures counted { IfOk result (λ part.
+        steps.new + length entries.items ≡ steps.old + length part.entries.items) }
+    ensures cost { steps.new + length entries.items ≤ steps.old + 128 }
+{
+    let room = CHUNK - entries.len();
+    if length_at(chunks, at) >= room {
+        return Ok(Part { place: at, entries });
+    }
+    copy_entries(&mut entries, chunks[at].entries(), steps)?;
+    Ok(Part {
+        place: at + 1,
+        entries,
+    })
+}
+
+/// The chunks but the one at a place.
+fn without_chunk<K: Ord + Copy, V: Share + Drop, L: Ledger>(
+    alloc: Global,
+    chunks: &[Arc<Chunk<K, V>>],
+    at: usize,
+    steps: &mut Steps<L>,
+) -> Result<Vec<Arc<Chunk<K, V>>>, AllocError>
+    requires within { at < length chunks.now }
+    requires sized { AreChunks (map arc_value chunks.now) }
+    requires last { length_at (map arc_value chunks.now) at ≤ 1 }
+    ensures entries { IfOk result (λ v.
+        flat (map arc_value v.items)
+        ≡ flat (take at (map arc_value chunks.now))
+        ++ flat (drop (at + 1) (map arc_value chunks.now))) }
+    ensures sized { IfOk result (λ v. AreChunks (map arc_value v.items)) }
+    ensures cost { steps.new ≤ steps.old + length chunks.now }
+{
+    let mut copies = Vec::with_capacity(alloc, chunks.len())?;
+    copy_chunks(&mut copies, &chunks[..at], steps)?;
+    copy_chunks(&mut copies, &chunks[at + 1..], steps)?;
+    Ok(copies)
+}
+
+/// The chunks with these entries in place of one, joined with its neighbours where they are few.
+fn with_chunk<K: Ord + Copy, V: Share + Drop, L: Ledger>(
+    alloc: Global,
+    chunks: &[Arc<Chunk<K, V>>],
+    at: usize,
+    entries: Vec<(K, V)>,
+    steps: &mut Steps<L>,
+) -> Result<Vec<Arc<Chunk<K, V>>>, AllocError>
+    requires within { at < length chunks.now }
+    requires sized { AreChunks (map arc_value chunks.now) }
+    requires some { 1 ≤ length entries.items }
+    requires short { length entries.items ≤ 128 }
+    ensures entries { IfOk result (λ v.
+        flat (map arc_value v.items)
+        ≡ flat (take at (map arc_value chunks.now)) ++ (entries.items
+        ++ flat (drop (at + 1) (map arc_value chunks.now)))) }
+    ensures sized { IfOk result (λ v. AreChunks (map arc_value v.items)) }
+    ensures cost { steps.new ≤ steps.old + (128 + length chunks.now) }
+{
+    let before = joined_before(alloc, chunks, at, entries, steps)?;
+    let behind = joined_behind(chunks, at + 1, before.entries, steps)?;
+    let mut copies = Vec::with_capacity(alloc, chunks.len())?;
+    copy_chunks(&mut copies, &chunks[..before.place], steps)?;
+    push_chunk(alloc, &mut copies, behind.entries)?;
+    copy_chunks(&mut copies, &chunks[behind.place..], steps)?;
+    Ok(copies)
+}
+
+/// The chunks with 129 entries in place of one: split into 64 and 65, each of which is joined with its neighbour where
+/// they are few.
+fn with_split<K: Ord + Copy, V: Share + Drop, L: Ledger>(
+    alloc: Global,
+    chunks: &[Arc<Chunk<K, V>>],
+    at: usize,
+    entries: Vec<(K, V)>,
+    steps: &mut Steps<L>,
+) -> Result<Vec<Arc<Chunk<K, V>>>, AllocError>
+    requires within { at < length chunks.now }
+    requires sized { AreChunks (map arc_value chunks.now) }
+    requires full { length entries.items ≡ 129 }
+    ensures entries { IfOk result (λ v.
+        flat (map arc_value v.items)
+        ≡ flat (take at (map arc_value chunks.now)) ++ (entries.items
+        ++ flat (drop (at + 1) (map arc_value chunks.now)))) }
+    ensures sized { IfOk result (λ v. AreChunks (map arc_value v.items)) }
+    ensures cost { steps.new ≤ steps.old + (128 + length chunks.now) }
+{
+    let (first, second) = halves(entries)?;
+    let before = joined_before(alloc, chunks, at, first, steps)?;
+    let behind = joined_behind(chunks, at + 1, second, steps)?;
+    let mut copies = Vec::with_capacity(alloc, chunks.len())?;
+    copy_chunks(&mut copies, &chunks[..before.place], steps)?;
+    push_chunk(alloc, &mut copies, before.entries)?;
+    push_chunk(alloc, &mut copies, behind.entries)?;
+    copy_chunks(&mut copies, &chunks[behind.place..], steps)?;
+    Ok(copies)
+}
+
+/// 129 entries split into 64 and 65.
+fn halves<K: Copy, V: Drop>(
+    mut entries: Vec<(K, V)>,
+) -> Result<(Vec<(K, V)>, Vec<(K, V)>), AllocError>
+    requires { length entries.items ≡ 129 }
+    ensures first_length { IfOk result (λ halves. length halves.0.items ≡ 64) }
+    ensures second_length { IfOk result (λ halves. length halves.1.items ≡ 65) }
+    ensures first { IfOk result (λ halves. halves.0.items ≡ take 64 entries.items) }
+    ensures second { IfOk result (λ halves. halves.1.items ≡ drop 64 entries.items) }
+{
+    let second = entries.split_off(HALF)?;
+    Ok((entries, second))
+}
+
+/// The chunks with these entries in place of those of one. A step is an entry or a reference copied.
+pub(crate) fn rebuilt<K: Ord + Copy, V: Share + Drop, L: Ledger>(
+    alloc: Global,
+    chunks: &[Arc<Chunk<K, V>>],
+    at: usize,
+    entries: Vec<(K, V)>,
+    steps: &mut Steps<L>,
+) -> Result<Vec<Arc<Chunk<K, V>>>, AllocError>
+    requires within { at < length chunks.now }
+    requires sized { AreChunks (map arc_value chunks.now) }
+    requires short { length entries.items ≤ 129 }
+    requires near { length_at (map arc_value chunks.now) at ≤ length entries.items + 1 }
+    ensures entries { IfOk result (λ v.
+        flat (map arc_value v.items)
+        ≡ flat (take at (map arc_value chunks.now)) ++ (entries.items
+        ++ flat (drop (at + 1) (map arc_value chunks.now)))) }
+    ensures sized { IfOk result (λ v. AreChunks (map arc_value v.items)) }
+    ensures cost { steps.new ≤ steps.old + (128 + length chunks.now) }
+{
+    if entries.is_empty() {
+        without_chunk(alloc, chunks, at, steps)
+    } else if entries.len() > CHUNK {
+        with_split(alloc, chunks, at, entries, steps)
+    } else {
+        with_chunk(alloc, chunks, at, entries, steps)
+    }
+}

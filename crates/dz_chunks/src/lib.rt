@@ -1,0 +1,18 @@
+//! A finite map in shared chunks: a changed map shares all but a few chunks with the map that it was made from.
+#![tactic(auto)]
+
+mod chunk;
+mod chunks;
+mod entries;
+mod joins;
+mod laws;
+mod share;
+mod walk;
+
+pub use chunks::Chunks;
+pub use laws::few_chunks;
+pub use share::Share;
+pub use walk::Walk;
+
+#[cfg(test)]
+mod tests;
