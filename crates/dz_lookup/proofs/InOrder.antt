@@ -17,7 +17,7 @@ use Rattle.std.proofs.lemmas.List.{get_or_default}
 use Rattle.std.proofs.lemmas.List.Folds.{list_any_none, list_any_at, Any-from_list_any}
 use Rattle.std.proofs.lemmas.Bool.Decides.{nat_tests}
 use Rattle.dz_name.specs.Name.{canonical_order, same_name}
-use Rattle.dz_name.specs.Order.{canonical_total, same_ties}
+use Rattle.dz_name.specs.Order.{canonical_total, same_ties, same_decides}
 use Rattle.dz_record.specs.Record.{Record, record_order}
 use Rattle.dz_record.specs.Records.{insertion, in_order}
 use Rattle.dz_lookup.specs.Runs.{of_type, records_of, owns}
@@ -99,6 +99,20 @@ in_order_stays (r ∷ rs) up = rw (in_order_stays rs (sorted_tail record_order r
 
 pub records_of_is : (zone : List Record) (name : List (List ℕ)) → IsStrictlySortedBy record_order zone → records_of zone name ≡ filter (λ r. same_name r.owner name) zone
 records_of_is zone name up = in_order_stays _ (IsStrictlySortedBy-filter record_order (λ r. same_name r.owner name) zone up)
+
+-- the records of an owner and a type are of this owner
+owned_filter : (name : List (List ℕ)) (kind : ℕ) (rs : List Record) → AllByRecursion (λ r. r.owner ≡ name) (of_type kind (filter (λ r. same_name r.owner name) rs))
+owned_filter name kind [] = tt
+owned_filter name kind (r ∷ rs) = elim (cases_Bool (same_name r.owner name)) [
+  | inl own ↦ elim (cases_Bool (r.kind == kind)) [
+    | inl of_kind ↦ rw (own, of_kind) ((same_decides r.owner name).0 own, owned_filter name kind rs)
+    | inr another ↦ rw (own, another) (owned_filter name kind rs)
+  ]
+  | inr another ↦ rw another (owned_filter name kind rs)
+]
+
+pub owned : (zone : List Record) (name : List (List ℕ)) (kind : ℕ) → IsStrictlySortedBy record_order zone → AllByRecursion (λ r. r.owner ≡ name) (of_type kind (records_of zone name))
+owned zone name kind up = rw (records_of_is zone name up) (owned_filter name kind zone)
 
 -- the run of an owner
 pub owner_run : (zone : List Record) (name : List (List ℕ)) (i j : ℕ) → IsStrictlySortedBy record_order zone → i ≤ length zone → j ≤ length zone

@@ -1,5 +1,5 @@
 -- The records of an owner, as the index of a zone tells them, and those of a type among them.
-use Rattle.std.proofs.Common.{◌≡◌, ℕ, zero, suc, ◌+◌, ◌-◌, ◌*◌, ◌<◌, ◌≤◌, Bool, true, false, List, [], ◌∷◌, length, take, drop, get_or, refl, sym, ◌∙◌, ap, subst, arith, inl, inr}
+use Rattle.std.proofs.Common.{◌≡◌, ℕ, zero, suc, ◌+◌, ◌-◌, ◌<◌, ◌≤◌, Bool, true, false, List, [], ◌∷◌, length, take, drop, get_or, refl, sym, ◌∙◌, arith, inl, inr}
 use Rattle.std.specs.Prelude.{filter, ◌==◌}
 use Rattle.std.specs.List.Sorted.{IsStrictlySortedBy, IsSortedBy, IsNonDecreasingBy, IsPartitionPoint, IsPartitionedBy}
 use Rattle.std.specs.Ordering.{is_lt, is_le, is_eq, nat_cmp, ordering_then, ordering_index}
@@ -8,7 +8,7 @@ use Rattle.std.specs.declared.cmp.Ordering.TheVariants.{Less, Equal, Greater}
 use Rattle.std.specs.Cmp.{tied_itself, nat_cmp_total}
 use Rattle.std.proofs.lemmas.Bool.{cases_Bool, cases_lt}
 use Rattle.std.proofs.lemmas.Bool.Decides.{nat_tests}
-use Rattle.std.proofs.lemmas.List.{length-map, get_or_default}
+use Rattle.std.proofs.lemmas.List.{length-map}
 use Rattle.std.proofs.Math.ListN.{get_or-map}
 use Rattle.std.proofs.lemmas.List.Sorted.{searchable_from_sorted}
 use Rattle.std.proofs.lemmas.List.Kept.{IsStrictlySortedBy-filter}
@@ -21,7 +21,7 @@ use Rattle.dz_index.specs.Index.{IsFirstOf, IsEndOf}
 use Rattle.dz_zone.specs.Version.{owners_of}
 use Rattle.dz_lookup.specs.Runs.{of_type, records_of}
 use Rattle.dz_lookup.specs.inner.Places.{from_owner, IsBegin, IsEnd}
-use Rattle.dz_lookup.proofs.RunLemmas.{run_is, points_rise, partitioned_lt, partitioned_le}
+use Rattle.dz_lookup.proofs.RunLemmas.{run_is, partitioned_lt, partitioned_le}
 use Rattle.dz_lookup.proofs.InOrder.{records_of_is}
 
 -- places among the owners are places among the records

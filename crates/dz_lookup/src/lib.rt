@@ -12,4 +12,4 @@ mod tests;
 
 pub use chain::{Chain, Last, chase};
 pub use found::{Found, find};
-pub use runs::{records_of, rrset_of};
+pub use runs::{Addresses, addresses_of, records_of, rrset_of};

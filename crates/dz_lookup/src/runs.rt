@@ -1,6 +1,7 @@
 //! The records of an owner, and those of an owner and a type, found by one search in the index of a version.
 
-ghost use Rattle.std.specs.Prelude.{◌≡◌, ◌&&◌, ◌≤◌, ◌-◌, length, take, drop, nat_lt, slice_index_or};
+ghost use Rattle.std.specs.Prelude.{◌≡◌, ◌&&◌, ◌≤◌, ◌-◌, [], length, take, drop, nat_lt, slice_index_or};
+ghost use Rattle.std.specs.List.{AllByRecursion};
 ghost use Rattle.std.specs.List.Sorted.{IsStrictlySortedBy, IsNonDecreasingBy};
 ghost use Rattle.dz_name.specs.Name.{is_within};
 ghost use Rattle.dz_record.specs.Record.{Record, record_order};
@@ -8,6 +9,7 @@ ghost use Rattle.dz_lookup.specs.Counted.{TakesSearches};
 ghost use Rattle.dz_lookup.specs.Runs.{of_type, records_of, exists};
 ghost use Rattle.dz_lookup.specs.inner.Places.{from_owner, IsBegin, IsPlaceWithin};
 
+use dz_name::dns::{TYPE_A, TYPE_AAAA};
 use dz_name::{Name, NameRef};
 use dz_record::Rr;
 use dz_steps::Steps;
@@ -27,6 +29,42 @@ pub fn rrset_of<'a>(version: &'a Version, name: &Name, kind: u16) -> &'a [Rr]
     ensures { result.now ≡ of_type kind (records_of version.now.records name.now) }
 {
     counted_rrset::<Brand>(Blank::new(1), version, name, kind)
+}
+
+/// The addresses of a name: its A records and its AAAA records, each in the order of RDATA.
+#[derive(Clone, Copy, Debug)]
+pub struct Addresses<'a> {
+    pub four: &'a [Rr],
+    pub six: &'a [Rr],
+}
+
+impl<'a> Addresses<'a> {
+    /// No addresses.
+    pub fn none() -> Addresses<'a>
+        ensures four { result.four.now ≡ [] }
+        ensures six { result.six.now ≡ [] }
+    {
+        Addresses {
+            four: &[],
+            six: &[],
+        }
+    }
+}
+
+impl<'a> Default for Addresses<'a> {
+    fn default() -> Addresses<'a> {
+        Addresses::none()
+    }
+}
+
+/// The addresses of a name, by one search.
+pub fn addresses_of<'a>(version: &'a Version, name: &Name) -> Addresses<'a>
+    ensures four { result.four.now ≡ of_type TYPE_A (records_of version.now.records name.now) }
+    ensures six { result.six.now ≡ of_type TYPE_AAAA (records_of version.now.records name.now) }
+    ensures owner_of_four { AllByRecursion (λ r. r.owner ≡ name.now) result.four.now }
+    ensures owner_of_six { AllByRecursion (λ r. r.owner ≡ name.now) result.six.now }
+{
+    counted_addresses::<Brand>(Blank::new(1), version, name)
 }
 
 /// The same, counted in a ledger that is still blank.
@@ -53,6 +91,27 @@ fn counted_rrset<'a, L: Ledger>(
 {
     let mut steps = Steps::<L>::new(blank);
     of_type(node_of(version, &name.as_ref(), &mut steps).records, kind)
+}
+
+fn counted_addresses<'a, L: Ledger>(
+    blank: Blank,
+    version: &'a Version,
+    name: &Name,
+) -> Addresses<'a>
+    requires name { blank.name ≡ L.name }
+    requires parts { blank.parts ≡ L.parts }
+    requires whole { blank.parts ≡ 1 }
+    ensures four { result.four.now ≡ of_type TYPE_A (records_of version.now.records name.now) }
+    ensures six { result.six.now ≡ of_type TYPE_AAAA (records_of version.now.records name.now) }
+    ensures owner_of_four { AllByRecursion (λ r. r.owner ≡ name.now) result.four.now }
+    ensures owner_of_six { AllByRecursion (λ r. r.owner ≡ name.now) result.six.now }
+{
+    let mut steps = Steps::<L>::new(blank);
+    let records = node_of(version, &name.as_ref(), &mut steps).records;
+    Addresses {
+        four: of_type(records, TYPE_A),
+        six: of_type(records, TYPE_AAAA),
+    }
 }
 
 /// The records of an owner, in order, and the place in the zone where they begin or would begin.

@@ -1,5 +1,5 @@
 -- The octets of a chain's records, piece by piece.
-use Rattle.std.proofs.Common.{◌≡◌, ℕ, ◌+◌, ◌%◌, ◌/◌, ◌<◌, ◌≤◌, List, [], ◌∷◌, ◌++◌, length, drop, get_or, refl, sym, ◌∙◌, ap, arith, length-append, append_assoc, Some, None, Bool, false}
+use Rattle.std.proofs.Common.{◌≡◌, ℕ, ◌+◌, ◌%◌, ◌/◌, ◌<◌, ◌≤◌, List, [], ◌∷◌, ◌++◌, length, drop, get_or, refl, sym, ◌∙◌, ap, arith, append_assoc, Some, None, Bool, false}
 use Rattle.std.specs.Prelude.{slice_get}
 use Rattle.std.proofs.lemmas.Grind.{flat_map-append}
 use Rattle.std.proofs.lemmas.List.{drop_more, drop_all, length-map, append-nil}
@@ -7,7 +7,6 @@ use Rattle.dz_name.specs.Numbers.{two}
 use Rattle.dz_record.specs.Record.{Record}
 use Rattle.dz_zone.specs.Version.{Zone, apex_soa}
 use Rattle.dz_lookup.specs.Found.{Found}
-use Rattle.dz_lookup.specs.Runs.{of_type, records_of}
 use Rattle.dz_lookup.specs.Chain.{Aliases, ended, stopped, chain_of}
 use Rattle.dz_header.specs.Edns.{opt_count, opt_octets}
 use Rattle.dz_header.specs.Header.{header_octets}
@@ -15,7 +14,7 @@ use Rattle.dz_request.specs.Frame.{Query, limit_of, head_octets, within_limit, b
 use Rattle.dz_reply.specs.Layout.{entry_octets, entries_octets}
 use Rattle.dz_reply.specs.Layout.{entries, entry}
 use Rattle.dz_header.specs.Writing.{writing_of}
-use Rattle.dz_reply.specs.Answer.{Sections, bare, whole_octets, octets_of, negative_ttl, alias_entries, own_entries, soa_under, soa_entries, inner_target, addresses_of, glue_of, glue, only_aliases, at_end, of_ending, of_chain, sections_of}
+use Rattle.dz_reply.specs.Answer.{Sections, bare, whole_octets, octets_of, negative_ttl, alias_entries, own_entries, soa_under, soa_entries, only_aliases, at_end, of_ending, of_chain, sections_of}
 use Rattle.dz_header.specs.Writing.{Writing, also, empty}
 use Rattle.dz_header.proofs.WriterLemmas.{also_append, also_nil}
 
@@ -84,63 +83,6 @@ pub length-own_entries : (rs : List Record) → length (own_entries rs) ≡ leng
 unfolding own_entries
 length-own_entries [] = refl
 length-own_entries (r ∷ rs) = length-entries r.owner (r ∷ rs)
-
--- glue
-pub no_addresses : (q : List (List ℕ)) (zone : Zone) (server : Record) (w : Writing) → None ≡ inner_target zone server → w ≡ also w (entries_octets q (glue_of zone server))
-unfolding glue_of addresses_of
-no_addresses q zone server w is = rw (← is) (none_written q w)
-
-pub addresses_written : (q : List (List ℕ)) (zone : Zone) (server : Record) (name : List (List ℕ)) (w w1 w2 : Writing) → Some name ≡ inner_target zone server
-    → w1 ≡ also w (entries_octets q (entries name (of_type 1 (records_of zone.records name)))) → w2 ≡ also w1 (entries_octets q (entries name (of_type 28 (records_of zone.records name))))
-    → w2 ≡ also w (entries_octets q (glue_of zone server))
-unfolding glue_of addresses_of
-addresses_written q zone server name w w1 w2 is e f = rw (← is) (both_written q _ _ w w1 w2 e f)
-
-pub glue_written : (q : List (List ℕ)) (zone : Zone) (servers : List Record) (k : ℕ) (start w w1 : Writing) (server : Record) → k < length servers → server ≡ get_or servers k server
-    → w1 ≡ also w (entries_octets q (glue_of zone server)) → also w (entries_octets q (glue zone (drop k servers))) ≡ also start (entries_octets q (glue zone servers))
-    → also w1 (entries_octets q (glue zone (drop (k + 1) servers))) ≡ also start (entries_octets q (glue zone servers))
-unfolding glue
-glue_written q zone servers k start w w1 server lt item is so_far =
-    let e : drop k servers ≡ server ∷ drop (k + 1) servers = drop_more servers k server lt ∙ ap (λ s. s ∷ drop (k + 1) servers) (sym item) in
-    let f : also w (entries_octets q (glue_of zone server ++ glue zone (drop (k + 1) servers))) ≡ also start (entries_octets q (glue zone servers)) = rw e at so_far in
-    both_written q (glue_of zone server) (glue zone (drop (k + 1) servers)) w w1 (also w1 (entries_octets q (glue zone (drop (k + 1) servers)))) is refl ∙ f
-
-pub glue_done : (q : List (List ℕ)) (zone : Zone) (servers : List Record) (k : ℕ) (start w : Writing) → length servers ≤ k
-    → also w (entries_octets q (glue zone (drop k servers))) ≡ also start (entries_octets q (glue zone servers)) → w ≡ also start (entries_octets q (glue zone servers))
-unfolding glue
-glue_done q zone servers k start w le so_far = none_written q w ∙ (rw (drop_all k servers le) at so_far)
-
--- counts modulo 65,536
-pub glue_counted : (zone : Zone) (servers : List Record) (k count one : ℕ) (server : Record) → k < length servers → server ≡ get_or servers k server → one ≡ length (glue_of zone server) % 65536
-    → (count + length (glue zone (drop k servers))) % 65536 ≡ length (glue zone servers) % 65536
-    → ((count + one) % 65536 + length (glue zone (drop (k + 1) servers))) % 65536 ≡ length (glue zone servers) % 65536
-unfolding glue
-glue_counted zone servers k count one server lt item is so_far =
-    let e : drop k servers ≡ server ∷ drop (k + 1) servers = drop_more servers k server lt ∙ ap (λ s. s ∷ drop (k + 1) servers) (sym item) in
-    let f : (count + length (glue_of zone server ++ glue zone (drop (k + 1) servers))) % 65536 ≡ length (glue zone servers) % 65536 = rw e at so_far in
-    let g = length-append (glue_of zone server) (glue zone (drop (k + 1) servers)) in
-    omega (arith, f, g, is)
-
-pub glue_counted_all : (zone : Zone) (servers : List Record) (k count : ℕ) → length servers ≤ k → count < 65536
-    → (count + length (glue zone (drop k servers))) % 65536 ≡ length (glue zone servers) % 65536 → count ≡ length (glue zone servers) % 65536
-unfolding glue
-glue_counted_all zone servers k count le small so_far =
-    let f : (count + 0) % 65536 ≡ length (glue zone servers) % 65536 = rw (drop_all k servers le) at so_far in
-    omega (arith, f)
-
-pub no_address_count : (zone : Zone) (server : Record) → None ≡ inner_target zone server → 0 ≡ length (glue_of zone server) % 65536
-unfolding glue_of addresses_of
-no_address_count zone server is = rw (← is) refl
-
-pub address_counted : (zone : Zone) (server : Record) (name : List (List ℕ)) (four six : List Record) → Some name ≡ inner_target zone server
-    → four ≡ of_type 1 (records_of zone.records name) → six ≡ of_type 28 (records_of zone.records name)
-    → (length four % 65536 + length six % 65536) % 65536 ≡ length (glue_of zone server) % 65536
-unfolding glue_of addresses_of
-address_counted zone server name four six is e f =
-    let a = length-entries name (of_type 1 (records_of zone.records name)) in
-    let b = length-entries name (of_type 28 (records_of zone.records name)) in
-    let c = length-append (entries name (of_type 1 (records_of zone.records name))) (entries name (of_type 28 (records_of zone.records name))) in
-    rw (← is, e, f) (omega (arith, a, b, c))
 
 -- the header of many records
 two_low : (n o : ℕ) → two (n % 65536 + o) ≡ two (n + o)

@@ -6,3 +6,4 @@ pub mod ReadBackRecords
 pub mod ReadBackReplies
 pub mod ReadBackSections
 pub mod ReadBack
+pub mod GlueLemmas

@@ -1,2 +1,3 @@
 -- Inner: what the code keeps.
 pub mod AnswersHeld
+pub mod Glue

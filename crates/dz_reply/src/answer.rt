@@ -1,25 +1,22 @@
 //! The answer of a zone: the records of a chain of aliases, and what its end adds.
 
-ghost use Rattle.std.specs.Prelude.{◌≡◌, ◌<◌, ◌%◌, length, true};
+ghost use Rattle.std.specs.Prelude.{◌≡◌, length, true};
 ghost use Rattle.dz_name.specs.Name.{is_within};
 ghost use Rattle.dz_header.specs.Code.{number_of};
 ghost use Rattle.dz_header.specs.Writing.{also};
 ghost use Rattle.dz_request.specs.Request.{IsWhole};
 ghost use Rattle.dz_lookup.specs.Found.{meaning};
 ghost use Rattle.dz_reply.specs.Layout.{entries_octets};
-ghost use Rattle.dz_reply.specs.Answer.{Replies, alias_entries, own_entries, soa_entries, negative_ttl, inner_target, glue_of, glue, only_aliases, with_records, with_soa, with_servers, at_end, sections_of};
+ghost use Rattle.dz_reply.specs.Answer.{Replies, alias_entries, own_entries, soa_entries, negative_ttl, only_aliases, with_records, with_soa, with_servers, at_end, sections_of};
 
-use crate::layout::{put_entries, put_entry};
+use crate::glue::Glue;
+use crate::layout::{put_entries, put_entry, put_own};
 use dz_header::{ResponseCode, Writer};
-use dz_lookup::{Chain, Found, Last, chase, rrset_of};
+use dz_lookup::{Chain, Found, Last, chase};
 use dz_name::Name;
-use dz_name::dns::{TYPE_A, TYPE_AAAA};
 use dz_record::Rr;
 use dz_request::{Frame, Heading};
 use dz_zone::Version;
-
-/// A header counts records in two octets (RFC 1035 section 4.1.1).
-const COUNTS: usize = 65_536;
 
 /// What an answer is made of: the request that it goes to, and the version that is asked.
 #[derive(Drop)]
@@ -124,16 +121,17 @@ fn reply_referral(answer: &Answer<'_>, chain: &Chain<'_>, servers: &[Rr], writer
 {
     let question = &answer.frame.asked.question.name;
     let authoritative = chain.len() != 0;
+    let glue = Glue::of(answer.version, servers);
     let heading = Heading {
         answer: chain.len(),
         authority: servers.len(),
-        additional: glue_count(answer.version, servers),
+        additional: glue.count(),
         ..Heading::bare(ResponseCode::NoError, authoritative, false)
     };
     answer.frame.begin(writer, &heading);
     put_aliases(writer, question, chain);
     put_own(writer, question, servers);
-    put_glue(writer, question, answer.version, servers);
+    glue.put(writer, question);
     answer
         .frame
         .finish(writer, ResponseCode::NoError, authoritative);
@@ -177,83 +175,5 @@ fn negative_ttl(soa: &Rr) -> u32
     match soa.soa() {
         None => soa.ttl(),
         Some(numbers) => soa.ttl().min(numbers.minimum),
-    }
-}
-
-/// Writes an RRset under the name of its owner.
-fn put_own(writer: &mut Writer, question: &Name, records: &[Rr])
-    ensures { writer.new.writing ≡ also writer.old.writing (entries_octets question.now (own_entries records.now)) }
-{
-    match records.first() {
-        None => {}
-        Some(first) => put_entries(writer, question, &first.owner_ref(), records),
-    }
-}
-
-/// Writes the addresses of the name servers that are within the zone.
-fn put_glue(writer: &mut Writer, question: &Name, version: &Version, servers: &[Rr])
-    ensures { writer.new.writing ≡ also writer.old.writing (entries_octets question.now (glue version.now servers.now)) }
-{
-    'servers: for server in servers {
-        put_addresses(writer, question, version, server);
-    }
-}
-
-/// Writes the A records and then the AAAA records of a name server that is within the zone.
-fn put_addresses(writer: &mut Writer, question: &Name, version: &Version, server: &Rr)
-    ensures { writer.new.writing ≡ also writer.old.writing (entries_octets question.now (glue_of version.now server.now)) }
-{
-    match address_owner(version, server) {
-        None => {}
-        Some(name) => {
-            let owner = name.as_ref();
-            put_entries(writer, question, &owner, rrset_of(version, &name, TYPE_A));
-            put_entries(
-                writer,
-                question,
-                &owner,
-                rrset_of(version, &name, TYPE_AAAA),
-            );
-        }
-    }
-}
-
-/// The name that a name server record leads to, where that is within the zone.
-fn address_owner(version: &Version, server: &Rr) -> Option<Name>
-    ensures { result ≡ inner_target version.now server.now }
-{
-    let name = match server.target() {
-        None => return None,
-        Some(name) => name,
-    };
-    if name.is_within(version.apex()) {
-        Some(name)
-    } else {
-        None
-    }
-}
-
-/// How many addresses the name servers have within the zone, modulo 65,536: as many as a count has room for.
-fn glue_count(version: &Version, servers: &[Rr]) -> usize
-    ensures { result ≡ length (glue version.now servers.now) % COUNTS }
-{
-    let mut count = 0;
-    'servers: for server in servers {
-        count = (count + address_count(version, server)) % COUNTS;
-    }
-    count
-}
-
-fn address_count(version: &Version, server: &Rr) -> usize
-    ensures value { result ≡ length (glue_of version.now server.now) % COUNTS }
-    ensures small { result < COUNTS }
-{
-    match address_owner(version, server) {
-        None => 0,
-        Some(name) => {
-            let four = rrset_of(version, &name, TYPE_A).len();
-            let six = rrset_of(version, &name, TYPE_AAAA).len();
-            (four % COUNTS + six % COUNTS) % COUNTS
-        }
     }
 }

@@ -2,6 +2,7 @@
 
 ghost use Rattle.std.specs.Prelude.{◌≡◌, ◌≢◌, ◌≤◌, length, drop};
 ghost use Rattle.dz_header.specs.Writing.{also};
+ghost use Rattle.dz_reply.specs.Answer.{own_entries};
 ghost use Rattle.dz_reply.specs.Layout.{pointer_to, owner_octets, entry_octets, entries_octets, least_ttl, entry_ttl, entry, entries};
 
 use dz_header::Writer;
@@ -70,6 +71,16 @@ pub fn put_entries(writer: &mut Writer, question: &Name, owner: &NameRef, record
         ttl = ttl_of(records, kind, ttl, rr);
         kind = rr.kind();
         put_entry(writer, question, owner, ttl, rr);
+    }
+}
+
+/// Writes an RRset under the name of its owner.
+pub fn put_own(writer: &mut Writer, question: &Name, records: &[Rr])
+    ensures { writer.new.writing ≡ also writer.old.writing (entries_octets question.now (own_entries records.now)) }
+{
+    match records.first() {
+        None => {}
+        Some(first) => put_entries(writer, question, &first.owner_ref(), records),
     }
 }
 

@@ -3,6 +3,7 @@
 #![tactic(auto)]
 
 mod answer;
+mod glue;
 mod layout;
 mod reply;
 #[cfg(test)]

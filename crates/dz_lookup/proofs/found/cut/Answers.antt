@@ -1,9 +1,8 @@
-use Rattle.std.proofs.Common.{arith, ◌≡◌, ◌∙◌, refl, sym, ap, drop, false, true, ◌+◌, ◌-◌, length}
-use Rattle.std.specs.Prelude.{Some, None}
+use Rattle.std.proofs.Common.{arith, ◌≡◌, ◌∙◌, sym, ap, drop, false, true, ◌+◌, ◌-◌, length}
+use Rattle.std.specs.Prelude.{Some}
 use Rattle.dz_lookup.specs.Runs.{exists, owns, of_type, records_of}
 use Rattle.dz_lookup.specs.Found.{is_cut, cut}
 use Rattle.dz_lookup.specs.inner.Places.{servers_at}
-use Rattle.dz_lookup.specs.Counted.{TakesSearches}
 use Rattle.dz_lookup.proofs.Walk.{no_cut_below, topmost_found, none_above, cut_here, within_long}
 use Rattle.dz_lookup.proofs.Within.{drop_within}
 use Rattle.dz_lookup.proofs.FoundLemmas.{no_cut, shows_owned, owned_shows}

@@ -1,5 +1,4 @@
-use Rattle.std.proofs.Common.{◌∙◌, arith, ◌+◌, ◌-◌, length}
-use Rattle.dz_lookup.specs.Counted.{TakesSearches}
+use Rattle.std.proofs.Common.{arith, ◌+◌, ◌-◌, length}
 use Rattle.dz_lookup.proofs.FoundLemmas.{has_records, found_below, found_elsewhere}
 use Rattle.dz_lookup.proofs.CountedLemmas.{searches_add, searches_more, is_lookup}
 use Rattle.dz_lookup.proofs.found.find.Goals as goal

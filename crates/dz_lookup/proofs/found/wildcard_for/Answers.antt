@@ -1,4 +1,4 @@
-use Rattle.std.proofs.Common.{arith, ◌∙◌, ◌≡◌, [], sym, ap, drop, length, true, ◌+◌, refl}
+use Rattle.std.proofs.Common.{arith, ◌∙◌, ◌≡◌, [], sym, ap, drop, length, true, ◌+◌}
 use Rattle.std.specs.Prelude.{Some, None, option_map}
 use Rattle.dz_name.specs.Name.{wire_of, wildcard_of}
 use Rattle.dz_lookup.specs.Runs.{exists}

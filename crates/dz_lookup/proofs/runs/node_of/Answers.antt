@@ -1,10 +1,8 @@
-use Rattle.std.proofs.Common.{◌∙◌, sym, length, ◌≡◌}
+use Rattle.std.proofs.Common.{◌∙◌, length, ◌≡◌}
 use Rattle.std.proofs.lemmas.List.{length-map}
 use Rattle.dz_record.specs.Record.{Record}
 use Rattle.dz_index.specs.inner.Rows.{total}
 use Rattle.dz_zone.specs.Version.{owners_of}
-use Rattle.dz_lookup.specs.inner.Places.{from_owner, IsBegin, IsEnd}
-use Rattle.dz_lookup.proofs.RunLemmas.{points_rise}
 use Rattle.dz_lookup.proofs.InOrder.{owner_run}
 use Rattle.dz_lookup.proofs.NodeLemmas.{first_begin, end_end, node_kinds}
 use Rattle.dz_lookup.proofs.runs.node_of.Goals as goal

@@ -1,6 +1,6 @@
 use Rattle.std.proofs.Common.{◌≡◌, ◌+◌, ◌%◌, ◌<◌, drop, length}
 use Rattle.dz_reply.specs.Answer.{glue}
-use Rattle.dz_reply.proofs.answer.glue_count.Given as goal
+use Rattle.dz_reply.proofs.glue.count_further.Given as goal
 
 abbrev pub invariant-servers : goal.invariant-servers
 invariant-servers l = record {
