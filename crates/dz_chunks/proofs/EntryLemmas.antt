@@ -83,7 +83,7 @@ module _ {K X : Type 0} (R : K → K → Ordering) (o : IsTotalOrder R) where
   here_from k (x ∷ xs) zero h = ap is_gt (o.antisymm k x.0) ∙ reversed_not_gt (R x.0 k) (h 0 x (omega arith) (omega arith))
   here_from k (x ∷ xs) (suc i) h = here_from k xs i (λ j d low lt. h (suc j) d (omega arith) (omega arith))
 
-  below_at : (y : K) (xs : List (K × X)) → T (below_all R y xs) → (j : ℕ) (d : K × X) → j < length xs → R y (get_or xs j d).0 ≡ Less
+  pub below_at : (y : K) (xs : List (K × X)) → T (below_all R y xs) → (j : ℕ) (d : K × X) → j < length xs → R y (get_or xs j d).0 ≡ Less
   below_at y [] b j d lt = absurd (omega arith)
   below_at y (x ∷ xs) b zero d lt = less_of (R y x.0) (true_of _ (first_of_both _ (below_all R y xs) b))
   below_at y (x ∷ xs) b (suc j) d lt = below_at y xs (second_of_both (is_lt (R y x.0)) _ b) j d (omega arith)

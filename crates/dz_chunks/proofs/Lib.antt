@@ -1,3 +1,4 @@
 pub mod EntryLemmas
 pub mod ChunkLemmas
 pub mod JoinLemmas
+pub mod UptoLemmas

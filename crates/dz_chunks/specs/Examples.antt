@@ -2,7 +2,7 @@
 use Rattle.std.specs.Prelude.{◌≡◌, ℕ, Some, None, [], ◌∷◌, refl}
 use Rattle.std.specs.Ordering.{nat_cmp}
 use Rattle.std.specs.FinMap.{find, put}
-use Rattle.dz_chunks.specs.Map.{without_key}
+use Rattle.dz_chunks.specs.Map.{last_upto, without_key}
 use Rattle.dz_chunks.specs.inner.Chunked.{flat, length_at, length_before}
 
 -- a key is put in its place, and takes the value of an equal one
@@ -25,6 +25,19 @@ taken_out = refl
 
 pub not_there : without_key {X = ℕ} nat_cmp 3 ((1, 10) ∷ (5, 50) ∷ []) ≡ (1, 10) ∷ (5, 50) ∷ []
 not_there = refl
+
+-- the last entry up to a key: that of the key itself, or else of the one before, or none
+pub upto_itself : last_upto {X = ℕ} nat_cmp 5 ((1, 10) ∷ (5, 50) ∷ (7, 70) ∷ []) ≡ Some (5, 50)
+upto_itself = refl
+
+pub upto_between : last_upto {X = ℕ} nat_cmp 6 ((1, 10) ∷ (5, 50) ∷ (7, 70) ∷ []) ≡ Some (5, 50)
+upto_between = refl
+
+pub upto_last : last_upto {X = ℕ} nat_cmp 9 ((1, 10) ∷ (5, 50) ∷ (7, 70) ∷ []) ≡ Some (7, 70)
+upto_last = refl
+
+pub all_after : last_upto {X = ℕ} nat_cmp 0 ((1, 10) ∷ (5, 50) ∷ []) ≡ None
+all_after = refl
 
 -- the entries of two chunks, and the lengths of a chunk and of its neighbours
 pub entries_of_two : flat {A = ℕ} ((1 ∷ 2 ∷ []) ∷ (3 ∷ []) ∷ []) ≡ 1 ∷ 2 ∷ 3 ∷ []

@@ -4,9 +4,10 @@ ghost use Rattle.std.specs.Prelude.{◌≡◌, ℕ, ◌+◌, ◌-◌, ◌^◌, �
 ghost use Rattle.std.specs.FinMap.{find};
 ghost use Rattle.std.specs.Option.{option_map};
 ghost use Rattle.std.specs.Arc.{arc_value};
-ghost use Rattle.dz_chunks.specs.inner.Chunked.{flat, AllBefore, AllBehind, ends_before, length_at, length_before, IsChunked};
+ghost use Rattle.dz_chunks.specs.Map.{last_upto};
+ghost use Rattle.dz_chunks.specs.inner.Chunked.{flat, AllBefore, AllBehind, ends_before, begins_upto, length_at, length_before, IsChunked};
 
-use crate::entries::value_of;
+use crate::entries::{last_of, value_of};
 use dz_steps::Steps;
 use std::alloc::{AllocError, Global};
 use std::marker::Model;
@@ -44,6 +45,14 @@ impl<K: Ord + Copy, V> Chunk<K, V> {
         let entries = self.entries();
         let len = entries.len();
         0 < len && entries[len - 1].0.cmp(key).is_lt()
+    }
+
+    /// Whether the first key doesn't come after a key.
+    fn begins_upto(&self, key: &K) -> bool
+        ensures { result ≡ begins_upto K.cmp key.now self.now }
+    {
+        let entries = self.entries();
+        0 < entries.len() && !entries[0].0.cmp(key).is_gt()
     }
 }
 
@@ -104,6 +113,23 @@ pub(crate) fn value_among<'a, K: Ord + Copy, V>(
         value_of(chunks[at].entries(), key)
     } else {
         None
+    }
+}
+
+/// The last entry among chunks whose key doesn't come after a key.
+pub(crate) fn last_among<'a, K: Ord + Copy, V>(
+    chunks: &'a [Arc<Chunk<K, V>>],
+    key: &K,
+) -> Option<(&'a K, &'a V)>
+    requires { IsChunked K.cmp (map arc_value chunks.now) }
+    ensures { option_map (λ entry. (entry.0.now, entry.1.now)) result
+        ≡ last_upto K.cmp key.now (flat (map arc_value chunks.now)) }
+{
+    let count = chunks.partition_point(|chunk| chunk.begins_upto(key));
+    if count == 0 {
+        None
+    } else {
+        last_of(chunks[count - 1].entries(), key)
     }
 }
 

@@ -4,10 +4,10 @@ ghost use Rattle.std.specs.Prelude.{◌≡◌, ℕ, ◌+◌, ◌-◌, ◌*◌, �
 ghost use Rattle.std.specs.FinMap.{is_sorted, find, put};
 ghost use Rattle.std.specs.Option.{option_map};
 ghost use Rattle.std.specs.Arc.{arc_value};
-ghost use Rattle.dz_chunks.specs.Map.{without_key};
+ghost use Rattle.dz_chunks.specs.Map.{last_upto, without_key};
 ghost use Rattle.dz_chunks.specs.inner.Chunked.{flat, IsChunked};
 
-use crate::chunk::{Chunk, chunk_for, count_entries, push_chunk, value_among};
+use crate::chunk::{Chunk, chunk_for, count_entries, last_among, push_chunk, value_among};
 use crate::entries::{with_entry, without_entry};
 use crate::joins::rebuilt;
 use crate::share::Share;
@@ -126,6 +126,14 @@ impl<K: Ord + Copy, V> Chunks<K, V> {
         ensures { option_map (λ value. value.now) result ≡ find K.cmp key.now self.now }
     {
         value_among(self.chunks.as_slice(), key)
+    }
+
+    /// The last entry whose key doesn't come after a key, and None exactly where all keys come after it.
+    pub fn last_upto(&self, key: &K) -> Option<(&K, &V)>
+        ensures { option_map (λ entry. (entry.0.now, entry.1.now)) result
+            ≡ last_upto K.cmp key.now self.now }
+    {
+        last_among(self.chunks.as_slice(), key)
     }
 }
 

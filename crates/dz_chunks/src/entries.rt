@@ -3,7 +3,7 @@
 ghost use Rattle.std.specs.Prelude.{◌≡◌, ℕ, ◌+◌, ◌-◌, ◌<◌, ◌≤◌, List, [], ◌∷◌, ◌++◌, length, take, drop, T, true, OnOk, IfOk, slice_index_or};
 ghost use Rattle.std.specs.FinMap.{is_sorted, find, put};
 ghost use Rattle.std.specs.Option.{option_map};
-ghost use Rattle.dz_chunks.specs.Map.{without_key};
+ghost use Rattle.dz_chunks.specs.Map.{last_upto, without_key};
 ghost use Rattle.dz_chunks.specs.inner.Chunked.{AllBefore, NotBefore, begins_at};
 
 use crate::share::Share;
@@ -55,6 +55,24 @@ pub(crate) fn value_of<'a, K: Ord + Copy, V>(entries: &'a [(K, V)], key: &K) -> 
         Some(&entries[place].1)
     } else {
         None
+    }
+}
+
+/// The last entry whose key doesn't come after a key.
+pub(crate) fn last_of<'a, K: Ord + Copy, V>(
+    entries: &'a [(K, V)],
+    key: &K,
+) -> Option<(&'a K, &'a V)>
+    requires { T (is_sorted K.cmp entries.now) }
+    ensures { option_map (λ entry. (entry.0.now, entry.1.now)) result
+        ≡ last_upto K.cmp key.now entries.now }
+{
+    let count = entries.partition_point(|entry| !entry.0.cmp(key).is_gt());
+    if count == 0 {
+        None
+    } else {
+        let entry = &entries[count - 1];
+        Some((&entry.0, &entry.1))
     }
 }
 

@@ -1,5 +1,5 @@
 -- Inner: entries in the order of their keys, cut into chunks.
-use Rattle.std.specs.Prelude.{◌≡◌, ℕ, zero, suc, ◌+◌, ◌≤◌, Bool, false, T, List, [], ◌∷◌, ◌++◌, length}
+use Rattle.std.specs.Prelude.{◌≡◌, ℕ, zero, suc, ◌+◌, ◌≤◌, Bool, false, not, T, List, [], ◌∷◌, ◌++◌, length}
 use Rattle.std.specs.Ordering.{is_lt, is_gt, is_eq}
 use Rattle.std.specs.FinMap.{is_sorted}
 use Rattle.std.specs.declared.cmp.Ordering.{Ordering}
@@ -45,6 +45,11 @@ module _ {K X : Type 0} (R : K → K → Ordering) where
   ends_before k [] = false
   ends_before k (e ∷ []) = is_lt (R e.0 k)
   ends_before k (e ∷ f ∷ es) = ends_before k (f ∷ es)
+
+  -- the first key doesn't come after this one
+  abbrev pub begins_upto : K → List (K × X) → Bool
+  begins_upto k [] = false
+  begins_upto k (e ∷ es) = not (is_gt (R e.0 k))
 
 module _ {K X : Type 0} (R : K → K → Ordering) where
   -- the first key doesn't come before this one
