@@ -1,3 +1,6 @@
 pub mod Rising
 pub mod Nearest
 pub mod Putting
+pub mod KeptLemmas
+pub mod LastLemmas
+pub mod SharedLemmas

@@ -1,29 +1,22 @@
--- A slot put among others.
+-- A slot put among others, and the slot of a zone taken out.
 use Rattle.std.proofs.Common.{◌≡◌, ◌≢◌, ℕ, Bool, true, false, List, [], ◌∷◌, ◌++◌, refl, sym, ◌∙◌, ap, inl, inr}
-use Rattle.std.specs.Prelude.{filter, Option, Some, None, if◌then◌else◌}
+use Rattle.std.specs.Prelude.{not, filter, Option, Some, None, if◌then◌else◌}
 use Rattle.std.specs.Option.{option_or}
 use Rattle.std.specs.List.{find}
 use Rattle.std.specs.Ordering.{is_lt}
 use Rattle.std.specs.declared.cmp.Ordering.TheVariants.{Less, Equal, Greater}
 use Rattle.std.proofs.lemmas.Bool.{cases_Bool, false_from_ne_true}
 use Rattle.std.proofs.lemmas.Cmp.{tied_itself}
+use Rattle.std.proofs.lemmas.List.Kept.{IsStrictlySortedBy-filter}
 use Rattle.dz_name.specs.Name.{canonical_order, same_name}
 use Rattle.dz_name.specs.Order.{canonical_total, canonical_same, same_decides}
 use Rattle.dz_table.specs.Slot.{SlotOf}
-use Rattle.dz_table.specs.Table.{IsTable, comes_before, put, slot_of}
-use Rattle.dz_table.proofs.Rising.{put_is, rises_put}
+use Rattle.dz_table.specs.Table.{IsTable, comes_before, slot_order, put, without, slot_of}
+use Rattle.dz_table.proofs.Rising.{rises_put}
 
 pub put_rises : (slots new : List SlotOf) (slot : SlotOf) → IsTable slots → new ≡ put slots slot → IsTable new
 unfolding put
 put_rises slots new slot up e = rw e (rises_put (λ (s : SlotOf). s.zone) canonical_total slot slots up)
-
--- shares of the slots in front, the slot, and shares of those behind
-pub put_made : (slots s0 s1 s2 s3 seen again front back : List SlotOf) (z y : List (List ℕ)) (slot : SlotOf) → s0 ≡ [] → s1 ≡ s0 ++ front → s2 ≡ s1 ++ slot ∷ [] → s3 ≡ s2 ++ back
-    → seen ≡ slots → again ≡ slots → z ≡ slot.zone → y ≡ slot.zone → front ≡ filter (λ s. comes_before s.zone z) seen → back ≡ filter (λ s. comes_before y s.zone) again
-    → s3 ≡ put slots slot
-unfolding put
-put_made slots s0 s1 s2 s3 seen again front back z y slot e0 e1 e2 e3 now later there here f b =
-    put_is front back s0 s1 s2 s3 slot e0 e1 e2 e3 ∙ (rw (f, b, now, later, there, here) refl)
 
 find_append : {X : Type 0} (p : X → Bool) (xs ys : List X) → find p (xs ++ ys) ≡ option_or (find p xs) (find p ys)
 find_append p [] ys = refl
@@ -88,3 +81,18 @@ put_others slots new slot zone e ne =
       | first h k ↦ rw (e, find_append (λ (s : SlotOf). same_name s.zone zone), f, front true h, back false k) (or_none (slot_of zone slots))
       | second h k ↦ rw (e, find_append (λ (s : SlotOf). same_name s.zone zone), f, front false h, back true k) refl
     ]
+
+pub without_rises : (slots new : List SlotOf) (zone : List (List ℕ)) → IsTable slots → new ≡ without slots zone → IsTable new
+unfolding without
+without_rises slots new zone up e = rw e (IsStrictlySortedBy-filter slot_order (λ s. not (same_name s.zone zone)) slots up)
+
+pub without_own : (slots new : List SlotOf) (zone : List (List ℕ)) → new ≡ without slots zone → slot_of zone new ≡ None
+unfolding without
+without_own slots new zone e =
+    rw e (find_filter (λ s. same_name s.zone zone) (λ s. not (same_name s.zone zone)) false (λ s t. ap not t) slots)
+
+pub without_others : (slots new : List SlotOf) (zone other : List (List ℕ)) → new ≡ without slots zone → other ≢ zone → slot_of other new ≡ slot_of other slots
+unfolding without
+without_others slots new zone other e ne =
+    let f : same_name other zone ≡ false = false_from_ne_true (same_name other zone) (λ t. ne ((same_decides other zone).0 t)) in
+    rw e (find_filter (λ s. same_name s.zone other) (λ s. not (same_name s.zone zone)) true (λ s t. ap (λ z. not (same_name z zone)) (same_zone other s t) ∙ ap not f) slots)

@@ -5,7 +5,7 @@ use Rattle.dz_name.specs.Name.{upward}
 use Rattle.dz_name.specs.Numbers.{number_of_four}
 use Rattle.dz_name.specs.declared.dns.TheConstants.{TYPE_SOA}
 use Rattle.dz_table.specs.Slot.{SlotOf, is_live}
-use Rattle.dz_table.specs.Table.{put, first_held, closest}
+use Rattle.dz_table.specs.Table.{put, without, first_held, closest}
 
 abbrev slot : Name → ℕ → SlotOf
 slot zone moment = record { zone = zone; refreshed = moment; version = None }
@@ -56,6 +56,15 @@ pub between : put (slot example 1 ∷ slot (codes "z" ∷ example) 2 ∷ []) (sl
     ≡ slot example 1 ∷ slot sub 3 ∷ slot (codes "z" ∷ example) 2 ∷ []
 unfolding put
 between = refl
+
+-- the slots of the other zones, those below the zone among them
+pub taken_out : without slots example ≡ slot sub 1 ∷ slot (codes "other" ∷ []) 2 ∷ []
+unfolding without
+taken_out = refl
+
+pub not_there : without slots (codes "org" ∷ []) ≡ slots
+unfolding without
+not_there = refl
 
 -- EXPIRE, the fourth number of the SOA, is 3: a slot refreshed at 100 is live at 102 and not at 103
 abbrev expiring : SlotOf

@@ -1,3 +1,4 @@
 pub mod Examples
 pub mod Slot
 pub mod Table
+pub mod inner

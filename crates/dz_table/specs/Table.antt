@@ -1,6 +1,6 @@
 -- Meaning: slots of zones, and which one answers for a name (RFC 1034 section 4.3.2). A list of slots may stand in any
 -- order, unless it is said.
-use Rattle.std.specs.Prelude.{◌≤◌, Bool, List, [], ◌∷◌, ◌++◌, length, filter, Option, Some, None}
+use Rattle.std.specs.Prelude.{◌≤◌, Bool, not, List, [], ◌∷◌, ◌++◌, length, filter, Option, Some, None}
 use Rattle.std.specs.Option.{option_or}
 use Rattle.std.specs.List.{find, All, Contains}
 use Rattle.std.specs.List.Sorted.{IsStrictlySortedBy}
@@ -26,6 +26,10 @@ unfoldable pub put : List SlotOf → SlotOf → List SlotOf
 put slots slot =
     filter (λ s. comes_before s.zone slot.zone) slots
     ++ slot ∷ filter (λ s. comes_before slot.zone s.zone) slots
+
+-- the slots of the other zones
+unfoldable pub without : List SlotOf → Name → List SlotOf
+without slots zone = filter (λ s. not (same_name s.zone zone)) slots
 
 -- the slot of a zone
 abbrev pub slot_of : Name → List SlotOf → Option SlotOf

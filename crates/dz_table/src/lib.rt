@@ -1,11 +1,13 @@
 //! The table of zones: what is held of each, and which zone answers for a name (RFC 1034 section 4.3.2).
 #![tactic(auto)]
 
-mod search;
+mod shared;
 mod slot;
+mod slots;
 mod table;
 #[cfg(test)]
 mod tests;
 
 pub use slot::Slot;
+pub use slots::Slots;
 pub use table::Table;

@@ -7,6 +7,7 @@ ghost use Rattle.std.specs.List.{All};
 ghost use Rattle.dz_record.specs.Record.{IsRecord};
 ghost use Rattle.dz_table.specs.Slot.{SlotOf, IsSlot, is_live};
 
+use dz_chunks::Share;
 use dz_name::Name;
 use dz_zone::Version;
 use std::alloc::AllocError;
@@ -95,11 +96,11 @@ impl Slot {
             Some(version) => moment < self.refreshed + u64::from(version.soa().expire),
         }
     }
+}
 
+impl Share for Slot {
     /// The same slot once more. It shares the version, so no record is copied.
-    pub fn share(&self) -> Result<Slot, AllocError>
-        ensures { IfOk result (λ s. s ≡ self.now) }
-    {
+    fn share(&self) -> Result<Slot, AllocError> {
         let version = match &self.version {
             None => None,
             Some(version) => Some(Arc::try_clone(version)?),

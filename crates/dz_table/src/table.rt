@@ -1,31 +1,36 @@
 //! The table of zones.
 
-ghost use Rattle.std.specs.Prelude.{◌≡◌, ◌≢◌, ◌≤◌, [], Some, IfOk, drop, length, option_map};
+ghost use Rattle.std.specs.Prelude.{◌≡◌, ◌≢◌, ◌≤◌, ◌+◌, ◌/◌, [], Some, None, IfOk, length, option_map};
 ghost use Rattle.dz_name.specs.Words.{Name};
-ghost use Rattle.dz_table.specs.Table.{IsTable, IsClosest, put, slot_of, closest};
+ghost use Rattle.dz_table.specs.Table.{IsTable, IsClosest, put, without, slot_of, closest};
 
-use crate::search::{before, behind, find, share_into};
+use crate::shared::labels_apart;
 use crate::slot::Slot;
+use crate::slots::Slots;
+use dz_chunks::Chunks;
 use dz_name::Name;
+use dz_steps::Steps;
 use std::alloc::{AllocError, Global};
 use std::marker::Model;
+use std::sync::ledger::Ledger;
 
-/// Slots in the canonical order of their zones (RFC 4034 section 6.1), one at most for each zone.
-#[derive(Debug, Drop)]
+/// Slots in the canonical order of their zones (RFC 4034 section 6.1), one at most for each zone. A changed table is a
+/// new one, which shares with the old one all slots but some hundred.
+#[derive(Drop)]
 pub struct Table {
-    slots: Vec<Slot>,
+    slots: Chunks<Name, Slot>,
 }
 
 impl Model for Table {
     ghost use Rattle.std.specs.Prelude.{List};
     ghost use Rattle.dz_table.specs.Slot.{SlotOf};
-    ghost use Rattle.dz_table.specs.Table.{IsTable};
+    ghost use Rattle.dz_table.specs.inner.Kept.{slots_of, IsKept};
 
     ghost Value = { List SlotOf };
 
-    ghost view = { λ t. t.slots.items };
+    ghost view = { λ t. slots_of t.slots };
 
-    ghost invariant = { λ t. IsTable t.slots.items };
+    ghost invariant = { λ t. IsKept t.slots };
 }
 
 impl Table {
@@ -34,29 +39,50 @@ impl Table {
         ensures { result ≡ [] }
     {
         Table {
-            slots: Vec::new(alloc),
+            slots: Chunks::empty(alloc),
         }
     }
 
     /// The slots, in the canonical order of their zones.
-    pub(crate) fn slots(&self) -> &[Slot]
-        ensures slots { result.now ≡ self.now }
+    pub fn walk(&self) -> Slots<'_>
+        ensures slots { result ≡ self.now }
         ensures order { IsTable self.now }
     {
-        self.slots.as_slice()
+        Slots::over(self.slots.walk())
     }
 
-    /// A new table with this slot in place of the one of its zone, or beside the others. It shares their versions.
-    pub fn with(&self, alloc: Global, slot: Slot) -> Result<Table, AllocError>
+    /// A new table with this slot in place of the one of its zone, or beside the others. It shares their versions. A step
+    /// is a slot copied, or a reference to some of them: at most 256 slots and one reference for each 64 of them.
+    pub fn with<L: Ledger>(
+        &self,
+        alloc: Global,
+        slot: Slot,
+        steps: &mut Steps<L>,
+    ) -> Result<Table, AllocError>
         ensures value { IfOk result (λ t. t ≡ put self.now slot) }
         ensures own { IfOk result (λ t. slot_of slot.zone t ≡ Some slot) }
         ensures others { IfOk result (λ t. (zone : Name) → zone ≢ slot.zone → slot_of zone t ≡ slot_of zone self.now) }
+        ensures cost { steps.new ≤ steps.old + 256 + (length self.now / 64 + 1) }
     {
-        let mut slots = Vec::with_capacity(alloc, self.slots.len() + 1)?;
-        share_into(&mut slots, before(self.slots(), slot.zone()))?;
         let zone = *slot.zone();
-        slots.push(slot)?;
-        share_into(&mut slots, behind(self.slots(), &zone))?;
+        let slots = self.slots.with(alloc, zone, slot, steps)?;
+        Ok(Table { slots })
+    }
+
+    /// A new table without the slot of a zone, equal to this one where the zone has none. It copies no more than
+    /// [`Table::with`].
+    pub fn without<L: Ledger>(
+        &self,
+        alloc: Global,
+        zone: &Name,
+        steps: &mut Steps<L>,
+    ) -> Result<Table, AllocError>
+        ensures value { IfOk result (λ t. t ≡ without self.now zone.now) }
+        ensures own { IfOk result (λ t. slot_of zone.now t ≡ None) }
+        ensures others { IfOk result (λ t. (other : Name) → other ≢ zone.now → slot_of other t ≡ slot_of other self.now) }
+        ensures cost { steps.new ≤ steps.old + 256 + (length self.now / 64 + 1) }
+    {
+        let slots = self.slots.without(alloc, zone, steps)?;
         Ok(Table { slots })
     }
 
@@ -65,7 +91,7 @@ impl Table {
         ensures slot { option_map (λ r. r.now) result ≡ slot_of zone.now self.now }
         ensures order { IsTable self.now }
     {
-        find(self.slots(), &zone.as_ref())
+        self.slots.get(zone)
     }
 
     /// The slot whose zone encloses the name and has most labels (RFC 1034 section 4.3.2, step 2); none where no zone
@@ -74,13 +100,14 @@ impl Table {
         ensures value { option_map (λ r. r.now) result ≡ closest self.now name.now }
         ensures nearest { IsClosest self.now name.now (option_map (λ r. r.now) result) }
     {
-        let slots = self.slots();
-        'labels: for skip in 0..name.label_count() {
-            match find(slots, &name.ancestor_ref(skip)) {
-                Some(slot) => return Some(slot),
-                None => {}
+        // a zone that encloses a name encloses all names that stand between the two in canonical order
+        let mut asked = *name;
+        'ancestors: loop {
+            let (zone, slot) = self.slots.last_upto(&asked)?;
+            if asked.is_within(zone) {
+                return Some(slot);
             }
+            asked = asked.ancestor(labels_apart(&asked, zone));
         }
-        find(slots, &name.ancestor_ref(name.label_count()))
     }
 }

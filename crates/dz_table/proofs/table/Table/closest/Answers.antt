@@ -1,31 +1,43 @@
-use Rattle.std.proofs.Common.{◌≡◌, ℕ, [], drop, length, arith, ◌∙◌}
-use Rattle.std.proofs.lemmas.List.{drop_all}
-use Rattle.dz_name.specs.Words.{Name}
-use Rattle.dz_table.proofs.Nearest.{climb_start, climb_found, climb_more, climb_end, closest_answer}
+use Rattle.std.proofs.Common.{arith, ◌<◌, ◌∙◌, sym, ap, subst, drop, length, length-drop, option_map}
+use Rattle.std.proofs.lemmas.Bool.{false≢true}
+use Rattle.dz_name.specs.Name.{IsWithin}
+use Rattle.dz_table.specs.Table.{closest}
+use Rattle.dz_table.specs.inner.Kept.{slots_of}
+use Rattle.dz_table.proofs.Nearest.{closest_answer, last_closest, last_climbed, last_shorter}
+use Rattle.dz_table.proofs.LastLemmas.{kept_last, kept_none}
 use Rattle.dz_table.proofs.table.Table.closest.Goals as goal
 
-no_label : (name : Name) (n : ℕ) → n ≡ length name → drop n name ≡ []
-no_label name n e = drop_all n name (omega arith)
+pub returns-in_err-zone-clause-value : goal.returns-in_err-zone-clause-value
+returns-in_err-zone-clause-value c =
+    ap (option_map (λ r. r.now)) c.from_residual.ensures
+    ∙ (sym (kept_none c.self.inside.slots c.ancestors.asked c.self.invariant c.in_err-zone.ensures)
+    ∙ (c.ancestors.invariant ∙ ap (λ l. closest l c.args.name.now) c.self.view_is))
 
-pub labels-init : goal.labels-init
-labels-init c = climb_start _ _
+pub returns-in_err-zone-clause-nearest : goal.returns-in_err-zone-clause-nearest
+returns-in_err-zone-clause-nearest c = closest_answer _ _ _ (returns-in_err-zone-clause-value c)
 
-pub returns-in-Some-clause-value : goal.returns-in-Some-clause-value
-returns-in-Some-clause-value c =
-    rw (← c.slots-slots.ensures.slots)
-    (climb_found _ _ _ _ (omega (arith, c.labels-test.true, c.label_count-skip-end.ensures)) c.labels.invariant (rw c.ancestor_ref.ensures at c.in-Some.ensures))
+pub returns-then-is_within-clause-value : goal.returns-then-is_within-clause-value
+returns-then-is_within-clause-value c =
+    let found = kept_last c.self.inside.slots c.ancestors.asked c.in_ok-zone.zone.now c.in_ok-zone.slot.now c.self.invariant c.in_ok-zone.ensures in
+    let w = subst (λ z. IsWithin c.ancestors.asked z) found.at (c.is_within.ensures.suffix.0 c.if-is_within.true) in
+    sym (last_closest (slots_of c.self.inside.slots) c.ancestors.asked c.in_ok-zone.slot.now found.is w)
+    ∙ (c.ancestors.invariant ∙ ap (λ l. closest l c.args.name.now) c.self.view_is)
 
-pub returns-in-Some-clause-nearest : goal.returns-in-Some-clause-nearest
-returns-in-Some-clause-nearest c = closest_answer _ _ _ (returns-in-Some-clause-value c)
+pub returns-then-is_within-clause-nearest : goal.returns-then-is_within-clause-nearest
+returns-then-is_within-clause-nearest c = closest_answer _ _ _ (returns-then-is_within-clause-value c)
 
-pub labels-preserved : goal.labels-preserved
-labels-preserved c =
-    climb_more _ _ _ (omega (arith, c.labels-test.true, c.label_count-skip-end.ensures)) c.labels.invariant (rw c.ancestor_ref.ensures at c.in-None.ensures)
+pub ancestors-smaller : goal.ancestors-smaller
+ancestors-smaller c =
+    let found = kept_last c.self.inside.slots c.ancestors.asked c.in_ok-zone.zone.now c.in_ok-zone.slot.now c.self.invariant c.in_ok-zone.ensures in
+    let some = last_shorter (slots_of c.self.inside.slots) c.ancestors.asked c.in_ok-zone.slot.now c.labels_apart.result found.is
+    (λ w. false≢true (sym c.if-is_within.false ∙ c.is_within.ensures.suffix.1 (subst (λ z. IsWithin c.ancestors.asked z) (sym found.at) w)))
+    (subst (λ z. IsWithin z (drop c.labels_apart.result c.ancestors.asked)) found.at c.labels_apart.ensures.encloses) in
+    omega (arith, some, c.labels_apart.ensures.within, ap length c.ancestor-asked.ensures, length-drop c.labels_apart.result c.ancestors.asked)
 
-pub returns-clause-value : goal.returns-clause-value
-returns-clause-value c =
-    rw (← c.slots-slots.ensures.slots)
-    (climb_end _ _ _ _ (omega (arith, c.labels-test.false, c.labels.auto, c.label_count-skip-end.ensures)) c.labels.invariant (rw (c.ancestor_ref-2.ensures ∙ no_label _ _ c.label_count.ensures) at c.find-2.ensures))
-
-pub returns-clause-nearest : goal.returns-clause-nearest
-returns-clause-nearest c = closest_answer _ _ _ (returns-clause-value c)
+pub ancestors-preserved : goal.ancestors-preserved
+ancestors-preserved c =
+    let found = kept_last c.self.inside.slots c.ancestors.asked c.in_ok-zone.zone.now c.in_ok-zone.slot.now c.self.invariant c.in_ok-zone.ensures in
+    ap (closest (slots_of c.self.inside.slots)) c.ancestor-asked.ensures
+    ∙ (last_climbed (slots_of c.self.inside.slots) c.ancestors.asked c.in_ok-zone.slot.now c.labels_apart.result found.is
+    (λ zone w v. c.labels_apart.ensures.longest zone w (subst (λ z. IsWithin z zone) (sym found.at) v))
+    ∙ c.ancestors.invariant)

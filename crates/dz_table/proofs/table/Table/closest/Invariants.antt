@@ -1,7 +1,10 @@
-use Rattle.std.proofs.Common.{◌≡◌, drop}
-use Rattle.dz_name.specs.Name.{upward}
-use Rattle.dz_table.specs.Table.{first_held, closest}
+use Rattle.std.proofs.Common.{◌≡◌, length}
+use Rattle.dz_table.specs.Table.{closest}
+use Rattle.dz_table.specs.inner.Kept.{slots_of}
 use Rattle.dz_table.proofs.table.Table.closest.Given as goal
 
-abbrev pub invariant-labels : goal.invariant-labels
-invariant-labels l = first_held l.slots (drop l.skip (upward l.name)) ≡ closest l.slots l.name
+abbrev pub invariant-ancestors : goal.invariant-ancestors
+invariant-ancestors l = closest (slots_of l.self-inside.slots) l.asked ≡ closest (slots_of l.self-inside.slots) l.name
+
+abbrev pub decreases-ancestors : goal.decreases-ancestors
+decreases-ancestors l = length l.asked

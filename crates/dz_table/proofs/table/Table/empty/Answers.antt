@@ -1,6 +1,5 @@
-use Rattle.std.specs.List.Sorted.{IsStrictlySortedBy}
+use Rattle.dz_table.proofs.KeptLemmas.{empty_kept}
 use Rattle.dz_table.proofs.table.Table.empty.Goals as goal
 
 pub invariant_of-result : goal.invariant_of-result
-unfolding IsStrictlySortedBy
-invariant_of-result c = rw c.new.ensures.items tt
+invariant_of-result c = empty_kept _ c.empty.ensures

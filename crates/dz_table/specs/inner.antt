@@ -1,0 +1,2 @@
+-- Inner: how the code keeps a table.
+pub mod Kept
