@@ -1,9 +1,10 @@
 -- A slot put among others, and the slot of a zone taken out.
-use Rattle.std.proofs.Common.{◌≡◌, ◌≢◌, ℕ, Bool, true, false, List, [], ◌∷◌, ◌++◌, refl, sym, ◌∙◌, ap, inl, inr}
+use Rattle.std.proofs.Common.{◌≡◌, ◌≢◌, ℕ, ◌+◌, ◌≤◌, Bool, true, false, List, [], ◌∷◌, ◌++◌, length, length-append, refl, sym, ◌∙◌, ap, arith, inl, inr}
 use Rattle.std.specs.Prelude.{not, filter, Option, Some, None, if◌then◌else◌}
 use Rattle.std.specs.Option.{option_or}
 use Rattle.std.specs.List.{find}
-use Rattle.std.specs.Ordering.{is_lt}
+use Rattle.std.specs.Ordering.{is_lt, ordering_reverse}
+use Rattle.std.specs.declared.cmp.Ordering.{Ordering}
 use Rattle.std.specs.declared.cmp.Ordering.TheVariants.{Less, Equal, Greater}
 use Rattle.std.proofs.lemmas.Bool.{cases_Bool, false_from_ne_true}
 use Rattle.std.proofs.lemmas.Cmp.{tied_itself}
@@ -96,3 +97,19 @@ unfolding without
 without_others slots new zone other e ne =
     let f : same_name other zone ≡ false = false_from_ne_true (same_name other zone) (λ t. ne ((same_decides other zone).0 t)) in
     rw e (find_filter (λ s. same_name s.zone other) (λ s. not (same_name s.zone zone)) true (λ s t. ap (λ z. not (same_name z zone)) (same_zone other s t) ∙ ap not f) slots)
+
+-- one slot more at most
+sides : (zone : List (List ℕ)) (slots : List SlotOf) → length (filter (λ s. comes_before s.zone zone) slots) + length (filter (λ s. comes_before zone s.zone) slots) ≤ length slots
+sides zone [] = omega arith
+sides zone (s ∷ slots) = go (canonical_order zone s.zone) refl (sides zone slots)
+  where
+    go : (o : Ordering) → canonical_order zone s.zone ≡ o → length (filter (λ s. comes_before s.zone zone) slots) + length (filter (λ s. comes_before zone s.zone) slots) ≤ length slots
+        → length (filter (λ s. comes_before s.zone zone) (s ∷ slots)) + length (filter (λ s. comes_before zone s.zone) (s ∷ slots)) ≤ length (s ∷ slots)
+    go Less e h = rw (e, canonical_total.antisymm s.zone zone ∙ ap ordering_reverse e) (omega arith)
+    go Equal e h = rw (e, canonical_total.antisymm s.zone zone ∙ ap ordering_reverse e) (omega arith)
+    go Greater e h = rw (e, canonical_total.antisymm s.zone zone ∙ ap ordering_reverse e) (omega arith)
+
+pub put_longer : (slots new : List SlotOf) (slot : SlotOf) → new ≡ put slots slot → length new ≤ length slots + 1
+unfolding put
+put_longer slots new slot e =
+    omega (arith, ap length e, sides slot.zone slots, length-append (filter (λ s. comes_before s.zone slot.zone) slots) (slot ∷ filter (λ s. comes_before slot.zone s.zone) slots))

@@ -1,12 +1,16 @@
-ghost use Rattle.std.specs.Prelude.{◌≡◌, IfOk};
+ghost use Rattle.std.specs.Prelude.{◌≡◌, ◌+◌, ◌≤◌, IfOk, length};
 
 use super::*;
-use dz_name::{Name, Octets};
+use dz_chunks::Share;
+use dz_name::{Label, Name, Octets};
 use dz_record::Rr;
+use dz_steps::Steps;
 use dz_zone::{Version, check};
 use std::alloc::{AllocError, Global};
+use std::marker::Brand;
 use std::process::Abort;
 use std::sync::Arc;
+use std::sync::ledger::{Blank, Ledger};
 use std::test::*;
 
 /// The last moment that a slot may have.
@@ -16,6 +20,13 @@ fn make_name(rt: &impl Abort, text: &str) -> Name {
     match Name::parse(text.as_bytes()) {
         Ok(name) => name,
         Err(error) => panic!(rt; "{error:?} of {text}"),
+    }
+}
+
+fn label(rt: &impl Abort, octets: &[u8]) -> Label {
+    match Label::new(octets) {
+        Some(label) => label,
+        None => panic!(rt; "no label {octets:?}"),
     }
 }
 
@@ -73,23 +84,66 @@ fn make_live(
     Ok(Slot::new(zone, refreshed.min(MOST), Some(version)))
 }
 
+/// A new table with this slot, whose steps nobody reads.
+fn with(table: &Table, alloc: Global, slot: Slot) -> Result<Table, AllocError> {
+    counted_with::<Brand>(Blank::new(1), table, alloc, slot)
+}
+
+fn counted_with<L: Ledger>(
+    blank: Blank,
+    table: &Table,
+    alloc: Global,
+    slot: Slot,
+) -> Result<Table, AllocError>
+    requires name { blank.name ≡ L.name }
+    requires parts { blank.parts ≡ L.parts }
+    requires whole { blank.parts ≡ 1 }
+{
+    let mut steps = Steps::<L>::new(blank);
+    table.with(alloc, slot, &mut steps)
+}
+
+/// The same without the slot of a zone.
+fn without(table: &Table, alloc: Global, zone: &Name) -> Result<Table, AllocError> {
+    counted_without::<Brand>(Blank::new(1), table, alloc, zone)
+}
+
+fn counted_without<L: Ledger>(
+    blank: Blank,
+    table: &Table,
+    alloc: Global,
+    zone: &Name,
+) -> Result<Table, AllocError>
+    requires name { blank.name ≡ L.name }
+    requires parts { blank.parts ≡ L.parts }
+    requires whole { blank.parts ≡ 1 }
+{
+    let mut steps = Steps::<L>::new(blank);
+    table.without(alloc, zone, &mut steps)
+}
+
 /// A table with a slot for each of these zones, put in this order; a slot's moment is its zone's place.
 fn make_table(rt: &impl Abort, alloc: Global, zones: &[&str]) -> Result<Table, AllocError> {
     let mut table = Table::empty(alloc);
     for (moment, zone) in zones.iter().enumerate() {
-        table = table.with(alloc, make_slot(rt, zone, moment as u64))?;
+        table = with(&table, alloc, make_slot(rt, zone, moment as u64))?;
     }
     Ok(table)
 }
 
 /// The table has just these zones and moments, in this order.
 fn expect_slots(rt: &impl Abort, table: &Table, want: &[(&str, u64)]) {
-    let slots = table.slots();
-    assert_eq!(rt; slots.len(), want.len());
-    for (slot, (zone, refreshed)) in slots.iter().zip(want) {
-        assert!(rt; slot.zone().same(&make_name(rt, zone)), "not {zone}");
-        assert_eq!(rt; slot.refreshed(), *refreshed, "of {zone}");
+    let mut slots = table.walk();
+    for (zone, refreshed) in want {
+        match slots.next() {
+            Some(slot) => {
+                assert!(rt; slot.zone().same(&make_name(rt, zone)), "not {zone}");
+                assert_eq!(rt; slot.refreshed(), *refreshed, "of {zone}");
+            }
+            None => panic!(rt; "no slot of {zone}"),
+        }
     }
+    assert!(rt; slots.next().is_none(), "no more than {} slots", want.len());
 }
 
 /// The closest zone of a name.
@@ -190,12 +244,114 @@ fn with_replaces_the_slot_of_its_zone(rt: HostRuntime) -> Result<(), Fail> {
     let alloc = rt.alloc();
     let old = make_table(&rt, alloc, &["b.", "a.", "c."])?;
     let before = [("a.", 1), ("b.", 0), ("c.", 2)];
-    let new = old.with(alloc, make_slot(&rt, "B.", MOST))?;
+    let new = with(&old, alloc, make_slot(&rt, "B.", MOST))?;
     expect_slots(&rt, &new, &[("a.", 1), ("b.", MOST), ("c.", 2)]);
     expect_slots(&rt, &old, &before);
-    let more = old.with(alloc, make_slot(&rt, "x.b.", 7))?;
+    let more = with(&old, alloc, make_slot(&rt, "x.b.", 7))?;
     expect_slots(&rt, &more, &[("a.", 1), ("b.", 0), ("x.b.", 7), ("c.", 2)]);
     expect_slots(&rt, &old, &before);
+    Ok(())
+}
+
+#[test]
+fn without_takes_out_the_slot_of_its_zone(rt: HostRuntime) -> Result<(), Fail> {
+    let alloc = rt.alloc();
+    let old = make_table(&rt, alloc, &["b.", "a.", "x.b."])?;
+    let all = [("a.", 1), ("b.", 0), ("x.b.", 2)];
+    let new = without(&old, alloc, &make_name(&rt, "B."))?;
+    expect_slots(&rt, &new, &[("a.", 1), ("x.b.", 2)]);
+    expect_closest(&rt, &new, "b.", None);
+    expect_slots(&rt, &old, &all);
+    let same = without(&old, alloc, &make_name(&rt, "y.b."))?;
+    expect_slots(&rt, &same, &all);
+    Ok(())
+}
+
+#[test]
+fn closest_passes_zones_that_stand_nearer(rt: HostRuntime) -> Result<(), Fail> {
+    let zones = [
+        "example.", "b.a.example.", "d.c.b.a.example.", "m.example.", "org.",
+    ];
+    let table = make_table(&rt, rt.alloc(), &zones)?;
+    for (name, want) in [
+        ("n.m.l.example.", Some("example.")),
+        ("z.d.c.b.a.example.", Some("d.c.b.a.example.")),
+        ("z.c.b.a.example.", Some("b.a.example.")),
+        ("z.a.example.", Some("example.")),
+        ("a.example.", Some("example.")),
+        ("zzz.org.", Some("org.")),
+        ("m.fexample.", None),
+    ] {
+        expect_closest(&rt, &table, name, want);
+    }
+    Ok(())
+}
+
+/// The zone of a number below 10,000.
+fn numbered(rt: &impl Abort, number: u64) -> Name {
+    let mut text = *b"z0000.test.";
+    for (place, unit) in [1_000, 100, 10, 1].iter().enumerate() {
+        text[1 + place] = b'0' + (number / unit % 10) as u8;
+    }
+    match Name::parse(&text) {
+        Ok(name) => name,
+        Err(error) => panic!(rt; "{error:?} of {number}"),
+    }
+}
+
+/// One slot more beside 1,000: at most 256 slots and 16 references are copied.
+fn one_more<L: Ledger>(
+    table: &Table,
+    alloc: Global,
+    slot: Slot,
+    steps: &mut Steps<L>,
+) -> Result<Table, AllocError>
+    requires { length table.now ≤ 1000 }
+    ensures few { steps.new ≤ steps.old + (256 + 16) }
+    ensures longer { IfOk result (λ t. length t ≤ length table.now + 1) }
+{
+    table.with(alloc, slot, steps)
+}
+
+/// A table of 1,001 zones, put in a mixed order.
+fn many_zones<L: Ledger>(
+    rt: &impl Abort,
+    alloc: Global,
+    blank: Blank,
+) -> Result<Table, AllocError>
+    requires name { blank.name ≡ L.name }
+    requires parts { blank.parts ≡ L.parts }
+    requires whole { blank.parts ≡ 1 }
+{
+    let mut steps = Steps::<L>::new(blank);
+    let mut table = Table::empty(alloc);
+    for turn in 0..1_001_u64 {
+        let number = turn * 919 % 1_001;
+        let slot = Slot::new(numbered(rt, number), number, None);
+        table = one_more(&table, alloc, slot, &mut steps)?;
+    }
+    Ok(table)
+}
+
+#[test]
+fn a_slot_beside_1000_costs_272_copies_at_most(rt: HostRuntime) -> Result<(), Fail> {
+    let table = many_zones::<Brand>(&rt, rt.alloc(), Blank::new(1))?;
+    let mut slots = table.walk();
+    for number in 0..1_001 {
+        let zone = numbered(&rt, number);
+        let walked = slots.next().map(|slot| slot.refreshed());
+        assert_eq!(rt; walked, Some(number), "in order");
+        let found = table.get(&zone).map(|slot| slot.refreshed());
+        assert_eq!(rt; found, Some(number), "of {zone:?}");
+        match zone.child(&label(&rt, b"www")) {
+            Ok(name) => {
+                let found = table.closest(&name).map(|slot| slot.refreshed());
+                assert_eq!(rt; found, Some(number), "of {name:?}");
+            }
+            Err(error) => panic!(&rt; "{error:?}"),
+        }
+    }
+    assert!(rt; slots.next().is_none());
     Ok(())
 }
 
@@ -259,8 +415,8 @@ fn never_live_without_a_version(rt: HostRuntime) {
 fn tables_share_versions(rt: HostRuntime) -> Result<(), Fail> {
     let alloc = rt.alloc();
     let slot = make_live(&rt, alloc, "example.", 5, 10)?;
-    let one = Table::empty(alloc).with(alloc, slot)?;
-    let two = one.with(alloc, make_slot(&rt, "a.example.", 6))?;
+    let one = with(&Table::empty(alloc), alloc, slot)?;
+    let two = with(&one, alloc, make_slot(&rt, "a.example.", 6))?;
     for table in [&one, &two] {
         match table.closest(&make_name(&rt, "www.example.")) {
             Some(slot) => {
@@ -285,7 +441,7 @@ fn threads_may_share_slots_and_tables(rt: HostRuntime) -> Result<(), Fail> {
     let slot = make_live(&rt, rt.alloc(), "example.", 5, 10)?;
     is_send(&slot);
     is_sync(&slot);
-    let table = Table::empty(rt.alloc()).with(rt.alloc(), slot)?;
+    let table = with(&Table::empty(rt.alloc()), rt.alloc(), slot)?;
     is_send(&table);
     is_sync(&table);
     Ok(())
