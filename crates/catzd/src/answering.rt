@@ -19,12 +19,14 @@ use crate::zone_line::{read_octets, read_zone_line};
 use dz_header::ReplyBuffer;
 use dz_name::Name;
 use dz_reply::{Transport, Turn, reply_into};
+use dz_steps::Steps;
 use dz_table::{Slot, Table};
 use dz_take::{Ask, Finished, Outcome, TakeFault, Taking};
 use dz_zone::Version;
 use std::alloc::{AllocError, Global};
-use std::marker::Model;
+use std::marker::{Brand, Model};
 use std::sync::Arc;
+use std::sync::ledger::{Blank, Ledger};
 
 /// How the input of `answer` ends.
 #[derive(Clone, Copy, Debug, PartialEq, Eq)]
@@ -217,7 +219,6 @@ fn hex_text(alloc: Global, octets: &[u8]) -> Result<Vec<u8>, AllocError>
 }
 
 /// The table that holds one zone, refreshed at moment 0.
-#[tactic(auto, unfolding(dz_table::specs::Table::put))]
 fn make_table(
     alloc: Global,
     apex: &Name,
@@ -226,7 +227,19 @@ fn make_table(
     requires { ForSome version (λ v. v.value.apex ≡ apex.now) }
     ensures { IfOk result (λ table. table ≡ slot_for apex.now (option_map arc_value version)) }
 {
-    Table::empty(alloc).with(alloc, Slot::new(*apex, 0, version))
+    counted_table::<Brand>(Blank::new(1), alloc, Slot::new(*apex, 0, version))
+}
+
+/// The table of one slot, counted in a ledger that is still blank.
+#[tactic(auto, unfolding(dz_table::specs::Table::put))]
+fn counted_table<L: Ledger>(blank: Blank, alloc: Global, slot: Slot) -> Result<Table, AllocError>
+    requires name { blank.name ≡ L.name }
+    requires parts { blank.parts ≡ L.parts }
+    requires whole { blank.parts ≡ 1 }
+    ensures { IfOk result (λ table. table ≡ slot ∷ []) }
+{
+    let mut steps = Steps::<L>::new(blank);
+    Table::empty(alloc).with(alloc, slot, &mut steps)
 }
 
 /// Says why there is no version, and goes on.

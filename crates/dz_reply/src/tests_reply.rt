@@ -4,11 +4,14 @@ use crate::{Transport, Turn, reply_into, reply_to};
 use dz_header::ReplyBuffer;
 use dz_name::{Name, Octets};
 use dz_record::Rr;
+use dz_steps::Steps;
 use dz_table::{Slot, Table};
 use dz_zone::{Version, check};
 use std::alloc::{AllocError, Global};
+use std::marker::Brand;
 use std::process::Abort;
 use std::sync::Arc;
+use std::sync::ledger::{Blank, Ledger};
 use std::test::*;
 
 /// Owner, type, TTL and RDATA.
@@ -93,11 +96,26 @@ fn version_of(
     }
 }
 
+/// The table of one slot.
+fn table_of(alloc: Global, slot: Slot) -> Result<Table, AllocError> {
+    counted_table::<Brand>(Blank::new(1), alloc, slot)
+}
+
+/// The same, counted in a ledger that is still blank.
+fn counted_table<L: Ledger>(blank: Blank, alloc: Global, slot: Slot) -> Result<Table, AllocError>
+    requires name { blank.name ≡ L.name }
+    requires parts { blank.parts ≡ L.parts }
+    requires whole { blank.parts ≡ 1 }
+{
+    let mut steps = Steps::<L>::new(blank);
+    Table::empty(alloc).with(alloc, slot, &mut steps)
+}
+
 /// The zone of these records, refreshed at moment 1000, alone.
 fn table(rt: &impl Abort, alloc: Global, rows: &[Row], more: &[Row]) -> Result<Table, AllocError> {
     let apex = name(rt, b"example.");
     let version = version(rt, alloc, apex, rows, more)?;
-    Table::empty(alloc).with(alloc, Slot::new(apex, 1000, Some(version)))
+    table_of(alloc, Slot::new(apex, 1000, Some(version)))
 }
 
 /// The reply is written and has these octets.
@@ -319,7 +337,7 @@ fn a_long_reply_is_cut_over_udp_and_whole_with_room_or_over_tcp(
     }
     let apex = name(&rt, b"example.");
     let version = version_of(&rt, alloc, apex, records)?;
-    let table = Table::empty(alloc).with(alloc, Slot::new(apex, 1000, Some(version)))?;
+    let table = table_of(alloc, Slot::new(apex, 1000, Some(version)))?;
     let mut buffer = ReplyBuffer::make(alloc)?;
     let plain = b"\0\x21\0\0\0\x01\0\0\0\0\0\0\x03big\x07example\0\0\x01\0\x01".as_slice();
     let newer =
@@ -381,7 +399,7 @@ fn an_expired_zone_fails(rt: HostRuntime) -> Result<(), Fail> {
 #[test]
 fn a_zone_that_was_never_held_fails(rt: HostRuntime) -> Result<(), Fail> {
     let alloc = rt.alloc();
-    let table = Table::empty(alloc).with(alloc, Slot::new(name(&rt, b"example."), 1000, None))?;
+    let table = table_of(alloc, Slot::new(name(&rt, b"example."), 1000, None))?;
     let mut buffer = ReplyBuffer::make(alloc)?;
     expect_reply(
         &rt,
@@ -532,7 +550,7 @@ fn text_table(rt: &impl Abort, alloc: Global, size: u16) -> Result<Table, AllocE
     }
     let apex = name(rt, b"example.");
     let version = version_of(rt, alloc, apex, records)?;
-    Table::empty(alloc).with(alloc, Slot::new(apex, 1000, Some(version)))
+    table_of(alloc, Slot::new(apex, 1000, Some(version)))
 }
 
 /// A query with an OPT record of this size, or none, has replies of so many octets and no more.

@@ -13,7 +13,7 @@ use Rattle.dz_chunks.specs.Map.{is_upto, last_upto}
 use Rattle.dz_name.specs.Name.{canonical_order, same_name, IsWithin}
 use Rattle.dz_name.specs.Order.{canonical_total, same_decides}
 use Rattle.dz_table.specs.Slot.{SlotOf}
-use Rattle.dz_table.specs.Table.{IsTable, slot_of, closest, IsClosest}
+use Rattle.dz_table.specs.Table.{IsTable, closest}
 use Rattle.dz_table.specs.inner.Kept.{entries_of, slots_of, IsKept}
 use Rattle.dz_table.proofs.Rising.{all_weaker}
 use Rattle.dz_table.proofs.Nearest.{IsLast, none_closest, above_first}
@@ -69,10 +69,10 @@ pub record Found (slots : List SlotOf) (name zone : List (List ℕ)) (s : SlotOf
 
 not_behind : (a s : SlotOf) → canonical_order a.zone s.zone ≡ Less → same_name a.zone s.zone ≡ false
 not_behind a s lt = false_from_ne_true (same_name a.zone s.zone) (λ t.
-  let same = (same_decides a.zone s.zone).0 t in
-  let tied = tied_itself canonical_total s.zone in
-  let bad : canonical_order s.zone s.zone ≡ Less = rw same at lt in
-  cc)
+    let same = (same_decides a.zone s.zone).0 t in
+    let tied = tied_itself canonical_total s.zone in
+    let bad : canonical_order s.zone s.zone ≡ Less = rw same at lt in
+    cc)
 
 found_here : (a : SlotOf) (slots : List SlotOf) (name : List (List ℕ)) → is_gt (canonical_order a.zone name) ≡ false → AllByRecursion (λ t. is_gt (canonical_order t.zone name) ≡ true) slots → IsLast (a ∷ slots) name a
 found_here a slots name low h =
@@ -83,7 +83,7 @@ found_here a slots name low h =
       last = (
         λ x. ap is_gt (tied_itself canonical_total a.zone),
         all_weaker (λ t. is_gt (canonical_order t.zone name) ≡ true) (λ t. is_gt (canonical_order t.zone name) ≡ false → is_gt (canonical_order t.zone a.zone) ≡ false)
-        (λ t y n. absurd (false≢true (sym n ∙ y))) slots h,
+            (λ t y n. absurd (false≢true (sym n ∙ y))) slots h,
       );
     }
 

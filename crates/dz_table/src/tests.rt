@@ -270,7 +270,11 @@ fn without_takes_out_the_slot_of_its_zone(rt: HostRuntime) -> Result<(), Fail> {
 #[test]
 fn closest_passes_zones_that_stand_nearer(rt: HostRuntime) -> Result<(), Fail> {
     let zones = [
-        "example.", "b.a.example.", "d.c.b.a.example.", "m.example.", "org.",
+        "example.",
+        "b.a.example.",
+        "d.c.b.a.example.",
+        "m.example.",
+        "org.",
     ];
     let table = make_table(&rt, rt.alloc(), &zones)?;
     for (name, want) in [
@@ -314,11 +318,7 @@ fn one_more<L: Ledger>(
 }
 
 /// A table of 1,001 zones, put in a mixed order.
-fn many_zones<L: Ledger>(
-    rt: &impl Abort,
-    alloc: Global,
-    blank: Blank,
-) -> Result<Table, AllocError>
+fn many_zones<L: Ledger>(rt: &impl Abort, alloc: Global, blank: Blank) -> Result<Table, AllocError>
     requires name { blank.name ≡ L.name }
     requires parts { blank.parts ≡ L.parts }
     requires whole { blank.parts ≡ 1 }

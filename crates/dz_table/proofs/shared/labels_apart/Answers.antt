@@ -19,8 +19,8 @@ labels-preserved c = record {
   near = further c.args.name.now _ _ (c.label_count-mine.result - c.min-shared.result) c.labels.skip c.labels.invariant.near c.above-near.ensures;
   far = further c.args.other.now _ _ (c.label_count-theirs.result - c.min-shared.result) c.labels.skip c.labels.invariant.far c.above-far.ensures;
   apart = below_more (λ k. drop (c.label_count-mine.result - c.min-shared.result + k) c.args.name.now ≢ drop (c.label_count-theirs.result - c.min-shared.result + k) c.args.other.now) c.labels.skip
-    c.labels.invariant.apart
-    (λ e. false≢true (sym c.if-same.false ∙ c.same.ensures.equal.1 (c.labels.invariant.near ∙ (e ∙ sym c.labels.invariant.far))));
+      c.labels.invariant.apart
+      (λ e. false≢true (sym c.if-same.false ∙ c.same.ensures.equal.1 (c.labels.invariant.near ∙ (e ∙ sym c.labels.invariant.far))));
 }
 
 pub returns-clause-encloses : goal.returns-clause-encloses

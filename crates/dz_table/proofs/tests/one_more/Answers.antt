@@ -1,4 +1,3 @@
-use Rattle.std.proofs.Common.{arith}
 use Rattle.dz_chunks.proofs.EntryLemmas.{ok_then}
 use Rattle.dz_table.proofs.Putting.{put_longer}
 use Rattle.dz_table.proofs.tests.one_more.Goals as goal

@@ -1,4 +1,4 @@
-use Rattle.std.proofs.Common.{arith, ◌<◌, ◌∙◌, sym, ap, subst, drop, length, length-drop, option_map}
+use Rattle.std.proofs.Common.{arith, ◌∙◌, sym, ap, subst, drop, length, length-drop, option_map}
 use Rattle.std.proofs.lemmas.Bool.{false≢true}
 use Rattle.dz_name.specs.Name.{IsWithin}
 use Rattle.dz_table.specs.Table.{closest}
