@@ -133,11 +133,14 @@ no_slot (a ∷ slots) name up e = elim (cases_Bool (is_gt (canonical_order a.zon
 ]
 
 -- what a map of slots gives
-pub kept_last : (entries : List (List (List ℕ) × SlotOf)) (name zone : List (List ℕ)) (s : SlotOf) → IsKept entries → Some (zone, s) ≡ last_upto canonical_order name entries → Found (slots_of entries) name zone s
-kept_last entries name zone s is e = last_slot (slots_of entries) name zone s is.order (e ∙ ap (last_upto canonical_order name) is.keyed)
+pub kept_last : (entries : List (List (List ℕ) × SlotOf)) (name key zone at : List (List ℕ)) (s : SlotOf) → IsKept entries → key ≡ name → zone ≡ at → ◌≡◌ {A = Option (List (List ℕ) × SlotOf)} (Some (at, s)) (last_upto canonical_order key entries)
+    → Found (slots_of entries) name zone s
+kept_last entries name key zone at s is k z e =
+    let r = last_slot (slots_of entries) name at s is.order (e ∙ (ap (λ n. last_upto canonical_order n entries) k ∙ ap (last_upto canonical_order name) is.keyed)) in
+    record { at = z ∙ r.at; is = r.is }
 
-pub kept_none : (entries : List (List (List ℕ) × SlotOf)) (name : List (List ℕ)) → IsKept entries → None ≡ last_upto canonical_order name entries → closest (slots_of entries) name ≡ None
-kept_none entries name is e =
+pub kept_none : (entries : List (List (List ℕ) × SlotOf)) (name key : List (List ℕ)) → IsKept entries → key ≡ name → None ≡ last_upto canonical_order key entries → closest (slots_of entries) name ≡ None
+kept_none entries name key is k e =
     none_closest (slots_of entries) name (all_weaker (λ s. is_gt (canonical_order s.zone name) ≡ true) (λ s. ¬ IsWithin name s.zone)
     (λ s h w. false≢true (sym (above_first name s.zone w) ∙ h)) (slots_of entries)
-    (no_slot (slots_of entries) name is.order (e ∙ ap (last_upto canonical_order name) is.keyed)))
+    (no_slot (slots_of entries) name is.order (e ∙ (ap (λ n. last_upto canonical_order n entries) k ∙ ap (last_upto canonical_order name) is.keyed))))

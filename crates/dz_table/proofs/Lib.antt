@@ -4,3 +4,4 @@ pub mod Putting
 pub mod KeptLemmas
 pub mod LastLemmas
 pub mod SharedLemmas
+pub mod LeadLemmas

@@ -1,2 +1,3 @@
 -- Inner: how the code keeps a table.
 pub mod Kept
+pub mod Lead

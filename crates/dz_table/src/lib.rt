@@ -7,6 +7,7 @@ mod slots;
 mod table;
 #[cfg(test)]
 mod tests;
+mod zone_key;
 
 pub use slot::Slot;
 pub use slots::Slots;

@@ -6,15 +6,15 @@ ghost use Rattle.dz_table.specs.Slot.{SlotOf};
 ghost use Rattle.dz_table.specs.inner.Kept.{slots_of};
 
 use crate::slot::Slot;
+use crate::zone_key::ZoneKey;
 use dz_chunks::Walk;
-use dz_name::Name;
 use std::iter::Iterator;
 use std::marker::Model;
 
 /// The slots of a table, in the canonical order of their zones. Contracts see the slots that are left.
 #[derive(Drop)]
 pub struct Slots<'a> {
-    walk: Walk<'a, Name, Slot>,
+    walk: Walk<'a, ZoneKey, Slot>,
 }
 
 impl<'a> Model for Slots<'a> {
@@ -28,7 +28,7 @@ impl<'a> Model for Slots<'a> {
 }
 
 impl<'a> Slots<'a> {
-    pub(crate) fn over(walk: Walk<'a, Name, Slot>) -> Slots<'a>
+    pub(crate) fn over(walk: Walk<'a, ZoneKey, Slot>) -> Slots<'a>
         ensures { result ≡ slots_of walk.entry }
     {
         Slots { walk }

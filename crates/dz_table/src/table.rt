@@ -7,6 +7,7 @@ ghost use Rattle.dz_table.specs.Table.{IsTable, IsClosest, put, without, slot_of
 use crate::shared::labels_apart;
 use crate::slot::Slot;
 use crate::slots::Slots;
+use crate::zone_key::ZoneKey;
 use dz_chunks::Chunks;
 use dz_name::Name;
 use dz_steps::Steps;
@@ -18,7 +19,7 @@ use std::sync::ledger::Ledger;
 /// new one, which shares with the old one all slots but some hundred.
 #[derive(Drop)]
 pub struct Table {
-    slots: Chunks<Name, Slot>,
+    slots: Chunks<ZoneKey, Slot>,
 }
 
 impl Model for Table {
@@ -64,8 +65,8 @@ impl Table {
         ensures others { IfOk result (λ t. (zone : Name) → zone ≢ slot.zone → slot_of zone t ≡ slot_of zone self.now) }
         ensures cost { steps.new ≤ steps.old + 256 + (length self.now / 64 + 1) }
     {
-        let zone = *slot.zone();
-        let slots = self.slots.with(alloc, zone, slot, steps)?;
+        let key = ZoneKey::of(slot.zone());
+        let slots = self.slots.with(alloc, key, slot, steps)?;
         Ok(Table { slots })
     }
 
@@ -82,7 +83,7 @@ impl Table {
         ensures others { IfOk result (λ t. (other : Name) → other ≢ zone.now → slot_of other t ≡ slot_of other self.now) }
         ensures cost { steps.new ≤ steps.old + 256 + (length self.now / 64 + 1) }
     {
-        let slots = self.slots.without(alloc, zone, steps)?;
+        let slots = self.slots.without(alloc, &ZoneKey::of(zone), steps)?;
         Ok(Table { slots })
     }
 
@@ -91,7 +92,7 @@ impl Table {
         ensures slot { option_map (λ r. r.now) result ≡ slot_of zone.now self.now }
         ensures order { IsTable self.now }
     {
-        self.slots.get(zone)
+        self.slots.get(&ZoneKey::of(zone))
     }
 
     /// The slot whose zone encloses the name and has most labels (RFC 1034 section 4.3.2, step 2); none where no zone
@@ -103,7 +104,8 @@ impl Table {
         // a zone that encloses a name encloses all names that stand between the two in canonical order
         let mut asked = *name;
         'ancestors: loop {
-            let (zone, slot) = self.slots.last_upto(&asked)?;
+            let (key, slot) = self.slots.last_upto(&ZoneKey::of(&asked))?;
+            let zone = key.zone();
             if asked.is_within(zone) {
                 return Some(slot);
             }

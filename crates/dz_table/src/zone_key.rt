@@ -1,0 +1,112 @@
+//! Zones as the keys of a table.
+
+ghost use Rattle.std.specs.Prelude.{◌≡◌, refl, take, drop, ◌++◌, length, min};
+ghost use Rattle.std.specs.Ordering.{as_partial_cmp};
+ghost use Rattle.dz_name.specs.Name.{canonical_order, same_name};
+ghost use Rattle.dz_name.specs.Order.{canonical_total, names_equal, names_partly_equal, names_ordered, same_ties};
+ghost use Rattle.dz_index.specs.SortKey.{key_of};
+ghost use Rattle.dz_table.specs.inner.Lead.{lead_of};
+
+use dz_index::SortKey;
+use dz_name::Name;
+use std::cmp::Ordering;
+use std::marker::Model;
+
+/// How many octets of a sort key stand beside the name.
+const LEAD: usize = 16;
+
+/// A zone behind the first octets of its sort key, which tell most zones apart, so that few comparisons read names.
+#[derive(Clone, Copy)]
+pub(crate) struct ZoneKey {
+    lead: [u8; LEAD],
+    zone: Name,
+}
+
+impl Model for ZoneKey {
+    ghost use Rattle.std.specs.Prelude.{◌≡◌};
+    ghost use Rattle.std.proofs.Common.{sym, ap};
+    ghost use Rattle.dz_name.specs.Words.{Name};
+    ghost use Rattle.dz_index.specs.SortKey.{key_of};
+    ghost use Rattle.dz_table.specs.inner.Lead.{lead_of};
+
+    ghost Value = { Name };
+
+    ghost view = { λ k. k.zone };
+
+    ghost invariant = { λ k. k.lead ≡ lead_of 16 (key_of k.zone) };
+
+    ghost inverse = { λ zone. record { lead = lead_of 16 (key_of zone); zone = zone } };
+
+    ghost inverse_ok = { λ k h. ap (λ lead. record { lead = lead; zone = k.zone }) (sym h) };
+}
+
+impl ZoneKey {
+    /// The key of a zone.
+    pub(crate) fn of(zone: &Name) -> ZoneKey
+        ensures { result ≡ zone.now }
+    {
+        let key = SortKey::of(&zone.as_ref());
+        ZoneKey {
+            lead: lead_of(key.octets()),
+            zone: *zone,
+        }
+    }
+
+    /// The zone.
+    pub(crate) fn zone(&self) -> &Name
+        ensures { result.now ≡ self.now }
+    {
+        &self.zone
+    }
+}
+
+/// The first octets, with zeros behind them where they are few.
+fn lead_of(octets: &[u8]) -> [u8; LEAD]
+    ensures { result ≡ lead_of 16 octets.now }
+{
+    let mut lead = [0; LEAD];
+    let count = octets.len().min(LEAD);
+    lead[..count].copy_from_slice(&octets[..count]);
+    lead
+}
+
+impl PartialEq for ZoneKey {
+    ghost eq = { same_name };
+
+    ghost laws = { names_partly_equal };
+
+    fn eq(&self, other: &ZoneKey) -> bool {
+        self.zone.same(&other.zone)
+    }
+}
+
+impl Eq for ZoneKey {
+    ghost laws = { names_equal };
+}
+
+impl PartialOrd for ZoneKey {
+    ghost partial_cmp = { as_partial_cmp canonical_order };
+
+    ghost laws = { names_ordered };
+
+    fn partial_cmp(&self, other: &ZoneKey) -> Option<Ordering> {
+        Some(self.cmp(other))
+    }
+}
+
+impl Ord for ZoneKey {
+    ghost cmp = { canonical_order };
+
+    ghost total = { canonical_total };
+
+    ghost matches_partial_cmp = { λ a b. refl };
+
+    ghost matches_eq = { same_ties };
+
+    fn cmp(&self, other: &ZoneKey) -> Ordering {
+        match self.lead[..].cmp(&other.lead[..]) {
+            Ordering::Equal => self.zone.canonical_cmp(&other.zone),
+            order => order,
+        }
+    }
+}
