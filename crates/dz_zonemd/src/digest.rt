@@ -1,8 +1,8 @@
 //! The digest of a zone.
 
-ghost use Rattle.std.specs.Prelude.{◌≡◌, ◌==◌, ◌≤◌, ◌++◌, ℕ, List, take, length};
+ghost use Rattle.std.specs.Prelude.{◌≡◌, ◌==◌, ◌≤◌, ◌<◌, ◌++◌, ℕ, List, Some, slice_get, take, length};
 ghost use Rattle.std.specs.List.Sorted.{IsStrictlySortedBy};
-ghost use Rattle.dz_record.specs.Record.{record_order};
+ghost use Rattle.dz_record.specs.Record.{Record, record_octets, record_order};
 ghost use Rattle.dz_zonemd.specs.Digested.{digested, is_left_out, type_covered};
 
 use dz_name::Name;
@@ -56,6 +56,32 @@ fn join<D: Digest>(
     0
 }
 
+/// The record that is digested at a place: RRsets and the RDATA of each come in canonical order, as the records stand
+/// (RFC 8976 section 3.3.1.2; RFC 4034 section 6.3).
+fn record_at(records: &[Rr], place: usize) -> &Rr
+    requires { place < length records.now }
+    ensures { slice_get records.now place ≡ Some result.now }
+{
+    &records[place]
+}
+
+/// The record at a place behind the first so many octets of a batch, as its canonical octets with its own TTL
+/// (RFC 4034 section 6.2). How many octets the batch then has.
+fn join_record<D: Digest>(
+    hasher: &mut D,
+    batch: &mut [u8; BATCH_OCTETS],
+    count: usize,
+    records: &[Rr],
+    place: usize,
+) -> usize
+    requires count { count ≤ BATCH_OCTETS }
+    requires place { place < length records.now }
+    ensures within { result ≤ BATCH_OCTETS }
+    ensures holds { (r : Record) → slice_get records.now place ≡ Some r → (m : List ℕ) → D.holds hasher.old m → (n : List ℕ) × D.holds hasher.new n × (n ++ take result batch.new ≡ m ++ take count batch.old ++ record_octets r) }
+{
+    join(hasher, batch, count, record_at(records, place).octets())
+}
+
 /// The digest of a zone by scheme SIMPLE (RFC 8976 section 3.3.1): of all records but the ZONEMD records of the apex and
 /// the RRSIG records of the apex that cover them. The records stand in canonical order, and no two are the same. Their
 /// octets go into the hasher in batches: so the memory in which they lie is read ahead of the hash.
@@ -66,9 +92,9 @@ pub fn zone_digest<D: Digest>(apex: &Name, records: &[Rr]) -> D::Output
     let mut hasher = D::new();
     let mut batch = [0u8; BATCH_OCTETS];
     let mut count = 0;
-    'records: for record in records {
-        if !is_left_out(apex, record) {
-            count = join(&mut hasher, &mut batch, count, record.octets());
+    'records: for place in 0..records.len() {
+        if !is_left_out(apex, record_at(records, place)) {
+            count = join_record(&mut hasher, &mut batch, count, records, place);
         }
     }
     hasher.update(&batch[..count]);
