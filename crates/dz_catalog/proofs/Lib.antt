@@ -3,4 +3,4 @@ pub mod ListingLemmas
 pub mod NameLemmas
 pub mod OrderLemmas
 pub mod TwinLemmas
-pub mod ZoneLemmas
+pub mod VersionLemmas

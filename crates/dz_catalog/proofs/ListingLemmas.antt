@@ -187,3 +187,12 @@ reads_nodes apex rs nodes listing up none is once l =
     let n = nodes_are apex rs up in
     let e : zone_twice (nodes_of apex rs) ≡ false = rw n (rw is at once) in
     rw (none, e) (ap Ok (n ∙ sym (l ∙ is)))
+
+-- nodes that make no listing
+pub reads_none : (apex : List (List ℕ)) (rs : List Record) (nodes : List Node) → IsStrictlySortedBy record_order rs → broken_records apex rs ≡ None → nodes ≡ filter_map (node_of apex rs) rs
+    → (IsListing nodes → ⊥) → listing_of apex rs ≡ Err ZoneTwice
+reads_none apex rs nodes up none is broken =
+    elim (cases_Bool (zone_twice nodes)) [
+      | inl t ↦ reads_twice apex rs nodes up none is t
+      | inr f ↦ absurd (broken (makes_listing apex rs nodes up none is f))
+    ]

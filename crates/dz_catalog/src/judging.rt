@@ -1,75 +1,97 @@
 //! Why a catalog's records make no listing. In a version they are in canonical order, so each reason takes one pass.
 
-ghost use Rattle.std.specs.Prelude.{◌≡◌, count_by};
+ghost use Rattle.std.specs.Prelude.{◌≡◌, ◌≤◌, ◌+◌, length, filter, count_by, not, MatchOption};
 ghost use Rattle.std.specs.List.{list_any};
 ghost use Rattle.std.specs.List.Sorted.{IsStrictlySortedBy};
+ghost use Rattle.dz_name.specs.Name.{wire_of, same_label};
 ghost use Rattle.dz_record.specs.Record.{record_order};
 ghost use Rattle.dz_zone.specs.Valid.{both_are};
 ghost use Rattle.dz_catalog.specs.Member.{is_node, is_coo, is_member};
-ghost use Rattle.dz_catalog.specs.Broken.{is_version, no_version, version_twice, other_version, twins, member_twice, coo_twice, too_many, broken_records};
+ghost use Rattle.dz_catalog.specs.Broken.{is_version, no_version, version_twice, other_version, version_name, version_2, twins, member_twice, coo_twice, broken_records};
 
-use crate::names::{is_child, is_coo, is_node};
+use crate::names::{is_coo, is_node};
 use dz_member::{Broken, Listing};
-use dz_name::Name;
+use dz_lookup::rrset_of;
 use dz_name::dns::{TYPE_PTR, TYPE_TXT};
+use dz_name::{Label, Name};
 use dz_record::Rr;
+use dz_zone::Version;
 
-/// The first reason that holds of the records.
+/// The first reason that holds of the records, of which so many are member records.
 #[tactic(auto, unfolding(crate::specs::Broken::broken_records))]
-pub(crate) fn broken_records(apex: &Name, records: &[Rr]) -> Option<Broken>
-    requires { IsStrictlySortedBy record_order records.now }
-    ensures { result ≡ broken_records apex.now records.now }
+pub(crate) fn broken_records(version: &Version, count: usize) -> Option<Broken>
+    requires { count ≡ count_by (is_member version.now.apex) version.now.records }
+    ensures { result ≡ broken_records version.now.apex version.now.records }
 {
-    if no_version(apex, records) {
+    let apex = version.apex();
+    let records = version.records();
+    if no_version(version) {
         Some(Broken::NoVersion)
-    } else if version_twice(apex, records) {
+    } else if version_twice(version) {
         Some(Broken::VersionTwice)
-    } else if other_version(apex, records) {
+    } else if other_version(version) {
         Some(Broken::OtherVersion)
     } else if member_twice(apex, records) {
         Some(Broken::MemberTwice)
     } else if coo_twice(apex, records) {
         Some(Broken::CooTwice)
-    } else if too_many(apex, records) {
+    } else if Listing::NODES < count {
         Some(Broken::TooManyMembers)
     } else {
         None
     }
 }
 
-/// Whether it is a record of the schema's version.
-fn is_version(apex: &Name, found: &Rr) -> bool
-    ensures { result ≡ is_version apex.now found.now }
+/// The name of the schema's version; none where it would be too long.
+fn version_name(apex: &Name) -> Option<Name>
+    ensures { MatchOption result (255 ≤ length (wire_of apex.now) + 7) (λ name. name ≡ version_name apex.now) }
 {
-    found.kind() == TYPE_TXT && is_child(&found.owner_ref(), b"version", &apex.as_ref())
+    match Label::new(b"version") {
+        None => None,
+        Some(label) => match apex.child(&label) {
+            Ok(name) => Some(name),
+            Err(_) => None,
+        },
+    }
 }
 
-/// Whether there is a version.
-fn has_version(apex: &Name, records: &[Rr]) -> bool
-    ensures { result ≡ list_any (is_version apex.now) records.now }
+/// The records of the schema's version, found by halves.
+fn versions(version: &Version) -> &[Rr]
+    ensures { result.now ≡ filter (is_version version.now.apex) version.now.records }
 {
-    records.iter().any(|r| is_version(apex, r))
+    let records = version.records();
+    match version_name(version.apex()) {
+        None => &records[..0],
+        Some(name) => rrset_of(version, &name, TYPE_TXT),
+    }
 }
 
 /// Whether there is no version.
-fn no_version(apex: &Name, records: &[Rr]) -> bool
-    ensures { result ≡ no_version apex.now records.now }
+fn no_version(version: &Version) -> bool
+    ensures { result ≡ no_version version.now.apex version.now.records }
 {
-    !has_version(apex, records)
+    versions(version).is_empty()
 }
 
 /// Whether there is more than one.
-fn version_twice(apex: &Name, records: &[Rr]) -> bool
-    ensures { result ≡ version_twice apex.now records.now }
+fn version_twice(version: &Version) -> bool
+    ensures { result ≡ version_twice version.now.apex version.now.records }
 {
-    1 < records.iter().filter(|r| is_version(apex, r)).count()
+    1 < versions(version).len()
 }
 
 /// Whether a version isn't the character string 2.
-fn other_version(apex: &Name, records: &[Rr]) -> bool
-    ensures { result ≡ other_version apex.now records.now }
+fn other_version(version: &Version) -> bool
+    ensures { result ≡ other_version version.now.apex version.now.records }
 {
-    records.iter().any(|r| is_version(apex, r) && r.rdata() != b"\x012".as_slice())
+    has_other(versions(version))
+}
+
+/// Whether the RDATA of a record isn't the character string 2.
+fn has_other(versions: &[Rr]) -> bool
+    ensures { result ≡ list_any (λ r. not (same_label r.rdata version_2)) versions.now }
+{
+    versions.iter().any(|r| r.rdata() != b"\x012".as_slice())
 }
 
 /// Whether it is the PTR of a member node.
@@ -124,11 +146,4 @@ pub(crate) fn member_count(apex: &Name, records: &[Rr]) -> usize
     ensures { result ≡ count_by (is_member apex.now) records.now }
 {
     records.iter().filter(|r| is_member(apex, r)).count()
-}
-
-/// Whether there are more member nodes than a catalog may have.
-fn too_many(apex: &Name, records: &[Rr]) -> bool
-    ensures { result ≡ too_many apex.now records.now }
-{
-    Listing::NODES < member_count(apex, records)
 }

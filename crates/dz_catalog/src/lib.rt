@@ -9,7 +9,6 @@ mod names;
 mod reading;
 #[cfg(test)]
 mod tests;
-mod zones;
 
 pub use fault::CatalogError;
 pub use laws::order_is_free;

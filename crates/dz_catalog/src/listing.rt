@@ -7,9 +7,8 @@ ghost use Rattle.dz_catalog.specs.Broken.{broken_records};
 ghost use Rattle.dz_catalog.specs.Listing.{Reads, listing_of};
 
 use crate::fault::CatalogError;
-use crate::judging::broken_records;
+use crate::judging::{broken_records, member_count};
 use crate::reading::nodes;
-use crate::zones::zone_twice;
 use dz_member::{Broken, Listing};
 use dz_name::Name;
 use dz_record::Rr;
@@ -21,21 +20,27 @@ use std::alloc::Global;
 pub fn read_listing(alloc: Global, version: &Version) -> Result<Listing, CatalogError>
     ensures { Reads result (listing_of version.now.apex version.now.records) }
 {
-    match broken_records(version.apex(), version.records()) {
+    let count = member_count(version.apex(), version.records());
+    match broken_records(version, count) {
         Some(broken) => Err(CatalogError::Broken(broken)),
-        None => read_nodes(alloc, version.apex(), version.records()),
+        None => read_nodes(alloc, version.apex(), version.records(), count),
     }
 }
 
-/// The listing of records that no reason before the last breaks.
-fn read_nodes(alloc: Global, apex: &Name, records: &[Rr]) -> Result<Listing, CatalogError>
+/// The listing of records with so many member records that no reason before the last breaks. Their nodes make no
+/// listing only where two name one zone.
+fn read_nodes(
+    alloc: Global,
+    apex: &Name,
+    records: &[Rr],
+    count: usize,
+) -> Result<Listing, CatalogError>
     requires sorted { IsStrictlySortedBy record_order records.now }
     requires unbroken { broken_records apex.now records.now ≡ None }
     ensures { Reads result (listing_of apex.now records.now) }
 {
-    let nodes = nodes(alloc, apex, records)?;
-    if zone_twice(alloc, nodes.as_slice())? {
-        return Err(CatalogError::Broken(Broken::ZoneTwice));
+    match Listing::try_from_vec(alloc, nodes(alloc, apex, records, count)?)? {
+        None => Err(CatalogError::Broken(Broken::ZoneTwice)),
+        Some(listing) => Ok(listing),
     }
-    Ok(Listing::from_vec(nodes))
 }

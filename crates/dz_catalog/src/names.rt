@@ -1,17 +1,24 @@
 //! Names of a catalog zone, told where they lie in the records.
 
-ghost use Rattle.std.specs.Prelude.{◌≡◌, ◌∷◌, ◌&&◌, codes};
+ghost use Rattle.std.specs.Prelude.{◌≡◌, ◌∷◌, ◌&&◌, ◌<◌, codes, length, MatchBool};
 ghost use Rattle.std.specs.Option.{option_map};
 ghost use Rattle.dz_name.specs.Name.{same_name, first_label, parent_of};
 ghost use Rattle.dz_catalog.specs.Member.{begins_with, is_node, is_coo};
 
 use dz_name::{Label, Name, NameRef};
 
+/// Whether it is the root, whose wire form alone is one octet.
+fn is_root(name: &NameRef) -> bool
+    ensures { MatchBool result (length name.now ≡ 0) (0 < length name.now) }
+{
+    name.wire().len() == 1
+}
+
 /// The name one label up, on the same octets; none for the root.
 fn parent<'a>(name: &NameRef<'a>) -> Option<NameRef<'a>>
     ensures { result ≡ parent_of name.now }
 {
-    if name.label_count() == 0 {
+    if is_root(name) {
         None
     } else {
         Some(NameRef::of_wire(name.behind(1)))
@@ -22,7 +29,7 @@ fn parent<'a>(name: &NameRef<'a>) -> Option<NameRef<'a>>
 fn first_label<'a>(name: &NameRef<'a>) -> Option<&'a [u8]>
     ensures { option_map (λ label. label.now) result ≡ first_label name.now }
 {
-    if name.label_count() == 0 {
+    if is_root(name) {
         None
     } else {
         Some(name.piece(0).split_at(1).1)
@@ -33,7 +40,7 @@ fn first_label<'a>(name: &NameRef<'a>) -> Option<&'a [u8]>
 pub(crate) fn first_of(name: &NameRef) -> Option<Label>
     ensures { result ≡ first_label name.now }
 {
-    if name.label_count() == 0 {
+    if is_root(name) {
         None
     } else {
         Label::new(name.piece(0).split_at(1).1)

@@ -9,7 +9,7 @@ ghost use Rattle.dz_record.specs.Record.{record_order};
 ghost use Rattle.dz_catalog.specs.Member.{node_of, coo_name};
 ghost use Rattle.dz_catalog.specs.inner.Below.{below, is_at, coo_among, groups_among, node_among, node_behind};
 
-use crate::judging::{is_member, member_count};
+use crate::judging::is_member;
 use crate::names::{first_of, is_child};
 use dz_member::{Node, Texts};
 use dz_name::dns::{TYPE_PTR, TYPE_TXT};
@@ -17,13 +17,18 @@ use dz_name::{Label, Name, NameRef, Octets};
 use dz_record::Rr;
 use std::alloc::{AllocError, Global};
 
-/// The member nodes, in the order of their labels. Each record is looked at a few times at most: what belongs to a node
-/// stands right behind it.
-pub(crate) fn nodes(alloc: Global, apex: &Name, records: &[Rr]) -> Result<Vec<Node>, AllocError>
+/// The member nodes, in the order of their labels, with room for so many at first. Each record is looked at a few times
+/// at most: what belongs to a node stands right behind it.
+pub(crate) fn nodes(
+    alloc: Global,
+    apex: &Name,
+    records: &[Rr],
+    count: usize,
+) -> Result<Vec<Node>, AllocError>
     requires { IsStrictlySortedBy record_order records.now }
     ensures { IfOk result (λ v. v.items ≡ filter_map (node_of apex.now records.now) records.now) }
 {
-    let mut nodes = Vec::with_capacity(alloc, member_count(apex, records))?;
+    let mut nodes = Vec::with_capacity(alloc, count)?;
     'records: for (place, found) in records.iter().enumerate() {
         let node = node_behind(alloc, apex, found, behind(records, place))?;
         add(&mut nodes, node)?;

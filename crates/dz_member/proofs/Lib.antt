@@ -7,6 +7,7 @@ pub mod LawLemmas
 pub mod ListingLemmas
 pub mod NumberLemmas
 pub mod OrderLemmas
+pub mod PlaceLemmas
 pub mod ProcessLemmas
 pub mod SearchLemmas
 pub mod SortLemmas

@@ -24,7 +24,7 @@ pub shown_more : {X Y : Type 0} (f : X → Y) (xs : List X) (o : Option X) → m
 shown_more f xs None = map-append f xs []
 shown_more f xs (Some x) = map-append f xs (x ∷ [])
 
-all_push : {X : Type 0} (P : X → Type 0) (xs : List X) (x : X) → AllByRecursion P xs → P x → AllByRecursion P (xs ++ x ∷ [])
+pub all_push : {X : Type 0} (P : X → Type 0) (xs : List X) (x : X) → AllByRecursion P xs → P x → AllByRecursion P (xs ++ x ∷ [])
 all_push P [] x a p = (p, tt)
 all_push P (y ∷ ys) x a p = (a.0, all_push P ys x a.1 p)
 

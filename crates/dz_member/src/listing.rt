@@ -1,7 +1,10 @@
 //! What a catalog lists (RFC 9432 section 4).
 
-ghost use Rattle.std.specs.Prelude.{◌≡◌, [], length};
+ghost use Rattle.std.specs.Prelude.{◌≡◌, [], length, slice_get};
+ghost use Rattle.std.specs.Option.{option_map};
 ghost use Rattle.dz_member.specs.Listing.{IsListing};
+ghost use Rattle.dz_member.specs.Process.{in_zone_order};
+ghost use Rattle.dz_member.specs.inner.Places.{ArePlaces};
 
 use dz_name::{Label, Name, Octets};
 use std::alloc::Global;
@@ -56,22 +59,25 @@ pub struct Node {
     pub groups: Texts,
 }
 
-/// The member nodes of a catalog: at most 65,536, in the order of their labels, no label and no zone twice.
+/// The member nodes of a catalog: at most 65,536, in the order of their labels, no label and no zone twice. Beside each
+/// it keeps four octets, which tell the order of the zones.
 #[derive(Debug, Drop)]
 pub struct Listing {
     nodes: Vec<Node>,
+    /// The places of the nodes, in the order of their zones.
+    places: Vec<u32>,
 }
 
 impl Model for Listing {
     ghost use Rattle.std.specs.Prelude.{List};
     ghost use Rattle.dz_member.specs.declared.listing.Node.{Node};
-    ghost use Rattle.dz_member.specs.Listing.{IsListing};
+    ghost use Rattle.dz_member.specs.inner.Places.{IsPlaced};
 
     ghost Value = { List Node };
 
     ghost view = { λ l. l.nodes.items };
 
-    ghost invariant = { λ l. IsListing l.nodes.items };
+    ghost invariant = { λ l. IsPlaced l.nodes.items l.places.items };
 }
 
 impl Listing {
@@ -84,15 +90,17 @@ impl Listing {
     {
         Listing {
             nodes: Vec::new(alloc),
+            places: Vec::new(alloc),
         }
     }
 
-    /// The listing of these nodes, without memory of its own.
-    pub fn from_vec(nodes: Vec<Node>) -> Listing
-        requires { IsListing nodes.items }
+    /// The listing of these nodes, whose places are given in the order of their zones.
+    pub(crate) fn placed(nodes: Vec<Node>, places: Vec<u32>) -> Listing
+        requires listing { IsListing nodes.items }
+        requires places { ArePlaces nodes.items places.items }
         ensures { result ≡ nodes.items }
     {
-        Listing { nodes }
+        Listing { nodes, places }
     }
 
     /// The nodes, in the order of their labels.
@@ -101,6 +109,25 @@ impl Listing {
         ensures listing { IsListing self.now }
     {
         self.nodes.as_slice()
+    }
+
+    /// The node of the zone that is the one of this number in canonical order, from 0; none behind the last.
+    pub(crate) fn node_by_zone(&self, number: usize) -> Option<&Node>
+        ensures { option_map (λ r. r.now) result ≡ slice_get (in_zone_order self.now) number }
+    {
+        node_at(&self.nodes, &self.places, number)
+    }
+}
+
+/// The node that stands at the place of a number; none behind the last place.
+fn node_at<'a>(nodes: &'a [Node], places: &[u32], number: usize) -> Option<&'a Node>
+    requires { ArePlaces nodes.now places.now }
+    ensures { option_map (λ r. r.now) result ≡ slice_get (in_zone_order nodes.now) number }
+{
+    if number < places.len() {
+        Some(&nodes[places[number] as usize])
+    } else {
+        None
     }
 }
 

@@ -3,7 +3,6 @@
 ghost use Rattle.std.specs.Prelude.{◌≡◌, ◌<◌, length, map, slice_set, All, IfOk, IsSome, Some};
 ghost use Rattle.std.specs.List.Sorted.{IsStrictlySortedBy};
 ghost use Rattle.dz_name.specs.Name.{canonical_order};
-ghost use Rattle.dz_member.specs.Listing.{IsListing};
 ghost use Rattle.dz_member.specs.Membership.{settings_at, shown, IsNumbered};
 ghost use Rattle.dz_member.specs.Fold.{number_of, IsFold};
 ghost use Rattle.dz_member.specs.Process.{process, changes, EachZone};
@@ -11,8 +10,7 @@ ghost use Rattle.dz_member.specs.Process.{process, changes, EachZone};
 use crate::change::Changes;
 use crate::fold::Fold;
 use crate::known::with_listing;
-use crate::listing::{Listing, Node};
-use crate::sorting::by_zone;
+use crate::listing::Listing;
 use crate::walking::{Processed, walk};
 use dz_name::Name;
 use std::alloc::{AllocError, Global};
@@ -38,7 +36,7 @@ impl Fold {
         ensures each { IfOk result (λ r. EachZone self.now catalog.now listing position r.0 r.1) }
     {
         let number = self.configured_number(catalog);
-        let processed = process_nodes(alloc, self, number, position, listing.nodes())?;
+        let processed = process_nodes(alloc, self, number, position, &listing)?;
         self.with(alloc, processed, number, listing)
     }
 
@@ -85,17 +83,16 @@ fn process_nodes(
     fold: &Fold,
     number: u8,
     position: u64,
-    nodes: &[Node],
+    listing: &Listing,
 ) -> Result<Processed, AllocError>
     requires fold { IsFold fold.now }
     requires number { number < length fold.now.config }
-    requires listing { IsListing nodes.now }
-    ensures members { IfOk result (λ p. map (shown fold.now.config) p.members.items ≡ (process fold.now (settings_at fold.now.config number).name nodes.now position).members) }
-    ensures changes { IfOk result (λ p. p.changes.items ≡ changes fold.now (settings_at fold.now.config number).name nodes.now position) }
-    ensures each { IfOk result (λ _. EachZone fold.now (settings_at fold.now.config number).name nodes.now position (process fold.now (settings_at fold.now.config number).name nodes.now position) (changes fold.now (settings_at fold.now.config number).name nodes.now position)) }
+    ensures members { IfOk result (λ p. map (shown fold.now.config) p.members.items ≡ (process fold.now (settings_at fold.now.config number).name listing.now position).members) }
+    ensures changes { IfOk result (λ p. p.changes.items ≡ changes fold.now (settings_at fold.now.config number).name listing.now position) }
+    ensures each { IfOk result (λ _. EachZone fold.now (settings_at fold.now.config number).name listing.now position (process fold.now (settings_at fold.now.config number).name listing.now position) (changes fold.now (settings_at fold.now.config number).name listing.now position)) }
     ensures order { IfOk result (λ p. IsStrictlySortedBy canonical_order (map (λ m. m.zone) (map (shown fold.now.config) p.members.items))) }
     ensures numbered { IfOk result (λ p. All (IsNumbered fold.now.config) p.members.items) }
 {
-    let listed = by_zone(alloc, nodes)?;
-    walk(alloc, fold, number, position, &listed)
+    listing.nodes();
+    walk(alloc, fold, number, position, listing)
 }

@@ -1,15 +1,23 @@
 //! Nodes in the order of their zones, and which nodes make a listing.
 
-ghost use Rattle.std.specs.Prelude.{◌≡◌, ◌↔◌, false, map, IsTrue, OnOk, IfOk, MatchOption};
-ghost use Rattle.std.specs.List.Sorted.{IsStrictlySortedBy};
+ghost use Rattle.std.specs.Prelude.{◌≡◌, ◌↔◌, ◌≤◌, ◌<◌, true, false, length, map, slice_get, Some, All, IsTrue, OnOk, IfOk, MatchOption};
+ghost use Rattle.std.specs.List.Sorted.{IsStrictlySortedBy, IsPermutation};
 ghost use Rattle.dz_name.specs.Name.{canonical_order, label_order};
 ghost use Rattle.dz_member.specs.Listing.{same_zone, IsListing};
 ghost use Rattle.dz_member.specs.Twice.{has_twice};
 ghost use Rattle.dz_member.specs.Process.{in_zone_order};
+ghost use Rattle.dz_member.specs.inner.Places.{ArePlaces, IsAt, nodes_in, zones_in};
 
 use crate::listing::{Listing, Node};
 use std::alloc::{AllocError, Global};
 use std::cmp::Ordering;
+
+/// A node and its place among others.
+#[derive(Clone, Copy)]
+pub(crate) struct Placed<'a> {
+    pub(crate) node: &'a Node,
+    pub(crate) place: usize,
+}
 
 /// Whether some two nodes have one zone.
 ///
@@ -24,10 +32,10 @@ pub fn has_zone_twice(alloc: Global, nodes: &[Node]) -> Result<bool, AllocError>
 }
 
 /// Whether the zone of each node comes before the next one's.
-fn zones_rise(nodes: &[&Node]) -> bool
-    ensures { IsTrue result ↔ IsStrictlySortedBy canonical_order (map (λ n. n.zone) (map (λ r. r.now) nodes.now)) }
+fn zones_rise(nodes: &[Placed]) -> bool
+    ensures { IsTrue result ↔ IsStrictlySortedBy canonical_order (zones_in nodes.now) }
 {
-    nodes.is_sorted_by(|a, b| a.zone.canonical_cmp(&b.zone) == Ordering::Less)
+    nodes.is_sorted_by(|a, b| a.node.zone.canonical_cmp(&b.node.zone) == Ordering::Less)
 }
 
 /// Whether the label of each node comes before the next one's.
@@ -43,55 +51,72 @@ impl Listing {
     ///
     /// # Errors
     ///
-    /// `AllocError` where there is no memory to look for such zones.
+    /// `AllocError` where there is no memory to put the zones in order.
     pub fn try_from_vec(alloc: Global, nodes: Vec<Node>) -> Result<Option<Listing>, AllocError>
         ensures { IfOk result (λ o. MatchOption o (¬ IsListing nodes.items) (λ l. (l ≡ nodes.items) × IsListing nodes.items)) }
     {
-        if is_listing(alloc, nodes.as_slice())? {
-            Ok(Some(Listing::from_vec(nodes)))
-        } else {
-            Ok(None)
+        match places_of_listing(alloc, nodes.as_slice())? {
+            None => Ok(None),
+            Some(places) => Ok(Some(Listing::placed(nodes, places))),
         }
     }
 }
 
-/// Whether nodes make a listing.
-fn is_listing(alloc: Global, nodes: &[Node]) -> Result<bool, AllocError>
-    ensures { IfOk result (λ is. IsTrue is ↔ IsListing nodes.now) }
+/// The places of the nodes of a listing in the order of their zones; none where the nodes make no listing.
+fn places_of_listing(alloc: Global, nodes: &[Node]) -> Result<Option<Vec<u32>>, AllocError>
+    ensures { IfOk result (λ o. MatchOption o (¬ IsListing nodes.now) (λ places. IsListing nodes.now × ArePlaces nodes.now places.items)) }
 {
     if nodes.len() > Listing::NODES || !labels_rise(nodes) {
-        return Ok(false);
+        return Ok(None);
     }
-    Ok(!has_zone_twice(alloc, nodes)?)
+    let sorted = by_zone(alloc, nodes)?;
+    if !zones_rise(&sorted) {
+        return Ok(None);
+    }
+    Ok(Some(places_of(alloc, &sorted)?))
 }
 
-/// References to nodes, in the order of their zones.
-pub(crate) fn by_zone<'a>(alloc: Global, nodes: &'a [Node]) -> Result<Vec<&'a Node>, AllocError>
-    ensures is { IfOk result (λ v. map (λ r. r.now) v.items ≡ in_zone_order nodes.now) }
-    ensures rises { IfOk result (λ v. has_twice same_zone nodes.now ≡ false → IsStrictlySortedBy canonical_order (map (λ n. n.zone) (map (λ r. r.now) v.items))) }
-    ensures once { IfOk result (λ v. IsStrictlySortedBy canonical_order (map (λ n. n.zone) (map (λ r. r.now) v.items)) → has_twice same_zone nodes.now ≡ false) }
+/// The places of nodes.
+fn places_of(alloc: Global, sorted: &[Placed]) -> Result<Vec<u32>, AllocError>
+    requires { All (λ p. p.place < 65536) sorted.now }
+    ensures { IfOk result (λ v. v.items ≡ map (λ p. p.place) sorted.now) }
+{
+    let mut places = Vec::with_capacity(alloc, sorted.len())?;
+    'sorted: for placed in sorted {
+        places.push(placed.place as u32)?;
+    }
+    Ok(places)
+}
+
+/// Nodes with their places, in the order of their zones.
+fn by_zone<'a>(alloc: Global, nodes: &'a [Node]) -> Result<Vec<Placed<'a>>, AllocError>
+    ensures is { IfOk result (λ v. nodes_in v.items ≡ in_zone_order nodes.now) }
+    ensures places { IfOk result (λ v. All (IsAt nodes.now) v.items) }
+    ensures rises { IfOk result (λ v. has_twice same_zone nodes.now ≡ false → IsStrictlySortedBy canonical_order (zones_in v.items)) }
+    ensures once { IfOk result (λ v. IsStrictlySortedBy canonical_order (zones_in v.items) → has_twice same_zone nodes.now ≡ false) }
 {
     let mut listed = all(alloc, nodes)?;
     order(&mut listed)?;
     Ok(listed)
 }
 
-fn all<'a>(alloc: Global, nodes: &'a [Node]) -> Result<Vec<&'a Node>, AllocError>
-    ensures { IfOk result (λ v. map (λ r. r.now) v.items ≡ nodes.now) }
+/// Nodes with their places, as they stand.
+fn all<'a>(alloc: Global, nodes: &'a [Node]) -> Result<Vec<Placed<'a>>, AllocError>
+    ensures is { IfOk result (λ v. nodes_in v.items ≡ nodes.now) }
+    ensures places { IfOk result (λ v. All (IsAt nodes.now) v.items) }
 {
     let mut all = Vec::with_capacity(alloc, nodes.len())?;
-    'nodes: for node in nodes {
-        all.push(node)?;
+    'nodes: for (place, node) in nodes.iter().enumerate() {
+        all.push(Placed { node, place })?;
     }
     Ok(all)
 }
 
-fn order(nodes: &mut Vec<&Node>) -> Result<(), AllocError>
-    ensures is { OnOk result (map (λ r. r.now) nodes.new.items ≡ in_zone_order (map (λ r. r.now) nodes.old.items)) }
-    ensures rises { OnOk result (has_twice same_zone (map (λ r. r.now) nodes.old.items) ≡ false → IsStrictlySortedBy canonical_order (map (λ n. n.zone) (map (λ r. r.now) nodes.new.items))) }
-    ensures once { OnOk result (IsStrictlySortedBy canonical_order (map (λ n. n.zone) (map (λ r. r.now) nodes.new.items)) → has_twice same_zone (map (λ r. r.now) nodes.old.items) ≡ false) }
+fn order(nodes: &mut Vec<Placed>) -> Result<(), AllocError>
+    ensures is { OnOk result (nodes_in nodes.new.items ≡ in_zone_order (nodes_in nodes.old.items)) }
+    ensures same { OnOk result (IsPermutation nodes.old.items nodes.new.items) }
 {
-    match nodes.sort_by(|a, b| a.zone.canonical_cmp(&b.zone)) {
+    match nodes.sort_by(|a, b| a.node.zone.canonical_cmp(&b.node.zone)) {
         Ok(()) => Ok(()),
         Err(_) => Err(AllocError),
     }

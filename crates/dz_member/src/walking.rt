@@ -1,18 +1,19 @@
 //! The walk over members and nodes that both stand in the order of their zones.
 
-ghost use Rattle.std.specs.Prelude.{◌≡◌, ◌<◌, ◌++◌, length, map, drop, slice_get, if◌then◌else◌, option_map, OnOk, IfOk, All};
+ghost use Rattle.std.specs.Prelude.{◌≡◌, ◌<◌, ◌++◌, length, map, drop, if◌then◌else◌, option_map, OnOk, IfOk, All};
 ghost use Rattle.std.specs.Option.{option_to_list};
 ghost use Rattle.std.specs.List.Sorted.{IsStrictlySortedBy};
 ghost use Rattle.dz_name.specs.Name.{canonical_order};
 ghost use Rattle.dz_member.specs.Membership.{settings_at, shown, IsNumbered};
 ghost use Rattle.dz_member.specs.Fold.{IsFold};
+ghost use Rattle.dz_member.specs.Process.{in_zone_order};
 ghost use Rattle.dz_member.specs.inner.Kept.{members_from, changes_from};
 ghost use Rattle.dz_member.specs.inner.Walk.{first_pair, pair_of};
 
 use crate::change::Change;
 use crate::fold::Fold;
 use crate::judging::{Judged, judge};
-use crate::listing::Node;
+use crate::listing::{Listing, Node};
 use crate::membership::Membership;
 use dz_name::Name;
 use std::alloc::{AllocError, Global};
@@ -79,22 +80,11 @@ fn first_pair<'a>(held: &'a [Membership], node: Option<&'a Node>) -> Option<Pair
     }
 }
 
-/// The node at a place, if there is one.
-fn node_at<'a>(nodes: &[&'a Node], at: usize) -> Option<&'a Node>
-    ensures { option_map (λ r. r.now) result ≡ slice_get (map (λ r. r.now) nodes.now) at }
+/// The number of the first node that is left, after the one of a number where it was taken.
+fn behind(listing: &Listing, at: usize, taken: bool) -> usize
+    ensures { drop result (in_zone_order listing.now) ≡ drop (if taken then 1 else 0) (drop at (in_zone_order listing.now)) }
 {
-    if at < nodes.len() {
-        Some(nodes[at])
-    } else {
-        None
-    }
-}
-
-/// The place of the first node that is left, after the one at a place where it was taken.
-fn behind(nodes: &[&Node], at: usize, taken: bool) -> usize
-    ensures { drop result (map (λ r. r.now) nodes.now) ≡ drop (if taken then 1 else 0) (drop at (map (λ r. r.now) nodes.now)) }
-{
-    if taken && at < nodes.len() {
+    if taken && at < listing.nodes().len() {
         at + 1
     } else {
         at
@@ -117,19 +107,19 @@ impl Processed {
     }
 }
 
-/// What a listing leaves, whose nodes are given in the order of their zones.
+/// What a listing leaves.
 pub(crate) fn walk(
     alloc: Global,
     fold: &Fold,
     number: u8,
     position: u64,
-    nodes: &[&Node],
+    listing: &Listing,
 ) -> Result<Processed, AllocError>
     requires fold { IsFold fold.now }
     requires number { number < length fold.now.config }
-    requires nodes { IsStrictlySortedBy canonical_order (map (λ n. n.zone) (map (λ r. r.now) nodes.now)) }
-    ensures members { IfOk result (λ p. map (shown fold.now.config) p.members.items ≡ members_from fold.now (settings_at fold.now.config number).name position (map (λ r. r.now) nodes.now)) }
-    ensures changes { IfOk result (λ p. p.changes.items ≡ changes_from fold.now (settings_at fold.now.config number).name position (map (λ r. r.now) nodes.now)) }
+    requires zones { IsStrictlySortedBy canonical_order (map (λ n. n.zone) (in_zone_order listing.now)) }
+    ensures members { IfOk result (λ p. map (shown fold.now.config) p.members.items ≡ members_from fold.now (settings_at fold.now.config number).name position (in_zone_order listing.now)) }
+    ensures changes { IfOk result (λ p. p.changes.items ≡ changes_from fold.now (settings_at fold.now.config number).name position (in_zone_order listing.now)) }
     ensures numbered { IfOk result (λ p. All (IsNumbered fold.now.config) p.members.items) }
 {
     let members = fold.memberships();
@@ -139,13 +129,13 @@ pub(crate) fn walk(
     };
     let mut held = members;
     let mut at = 0;
-    'zones: while let Some(pair) = first_pair(held, node_at(nodes, at)) {
+    'zones: while let Some(pair) = first_pair(held, listing.node_by_zone(at)) {
         processed.add(
             pair.zone,
             &judge(fold, number, position, pair.member, pair.node),
         )?;
         held = pair.held;
-        at = behind(nodes, at, pair.node.is_some());
+        at = behind(listing, at, pair.node.is_some());
     }
     Ok(processed)
 }

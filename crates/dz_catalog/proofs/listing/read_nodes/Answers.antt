@@ -1,19 +1,15 @@
-use Rattle.std.proofs.Common.{sym, ◌∙◌, ap, ◌≡◌, true, false}
-use Rattle.dz_catalog.specs.Broken.{zone_twice}
-use Rattle.dz_catalog.proofs.ListingLemmas.{reads_twice, reads_nodes, makes_listing}
+use Rattle.std.proofs.Common.{◌≡◌, Some, None}
+use Rattle.std.specs.Prelude.{MatchOption}
+use Rattle.dz_member.specs.Listing.{IsListing}
+use Rattle.dz_catalog.proofs.ListingLemmas.{reads_none, reads_nodes}
 use Rattle.dz_catalog.proofs.listing.read_nodes.Goals as goal
 
-pub from_vec-requires : goal.from_vec-requires
-from_vec-requires c =
-    let once : zone_twice c.in_ok-nodes.nodes.items ≡ false = ap zone_twice (sym c.as_slice.ensures.value) ∙ (sym c.in_ok-zone_twice.ensures ∙ c.if-branch.false) in
-    makes_listing c.args.apex.now c.args.records.now c.in_ok-nodes.nodes.items c.requires.sorted c.requires.unbroken c.in_ok-nodes.ensures once
+pub returns-in-None : goal.returns-in-None
+returns-in-None c =
+    let broken = rw c.in-None.is at c.in_ok-try_from_vec.ensures in
+    reads_none c.args.apex.now c.args.records.now c.in_ok-nodes.field-0.items c.requires.sorted c.requires.unbroken c.in_ok-nodes.ensures broken
 
-pub returns-then-branch : goal.returns-then-branch
-returns-then-branch c =
-    let twice : zone_twice c.in_ok-nodes.nodes.items ≡ true = ap zone_twice (sym c.as_slice.ensures.value) ∙ (sym c.in_ok-zone_twice.ensures ∙ c.if-branch.true) in
-    reads_twice c.args.apex.now c.args.records.now c.in_ok-nodes.nodes.items c.requires.sorted c.requires.unbroken c.in_ok-nodes.ensures twice
-
-pub returns : goal.returns
-returns c =
-    let once : zone_twice c.in_ok-nodes.nodes.items ≡ false = ap zone_twice (sym c.as_slice.ensures.value) ∙ (sym c.in_ok-zone_twice.ensures ∙ c.if-branch.false) in
-    reads_nodes c.args.apex.now c.args.records.now c.in_ok-nodes.nodes.items c.from_vec.result c.requires.sorted c.requires.unbroken c.in_ok-nodes.ensures once c.from_vec.ensures
+pub returns-in-Some : goal.returns-in-Some
+returns-in-Some c =
+    let made = rw c.in-Some.is at c.in_ok-try_from_vec.ensures in
+    reads_nodes c.args.apex.now c.args.records.now c.in_ok-nodes.field-0.items c.in-Some.listing c.requires.sorted c.requires.unbroken c.in_ok-nodes.ensures made.1.zones made.0

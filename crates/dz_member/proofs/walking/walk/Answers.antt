@@ -2,7 +2,7 @@ use Rattle.std.proofs.Common.{◌≡◌, sym, ◌∙◌, ap, map, append-nil}
 use Rattle.std.specs.Prelude.{drop}
 use Rattle.std.specs.Option.{option_map}
 use Rattle.dz_member.specs.Membership.{shown, settings_at, IsNumbered}
-use Rattle.dz_member.specs.Process.{Judgement}
+use Rattle.dz_member.specs.Process.{Judgement, in_zone_order}
 use Rattle.dz_member.specs.inner.Walk.{judge_of, pair_of}
 use Rattle.dz_member.proofs.SpotLemmas.{steps, spots_end, first_behind, left_of}
 use Rattle.dz_member.proofs.WalkedLemmas.{shown_more, all_more, parts_of, is_some_map, walked_members, walked_changes}
@@ -12,10 +12,10 @@ pub zones-smaller : goal.zones-smaller
 zones-smaller c =
     let fold = c.args.fold.now in
     let judge = judge_of fold (settings_at fold.config c.args.number).name c.args.position in
-    let ns = map (λ r. r.now) c.args.nodes.now in
+    let ns = in_zone_order c.args.listing.now in
     let inv = c.zones.invariant in
     let p = pair_of c.in-Some.pair in
-    let first = sym (rw (c.node_at.ensures, first_behind ns c.zones.at) at c.in-Some.ensures) in
+    let first = sym (rw (c.node_by_zone.ensures, first_behind ns c.zones.at) at c.in-Some.ensures) in
     let s = steps judge c.zones.held.now (drop c.zones.at ns) p (map (shown fold.config) c.zones.processed.members.items) c.zones.processed.changes.items _ _ (inv.held, inv.listed) first inv.members inv.changes in
     let next : drop c.behind-at.result ns ≡ left_of p (drop c.zones.at ns) = rw (is_some_map (λ r. r.now) c.in-Some.pair.node, ← c.is_some.ensures) c.behind-at.ensures in
     rw next s.goes.less
@@ -24,11 +24,11 @@ pub zones-preserved : goal.zones-preserved
 zones-preserved c =
     let fold = c.args.fold.now in
     let judge = judge_of fold (settings_at fold.config c.args.number).name c.args.position in
-    let ns = map (λ r. r.now) c.args.nodes.now in
+    let ns = in_zone_order c.args.listing.now in
     let inv = c.zones.invariant in
     let p = pair_of c.in-Some.pair in
-    let o = option_map (λ r. r.now) c.node_at.result in
-    let first = sym (rw (c.node_at.ensures, first_behind ns c.zones.at) at c.in-Some.ensures) in
+    let o = option_map (λ r. r.now) c.node_by_zone.result in
+    let first = sym (rw (c.node_by_zone.ensures, first_behind ns c.zones.at) at c.in-Some.ensures) in
     let s = steps judge c.zones.held.now (drop c.zones.at ns) p (map (shown fold.config) c.zones.processed.members.items) c.zones.processed.changes.items _ _ (inv.held, inv.listed) first inv.members inv.changes in
     let next : drop c.behind-at.result ns ≡ left_of p (drop c.zones.at ns) = rw (is_some_map (λ r. r.now) c.in-Some.pair.node, ← c.is_some.ensures) c.behind-at.ensures in
     let parts = parts_of (IsNumbered fold.config) c.zones.held.now o p (sym c.in-Some.ensures) inv.numbered in
@@ -48,8 +48,8 @@ returns-clause-members c =
     let fold = c.args.fold.now in
     let catalog = (settings_at fold.config c.args.number).name in
     let judge = judge_of fold catalog c.args.position in
-    let ns = map (λ r. r.now) c.args.nodes.now in
-    let e = spots_end judge c.zones.held.now (drop c.zones.at ns) (rw (c.node_at.ensures, first_behind ns c.zones.at) at (sym c.in_default.ensures)) in
+    let ns = in_zone_order c.args.listing.now in
+    let e = spots_end judge c.zones.held.now (drop c.zones.at ns) (rw (c.node_by_zone.ensures, first_behind ns c.zones.at) at (sym c.in_default.ensures)) in
     sym (append-nil (map (shown fold.config) c.zones.processed.members.items)) ∙ (rw e at c.zones.invariant.members)
     ∙ walked_members fold catalog c.args.position c.memberships-members.result.now ns c.memberships-members.ensures.members
 
@@ -58,7 +58,7 @@ returns-clause-changes c =
     let fold = c.args.fold.now in
     let catalog = (settings_at fold.config c.args.number).name in
     let judge = judge_of fold catalog c.args.position in
-    let ns = map (λ r. r.now) c.args.nodes.now in
-    let e = spots_end judge c.zones.held.now (drop c.zones.at ns) (rw (c.node_at.ensures, first_behind ns c.zones.at) at (sym c.in_default.ensures)) in
+    let ns = in_zone_order c.args.listing.now in
+    let e = spots_end judge c.zones.held.now (drop c.zones.at ns) (rw (c.node_by_zone.ensures, first_behind ns c.zones.at) at (sym c.in_default.ensures)) in
     sym (append-nil c.zones.processed.changes.items) ∙ (rw e at c.zones.invariant.changes)
     ∙ walked_changes fold catalog c.args.position c.memberships-members.result.now ns c.memberships-members.ensures.members

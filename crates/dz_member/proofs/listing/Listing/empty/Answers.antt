@@ -1,5 +1,5 @@
-use Rattle.dz_member.proofs.ListingLemmas.{empty_listing}
+use Rattle.dz_member.proofs.PlaceLemmas.{empty_placed}
 use Rattle.dz_member.proofs.listing.Listing.empty.Goals as goal
 
 pub invariant_of-result : goal.invariant_of-result
-invariant_of-result c = rw c.new.ensures.items empty_listing
+invariant_of-result c = rw (c.new.ensures.items, c.new-2.ensures.items) empty_placed
