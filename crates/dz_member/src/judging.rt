@@ -8,9 +8,10 @@ ghost use Rattle.std.specs.List.{find, list_any};
 ghost use Rattle.dz_name.specs.Name.{same_name, same_label};
 ghost use Rattle.dz_member.specs.Listing.{IsListing};
 ghost use Rattle.dz_member.specs.Membership.{settings_at, group_at, shown, IsNumbered};
-ghost use Rattle.dz_member.specs.Process.{choice_in, entered, coo_names, consents, held_here, held_elsewhere, unlisted, listed, is_catalog, judged};
+ghost use Rattle.dz_member.specs.Process.{choice_in, entered, coo_names, consents, is_catalog};
+ghost use Rattle.dz_member.specs.Process.{held_here, held_elsewhere, unlisted, listed, judged};
 ghost use Rattle.dz_member.specs.Fold.{IsFold, listing_of};
-ghost use Rattle.dz_member.specs.inner.Kept.{judgement_of};
+ghost use Rattle.dz_member.specs.inner.Kept.{catalog_at, shown_in, held_in, judgement_of};
 
 use crate::change::What;
 use crate::fold::Fold;
@@ -30,7 +31,8 @@ pub(crate) struct Judged {
 fn choice(fold: &Fold, number: u8, node: &Node) -> Option<u8>
     requires fold { IsFold fold.now }
     requires number { number < length fold.now.config }
-    ensures word { option_map (λ g. (group_at (settings_at fold.now.config number).groups g).word) result ≡ choice_in fold.now.config (settings_at fold.now.config number).name node.now }
+    ensures word { option_map (λ g. (group_at (settings_at fold.now.config number).groups g).word) result
+        ≡ choice_in fold.now.config (catalog_at fold.now number) node.now }
     ensures there { ForSome result (λ g. g < length (settings_at fold.now.config number).groups) }
 {
     let settings = fold.settings(number as usize);
@@ -41,7 +43,7 @@ fn choice(fold: &Fold, number: u8, node: &Node) -> Option<u8>
 fn enter(fold: &Fold, number: u8, position: u64, node: &Node) -> Membership
     requires fold { IsFold fold.now }
     requires number { number < length fold.now.config }
-    ensures shown { shown fold.now.config result ≡ entered fold.now (settings_at fold.now.config number).name position node.now }
+    ensures shown { shown_in fold.now result ≡ entered fold.now (catalog_at fold.now number) position node.now }
     ensures numbered { IsNumbered fold.now.config result }
 {
     Membership {
@@ -56,7 +58,7 @@ fn enter(fold: &Fold, number: u8, position: u64, node: &Node) -> Membership
 fn name_of(fold: &Fold, number: u8) -> Name
     requires fold { IsFold fold.now }
     requires number { number < length fold.now.config }
-    ensures { result ≡ (settings_at fold.now.config number).name }
+    ensures { result ≡ catalog_at fold.now number }
 {
     fold.settings(number as usize).name
 }
@@ -95,7 +97,7 @@ fn coo_names(listing: &Listing, label: &Label, catalog: &Name) -> bool
 fn listing_of<'a>(fold: &'a Fold, member: &Membership) -> Option<&'a Listing>
     requires fold { IsFold fold.now }
     requires held { IsNumbered fold.now.config member.now }
-    ensures { option_map (λ r. r.now) result ≡ listing_of fold.now (shown fold.now.config member.now).catalog }
+    ensures { option_map (λ r. r.now) result ≡ listing_of fold.now (shown_in fold.now member.now).catalog }
 {
     fold.listing(member.catalog as usize)
 }
@@ -104,7 +106,7 @@ fn listing_of<'a>(fold: &'a Fold, member: &Membership) -> Option<&'a Listing>
 fn consents(fold: &Fold, catalog: &Name, member: &Membership) -> bool
     requires fold { IsFold fold.now }
     requires held { IsNumbered fold.now.config member.now }
-    ensures { result ≡ consents fold.now catalog.now (shown fold.now.config member.now) }
+    ensures { result ≡ consents fold.now catalog.now (shown_in fold.now member.now) }
 {
     match listing_of(fold, member) {
         None => false,
@@ -116,7 +118,10 @@ fn consents(fold: &Fold, catalog: &Name, member: &Membership) -> bool
 fn taken(fold: &Fold, number: u8, member: &Membership, node: &Node) -> Membership
     requires fold { IsFold fold.now }
     requires number { number < length fold.now.config }
-    ensures shown { shown fold.now.config result ≡ record (shown fold.now.config member.now) { catalog = (settings_at fold.now.config number).name; choice = choice_in fold.now.config (settings_at fold.now.config number).name node.now } }
+    ensures shown { shown_in fold.now result ≡ record (shown_in fold.now member.now) {
+      catalog = catalog_at fold.now number;
+      choice = choice_in fold.now.config (catalog_at fold.now number) node.now;
+    } }
     ensures numbered { IsNumbered fold.now.config result }
     ensures number { result.catalog ≡ number }
 {
@@ -135,7 +140,7 @@ fn choose_alike(fold: &Fold, a: &Membership, b: &Membership) -> bool
     requires a { IsNumbered fold.now.config a.now }
     requires b { IsNumbered fold.now.config b.now }
     requires catalog { a.now.catalog ≡ b.now.catalog }
-    ensures { result ≡ option_eq bytes_eq (shown fold.now.config a.now).choice (shown fold.now.config b.now).choice }
+    ensures { result ≡ option_eq bytes_eq (shown_in fold.now a.now).choice (shown_in fold.now b.now).choice }
 {
     a.group == b.group
 }
@@ -145,7 +150,7 @@ fn holds(fold: &Fold, number: u8, member: &Membership) -> bool
     requires fold { IsFold fold.now }
     requires number { number < length fold.now.config }
     requires held { IsNumbered fold.now.config member.now }
-    ensures is { result ≡ same_name (shown fold.now.config member.now).catalog (settings_at fold.now.config number).name }
+    ensures is { result ≡ same_name (shown_in fold.now member.now).catalog (catalog_at fold.now number) }
     ensures number { OnTrue result (member.now.catalog ≡ number) }
 {
     member.catalog == number
@@ -157,7 +162,8 @@ fn held_here(fold: &Fold, number: u8, position: u64, member: &Membership, node: 
     requires number { number < length fold.now.config }
     requires held { IsNumbered fold.now.config member.now }
     requires here { member.now.catalog ≡ number }
-    ensures is { judgement_of fold.now.config result ≡ held_here fold.now (settings_at fold.now.config number).name position (shown fold.now.config member.now) node.now }
+    ensures is { judgement_of fold.now.config result
+        ≡ held_here fold.now (catalog_at fold.now number) position (shown_in fold.now member.now) node.now }
     ensures numbered { IfSome result.stands (IsNumbered fold.now.config) }
 {
     if member.label != node.label {
@@ -184,8 +190,9 @@ fn taken_over(fold: &Fold, number: u8, position: u64, member: &Membership, node:
     requires fold { IsFold fold.now }
     requires number { number < length fold.now.config }
     requires held { IsNumbered fold.now.config member.now }
-    requires consent { consents fold.now (settings_at fold.now.config number).name (shown fold.now.config member.now) ≡ true }
-    ensures is { judgement_of fold.now.config result ≡ held_elsewhere fold.now (settings_at fold.now.config number).name position (shown fold.now.config member.now) node.now }
+    requires consent { consents fold.now (catalog_at fold.now number) (shown_in fold.now member.now) ≡ true }
+    ensures is { judgement_of fold.now.config result
+        ≡ held_elsewhere fold.now (catalog_at fold.now number) position (shown_in fold.now member.now) node.now }
     ensures numbered { IfSome result.stands (IsNumbered fold.now.config) }
 {
     let from = name_of(fold, member.catalog);
@@ -214,7 +221,8 @@ fn held_elsewhere(
     requires fold { IsFold fold.now }
     requires number { number < length fold.now.config }
     requires held { IsNumbered fold.now.config member.now }
-    ensures is { judgement_of fold.now.config result ≡ held_elsewhere fold.now (settings_at fold.now.config number).name position (shown fold.now.config member.now) node.now }
+    ensures is { judgement_of fold.now.config result
+        ≡ held_elsewhere fold.now (catalog_at fold.now number) position (shown_in fold.now member.now) node.now }
     ensures numbered { IfSome result.stands (IsNumbered fold.now.config) }
 {
     if consents(fold, &name_of(fold, number), member) {
@@ -232,7 +240,8 @@ fn unlisted(fold: &Fold, number: u8, member: &Membership) -> Judged
     requires fold { IsFold fold.now }
     requires number { number < length fold.now.config }
     requires held { IsNumbered fold.now.config member.now }
-    ensures is { judgement_of fold.now.config result ≡ unlisted (settings_at fold.now.config number).name (shown fold.now.config member.now) }
+    ensures is { judgement_of fold.now.config result
+        ≡ unlisted (catalog_at fold.now number) (shown_in fold.now member.now) }
     ensures numbered { IfSome result.stands (IsNumbered fold.now.config) }
 {
     if holds(fold, number, member) {
@@ -253,7 +262,8 @@ fn listed(fold: &Fold, number: u8, position: u64, held: Option<&Membership>, nod
     requires fold { IsFold fold.now }
     requires number { number < length fold.now.config }
     requires held { ForSome held (λ r. IsNumbered fold.now.config r.now) }
-    ensures is { judgement_of fold.now.config result ≡ listed fold.now (settings_at fold.now.config number).name position (option_map (shown fold.now.config) (option_map (λ r. r.now) held.entry)) node.now }
+    ensures is { judgement_of fold.now.config result
+        ≡ listed fold.now (catalog_at fold.now number) position (held_in fold.now held.entry) node.now }
     ensures numbered { IfSome result.stands (IsNumbered fold.now.config) }
 {
     match held {
@@ -292,7 +302,9 @@ pub(crate) fn judge(
     requires fold { IsFold fold.now }
     requires number { number < length fold.now.config }
     requires held { ForSome held (λ r. IsNumbered fold.now.config r.now) }
-    ensures is { judgement_of fold.now.config result ≡ judged fold.now (settings_at fold.now.config number).name position (option_map (shown fold.now.config) (option_map (λ r. r.now) held.entry)) (option_map (λ r. r.now) node.entry) }
+    ensures is { judgement_of fold.now.config result
+        ≡ judged fold.now (catalog_at fold.now number) position (held_in fold.now held.entry)
+        (option_map (λ r. r.now) node.entry) }
     ensures numbered { IfSome result.stands (IsNumbered fold.now.config) }
 {
     match node {

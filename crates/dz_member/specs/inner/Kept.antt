@@ -1,5 +1,6 @@
 -- Inner: how a fold is kept, with numbers in place of names.
 use Rattle.std.specs.Prelude.{ℕ, true, List, Option, map}
+use Rattle.std.specs.Borrow.{Bor}
 use Rattle.std.specs.Option.{option_map}
 use Rattle.std.specs.List.{All, filter_map}
 use Rattle.std.specs.Set.{sorted_merge}
@@ -10,7 +11,7 @@ use Rattle.dz_member.specs.declared.listing.Node.{Node}
 use Rattle.dz_member.specs.declared.membership.Membership.{Membership}
 use Rattle.dz_member.specs.declared.judging.Judged.{Judged}
 use Rattle.dz_member.specs.declared.change.Change.{Change}
-use Rattle.dz_member.specs.Membership.{MemberOf, shown, IsNumbered}
+use Rattle.dz_member.specs.Membership.{MemberOf, settings_at, shown, IsNumbered}
 use Rattle.dz_member.specs.Process.{Judgement, judged_at}
 use Rattle.dz_member.specs.Fold.{FoldOf, IsFold}
 
@@ -37,3 +38,15 @@ members_from fold catalog position nodes = filter_map (λ zone. (judged_at fold 
 unfoldable pub changes_from : FoldOf → Name → ℕ → List Node → List Change
 changes_from fold catalog position nodes =
     filter_map (λ zone. option_map (λ what. record { zone = zone; what = what }) (judged_at fold catalog nodes position zone).change) (zones_from fold nodes)
+
+-- the name of the catalog of a number
+abbrev pub catalog_at : FoldOf → ℕ → Name
+catalog_at fold number = (settings_at fold.config number).name
+
+-- a membership with the names that its numbers stand for
+abbrev pub shown_in : FoldOf → Membership → MemberOf
+shown_in fold m = shown fold.config m
+
+-- what may be held at a zone
+abbrev pub held_in : FoldOf → Option (Bor Membership) → Option MemberOf
+held_in fold held = option_map (shown_in fold) (option_map (λ r. r.now) held)

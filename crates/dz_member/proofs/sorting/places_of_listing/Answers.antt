@@ -6,8 +6,7 @@ use Rattle.dz_member.proofs.sorting.places_of_listing.Goals as goal
 pub returns : goal.returns
 returns c =
     let nodes = c.args.nodes.now in
-    let places = c.in_ok-places_of.ensures ∙ ap (map (λ p. p.place)) c.deref-2.ensures.value in
-    (
+    let places = c.in_ok-places_of.ensures ∙ ap (map (λ p. p.place)) c.deref-2.ensures.value in (
       record {
         labels = c.labels_rise.ensures.0 c.if-not-labels_rise.false;
         zones = c.in_ok-sorted.ensures.once (rw c.deref.ensures.value at (c.zones_rise.ensures.0 c.if-not-zones_rise.false));
