@@ -1,2 +1,4 @@
 pub mod Examples
 pub mod Notify
+pub mod ReadsBack
+pub mod Reply

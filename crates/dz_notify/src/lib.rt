@@ -1,8 +1,10 @@
-//! NOTIFY (RFC 1996): the zone that a request tells of, and how it is heard. Nothing here allocates.
+//! NOTIFY (RFC 1996): the zone that a request tells of, how it is heard, and its reply. Nothing here allocates.
 #![tactic(auto)]
 
 mod notify;
+mod reply;
 #[cfg(test)]
 mod tests;
 
 pub use notify::{Heard, read_notify};
+pub use reply::{notify_reply_to, write_notify_reply};

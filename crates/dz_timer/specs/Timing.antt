@@ -1,4 +1,5 @@
--- Meaning: when the next job of a zone is due, and how long a version answers (RFC 1035 section 3.3.13, RFC 1996).
+-- Meaning: when the next job of a zone is due, and how long a version answers (RFC 1035 section 3.3.13, RFC 1996
+-- section 3.11).
 use Rattle.std.specs.Prelude.{ℕ, ◌+◌, Bool, true, false, not, ◌&&◌, nat_le, nat_lt, max, Option, Some, None, if◌then◌else◌}
 use Rattle.dz_timer.specs.declared.timer.TheConstants.{UNHELD_RETRY}
 
@@ -42,8 +43,8 @@ failed timing now None = ended_at timing (now + UNHELD_RETRY)
 abbrev pub ended : Timing → Timing
 ended timing = ended_at timing timing.next
 
--- a NOTIFY makes the zone due at once, as if its REFRESH had passed, or at the end of the job in flight (RFC 1996 sections
--- 3.11 and 4.3)
+-- a NOTIFY makes the zone due at once, as if its REFRESH had passed (RFC 1996 section 3.11), or at the end of the job that is
+-- in flight
 abbrev pub notified : Timing → Timing
 notified timing = if timing.busy then record timing { again = true } else record timing { next = 0 }
 

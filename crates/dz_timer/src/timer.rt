@@ -105,7 +105,7 @@ impl Timer {
         self.end(self.next);
     }
 
-    /// A NOTIFY came (RFC 1996 section 4): the zone is due at once, or as soon as the job that is in flight ends.
+    /// A NOTIFY came (RFC 1996 section 3.11): the zone is due at once, or as soon as the job that is in flight ends.
     pub fn notified(&mut self)
         ensures { self.new ≡ notified self.old }
     {
