@@ -11,7 +11,7 @@ use Rattle.dz_name.specs.Words.{Name}
 use Rattle.toml.specs.Data.{Data, Members, get_member, as_str, as_array, as_table}
 use Rattle.dz_config.specs.Config.{IsDocument, IsFaultOf}
 use Rattle.dz_config.specs.Document.{is_key, keys_of, known, wanted, list_of, text_at, values_at, name_read, name_from, policy_from, peer_from, primary_of, primaries_of, group_in, group_of, groups_from, catalog_in, catalog_of, catalogs_of, settings_of, judged, config_of}
-use Rattle.dz_config.specs.Peer.{policy_of, peer_of}
+use Rattle.dz_member.specs.Peer.{policy_of, peer_of}
 use Rattle.dz_config.specs.Reading.{Reading, number_of, least, both, made, read_in, more, gathered}
 use Rattle.dz_config.specs.declared.fault.ConfigFault.{ConfigFault}
 use Rattle.dz_config.specs.declared.fault.ConfigFault.TheVariants.{NotToml, UnknownKey, UnknownPolicy, BadPeer, OutOfLimits, Twice}

@@ -1,4 +1,3 @@
-pub mod NumberLemmas
 pub mod TreeLemmas
 pub mod PartLemmas
 pub mod LaterLemmas

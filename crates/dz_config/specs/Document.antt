@@ -12,7 +12,7 @@ use Rattle.dz_member.specs.declared.config.Policy.{Policy}
 use Rattle.dz_name.specs.Text.{name_of_text}
 use Rattle.dz_name.specs.Words.{Name, Octets}
 use Rattle.toml.specs.Data.{Data, Items, no_items, item, Members, no_members, member, get_member, as_str, as_array, as_table}
-use Rattle.dz_config.specs.Peer.{peer_of, policy_of}
+use Rattle.dz_member.specs.Peer.{peer_of, policy_of}
 use Rattle.dz_config.specs.Reading.{Reading, both, made, read_in, gathered}
 use Rattle.dz_config.specs.declared.fault.ConfigFault.TheVariants.{UnknownKey, MissingValue, BadName, UnknownPolicy, BadPeer, OutOfLimits, Twice}
 use Rattle.dz_config.specs.declared.keys.Place.{Place}

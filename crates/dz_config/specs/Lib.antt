@@ -2,5 +2,4 @@ pub mod Config
 pub mod Document
 pub mod Examples
 pub mod Laws
-pub mod Peer
 pub mod Reading

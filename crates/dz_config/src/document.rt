@@ -7,11 +7,12 @@ ghost use Rattle.dz_config.specs.Reading.{made, read_in, gathered};
 
 use crate::fault::ConfigFault;
 use crate::keys::{Place, known};
-use crate::peer::{read_peer, read_policy};
 use crate::reading::{both, more};
 use crate::tree::{table_of, text_at, text_of, value_at, values_at};
 use dz_io::Peer;
-use dz_member::{CatalogSettings, Config, GroupSettings, Groups, Peers, Policy};
+use dz_member::{
+    CatalogSettings, Config, GroupSettings, Groups, Peers, Policy, read_peer, read_policy,
+};
 use dz_name::{Name, Octets};
 use std::alloc::{AllocError, Global};
 use toml::{Table, Value};

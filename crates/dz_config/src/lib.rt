@@ -1,4 +1,4 @@
-//! The configuration of catalogs, as a TOML text has it, and the texts of peers, policies and words.
+//! The configuration of catalogs, as a TOML text has it.
 #![tactic(auto)]
 
 mod config;
@@ -6,7 +6,6 @@ mod document;
 mod fault;
 mod keys;
 mod laws;
-mod peer;
 mod reading;
 #[cfg(test)]
 mod tests;
@@ -15,4 +14,3 @@ mod tree;
 pub use config::{TEXT_OCTETS, read_config};
 pub use fault::{ConfigError, ConfigFault};
 pub use laws::not_toml_is_exact;
-pub use peer::{read_peer, read_policy, read_word};

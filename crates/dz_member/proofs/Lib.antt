@@ -1,6 +1,7 @@
 pub mod AgainLemmas
 pub mod AnyOrderLemmas
 pub mod ChoiceLemmas
+pub mod DigitLemmas
 pub mod EachLemmas
 pub mod KeptLemmas
 pub mod LawLemmas

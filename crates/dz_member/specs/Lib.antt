@@ -4,6 +4,9 @@ pub mod Fold
 pub mod Laws
 pub mod Listing
 pub mod Membership
+pub mod Number
+pub mod Peer
+pub mod PeerExamples
 pub mod Process
 pub mod Sorting
 pub mod Twice

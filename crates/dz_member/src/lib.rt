@@ -11,6 +11,8 @@ mod laws;
 mod limits;
 mod listing;
 mod membership;
+mod number;
+mod peer;
 mod process;
 mod sorting;
 mod walking;
@@ -22,7 +24,11 @@ pub use laws::{changes_once, held_once, in_any_order, keeps_state, moves_with_co
 pub use limits::{CATALOG_GROUPS, CATALOGS, PRIMARIES, WORD_OCTETS, is_word};
 pub use listing::{Broken, Listing, Node, Texts};
 pub use membership::{Member, Membership};
+pub use number::read_number;
+pub use peer::{DNS_PORT, cut, read_host, read_peer, read_policy, read_word};
 pub use sorting::has_zone_twice;
 
 #[cfg(test)]
 mod tests;
+#[cfg(test)]
+mod tests_peer;

@@ -1,27 +1,14 @@
 -- Meaning: the texts of peers, policies and words.
-use Rattle.std.specs.Prelude.{ℕ, ◌+◌, ◌-◌, ◌*◌, Bool, false, ◌==◌, ◌&&◌, ◌||◌, not, nat_le, [], ◌∷◌, length, take, drop, position, fold, codes, Option, Some, None, option_map, if◌then◌else◌}
-use Rattle.std.specs.Char.{is_ascii_digit}
-use Rattle.std.specs.List.{list_all}
+use Rattle.std.specs.Prelude.{ℕ, ◌+◌, ◌==◌, nat_le, [], ◌∷◌, take, drop, position, codes, Option, Some, None, option_map, if◌then◌else◌}
 use Rattle.std.specs.Option.{option_and_then, option_map_or}
 use Rattle.std.specs.Str.{bytes_eq}
 use Rattle.dz_io.specs.declared.peer.Peer.{Peer}
 use Rattle.dz_member.specs.Config.{is_word}
+use Rattle.dz_member.specs.declared.peer.TheConstants.{DNS_PORT}
 use Rattle.dz_member.specs.declared.config.Policy.{Policy}
 use Rattle.dz_member.specs.declared.config.Policy.TheVariants.{Off, Present, Require}
+use Rattle.dz_member.specs.Number.{number_of}
 use Rattle.dz_name.specs.Words.{Octets}
-
--- the number that decimal digits spell
-abbrev pub value_of : Octets → ℕ
-value_of digits = fold (λ n digit. n * 10 + (digit - 48)) 0 digits
-
--- one digit or more, no zero in front of another
-abbrev pub is_decimal : Octets → Bool
-is_decimal [] = false
-is_decimal (digit ∷ digits) = list_all is_ascii_digit (digit ∷ digits) && (not (digit == 48) || length digits == 0)
-
--- a decimal number up to a most
-abbrev pub number_of : ℕ → Octets → Option ℕ
-number_of most text = if is_decimal text && nat_le (value_of text) most then Some (value_of text) else None
 
 -- what stands before the first such octet, and behind it
 abbrev pub cut : ℕ → Octets → Option (Octets × Octets)
@@ -43,13 +30,17 @@ address_of text =
 abbrev pub port_of : Octets → Option ℕ
 port_of text = option_and_then (λ port. if nat_le 1 port then Some port else None) (number_of 65535 text)
 
--- a peer: an address, and behind a colon its port; without one the port is 53
+-- a peer: an address, and behind a colon its port
 abbrev pub peer_from : Option Octets → Option ℕ → Option Peer
 peer_from (Some address) (Some port) = Some (record { address = address; port = port })
 peer_from _ _ = None
 
+-- an address alone is the peer at port 53
+abbrev pub host_of : Octets → Option Peer
+host_of text = peer_from (address_of text) (Some DNS_PORT)
+
 abbrev pub peer_of : Octets → Option Peer
-peer_of text = option_map_or (λ p. peer_from (address_of p.0) (port_of p.1)) (cut 58 text) (peer_from (address_of text) (Some 53))
+peer_of text = option_map_or (λ p. peer_from (address_of p.0) (port_of p.1)) (cut 58 text) (host_of text)
 
 -- a policy by its name
 abbrev pub policy_of : Octets → Option Policy

@@ -1,38 +1,42 @@
 //! The texts of peers, policies and words.
 
-ghost use Rattle.std.specs.Prelude.{◌≡◌, ◌==◌, ◌+◌, ◌<◌, ◌≤◌, IfOk, IfSome, option_map, min, length, drop, position};
-ghost use Rattle.std.specs.Char.{is_ascii_digit};
-ghost use Rattle.std.specs.List.{list_all};
-ghost use Rattle.dz_config.specs.Peer.{value_of, is_decimal, number_of, cut, numbers_of, address_of, port_of, peer_of, policy_of, word_of};
+ghost use Rattle.std.specs.Prelude.{◌≡◌, ◌==◌, ◌+◌, ◌<◌, IfOk, IfSome, option_map, length, drop, position};
+ghost use Rattle.dz_member.specs.Number.{number_of};
+ghost use Rattle.dz_member.specs.Peer.{cut, numbers_of, address_of, port_of, host_of, peer_of, policy_of, word_of};
 
+use crate::config::Policy;
+use crate::limits::is_word;
+use crate::number::read_number;
 use dz_io::Peer;
-use dz_member::{Policy, is_word};
 use dz_name::Octets;
 use std::alloc::{AllocError, Global};
 
 /// The port of a peer without one: that of DNS (RFC 1035 section 4.2).
-const PORT: u16 = 53;
-/// A number that is past every limit here.
-const PAST: u32 = 65_536;
+pub const DNS_PORT: u16 = 53;
 
 /// A peer: `a.b.c.d` or `a.b.c.d:port`, numbers without leading zeros, a port from 1 to 65535, or 53 where it is missing.
 pub fn read_peer(text: &[u8]) -> Option<Peer>
     ensures { result ≡ peer_of text.now }
 {
     match cut(b':', text) {
-        None => {
-            let address = read_address(text)?;
-            Some(Peer {
-                address,
-                port: PORT,
-            })
-        }
+        None => read_host(text),
         Some((before, behind)) => {
             let address = read_address(before)?;
             let port = read_port(behind)?;
             Some(Peer { address, port })
         }
     }
+}
+
+/// A peer by its address alone, `a.b.c.d`: at port 53.
+pub fn read_host(text: &[u8]) -> Option<Peer>
+    ensures { result ≡ host_of text.now }
+{
+    let address = read_address(text)?;
+    Some(Peer {
+        address,
+        port: DNS_PORT,
+    })
 }
 
 /// A policy by its name: `off`, `present` or `require`.
@@ -61,8 +65,8 @@ pub fn read_word(alloc: Global, text: &[u8]) -> Result<Option<Octets>, AllocErro
     Ok(Some(Octets::from_vec(word)))
 }
 
-/// What stands before the first such octet, and behind it.
-fn cut(octet: u8, text: &[u8]) -> Option<(&[u8], &[u8])>
+/// What stands before the first such octet, and behind it; none where there is no such octet.
+pub fn cut(octet: u8, text: &[u8]) -> Option<(&[u8], &[u8])>
     ensures { option_map (λ parts. (parts.0.now, parts.1.now)) result ≡ cut octet text.now }
 {
     match place_of(octet, text) {
@@ -136,45 +140,4 @@ fn read_port(text: &[u8]) -> Option<u16>
             }
         }
     }
-}
-
-/// A decimal number up to a most.
-fn read_number(most: u32, text: &[u8]) -> Option<u32>
-    requires { most ≤ 65535 }
-    ensures value { result ≡ number_of most text.now }
-    ensures within { IfSome result (λ number. number ≤ most) }
-{
-    let value = value_upto(text);
-    if is_decimal(text) && value <= most {
-        Some(value)
-    } else {
-        None
-    }
-}
-
-/// Whether it is one digit or more, and no zero in front of another.
-fn is_decimal(text: &[u8]) -> bool
-    ensures { result ≡ is_decimal text.now }
-{
-    match text.split_first() {
-        None => false,
-        Some((first, rest)) => { are_digits(text) && (*first != b'0' || rest.len() == 0) }
-    }
-}
-
-fn are_digits(text: &[u8]) -> bool
-    ensures { result ≡ list_all is_ascii_digit text.now }
-{
-    text.iter().all(|octet| octet.is_ascii_digit())
-}
-
-/// The number that digits spell, or 65536 where it is greater.
-fn value_upto(text: &[u8]) -> u32
-    ensures { result ≡ min (value_of text.now) PAST }
-{
-    let mut value: u32 = 0;
-    'digits: for digit in text {
-        value = (value * 10 + digit.saturating_sub(b'0') as u32).min(PAST);
-    }
-    value
 }
