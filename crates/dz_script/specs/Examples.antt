@@ -1,0 +1,112 @@
+-- Judge: lines that the checker computes.
+use Rattle.std.specs.Prelude.{◌≡◌, refl, ℕ, List, [], ◌∷◌, Some, None, codes}
+use Rattle.hex.specs.Hex.{decode_pairs}
+use Rattle.dz_io.specs.declared.peer.Peer.{Peer}
+use Rattle.dz_member.specs.declared.config.Policy.TheVariants.{Present, Require}
+use Rattle.dz_name.specs.Name.{wire_of}
+use Rattle.dz_name.specs.Text.{items, labels_from, with_label, name_of_text}
+use Rattle.dz_name.specs.Words.{Name}
+use Rattle.dz_request.specs.declared.frame.Transport.TheVariants.{Udp, Tcp}
+use Rattle.dz_script.specs.Hex.{octets_in, taken_octets}
+use Rattle.dz_script.specs.Line.{line_of}
+use Rattle.dz_script.specs.Settings.{peers_of, primaries_of}
+use Rattle.dz_script.specs.declared.line.Event.TheVariants.{Job, Take, Fail, Ask}
+use Rattle.dz_script.specs.declared.line.Line.TheVariants.{Skip, Catalog, Group, Event}
+
+abbrev catalog_example : Name
+catalog_example = codes "catalog" ∷ codes "example" ∷ []
+
+abbrev host : List ℕ → ℕ → Peer
+host address port = record { address = address; port = port }
+
+pub nothing : line_of [] ≡ Some Skip
+unfolding line_of
+nothing = refl
+
+pub a_comment : line_of (codes "# 1000 job") ≡ Some Skip
+unfolding line_of
+a_comment = refl
+
+pub a_catalog : line_of (codes "catalog Catalog.example. present 192.0.2.1,192.0.2.2:5353")
+    ≡ Some (Catalog (record { name = catalog_example; policy = Present; primaries = host (192 ∷ 0 ∷ 2 ∷ 1 ∷ []) 53 ∷ host (192 ∷ 0 ∷ 2 ∷ 2 ∷ []) 5353 ∷ []; groups = [] }))
+unfolding line_of name_of_text items labels_from with_label wire_of primaries_of peers_of
+a_catalog = refl
+
+pub a_group : line_of (codes "group catalog.example edge require 192.0.2.3")
+    ≡ Some (Group catalog_example (record { word = codes "edge"; policy = Require; primaries = host (192 ∷ 0 ∷ 2 ∷ 3 ∷ []) 53 ∷ [] }))
+unfolding line_of name_of_text items labels_from with_label wire_of primaries_of peers_of
+a_group = refl
+
+pub no_word : line_of (codes "group catalog.example require 192.0.2.3") ≡ None
+unfolding line_of name_of_text items labels_from with_label wire_of primaries_of peers_of
+no_word = refl
+
+pub nine_primaries : line_of (codes "catalog a off 1.1.1.1,1.1.1.1,1.1.1.1,1.1.1.1,1.1.1.1,1.1.1.1,1.1.1.1,1.1.1.1,1.1.1.1") ≡ None
+unfolding line_of name_of_text items labels_from with_label wire_of primaries_of peers_of
+nine_primaries = refl
+
+-- fields are cut before the escapes of a name are read
+pub an_escaped_space : line_of (codes "catalog a\\ b off 192.0.2.1") ≡ None
+unfolding line_of name_of_text items labels_from with_label wire_of primaries_of peers_of
+an_escaped_space = refl
+
+pub a_job : line_of (codes "1000 job") ≡ Some (Event 1000 Job)
+unfolding line_of
+a_job = refl
+
+pub the_last_moment : line_of (codes "1099511627775 job") ≡ Some (Event 1099511627775 Job)
+unfolding line_of
+the_last_moment = refl
+
+pub too_late : line_of (codes "1099511627776 job") ≡ None
+unfolding line_of
+too_late = refl
+
+pub two_spaces : line_of (codes "1000  job") ≡ None
+unfolding line_of
+two_spaces = refl
+
+pub a_space_at_the_end : line_of (codes "1000 job ") ≡ None
+unfolding line_of
+a_space_at_the_end = refl
+
+pub leading_zero : line_of (codes "01000 job") ≡ None
+unfolding line_of
+leading_zero = refl
+
+pub no_event : line_of (codes "1000 jump") ≡ None
+unfolding line_of
+no_event = refl
+
+pub a_take : line_of (codes "1000 take 1 00Ff") ≡ Some (Event 1000 (Take 1 (0 ∷ 255 ∷ [])))
+unfolding line_of taken_octets decode_pairs
+a_take = refl
+
+pub no_octets : line_of (codes "1000 take 2 -") ≡ Some (Event 1000 (Take 2 []))
+unfolding line_of taken_octets
+no_octets = refl
+
+pub odd_hex : line_of (codes "1000 udp 192.0.2.1 abc") ≡ None
+unfolding line_of octets_in
+odd_hex = refl
+
+pub a_fail : line_of (codes "1100 fail 18446744073709551615") ≡ Some (Event 1100 (Fail 18446744073709551615))
+unfolding line_of
+a_fail = refl
+
+pub over_udp : line_of (codes "1010 udp 192.0.2.1 0050") ≡ Some (Event 1010 (Ask Udp (host (192 ∷ 0 ∷ 2 ∷ 1 ∷ []) 53) (0 ∷ 80 ∷ [])))
+unfolding line_of octets_in decode_pairs
+over_udp = refl
+
+pub over_tcp : line_of (codes "1010 tcp 192.0.2.1 0050") ≡ Some (Event 1010 (Ask Tcp (host (192 ∷ 0 ∷ 2 ∷ 1 ∷ []) 53) (0 ∷ 80 ∷ [])))
+unfolding line_of octets_in decode_pairs
+over_tcp = refl
+
+-- an address has no port, and a request has an octet
+pub a_port : line_of (codes "1010 udp 192.0.2.1:53 0050") ≡ None
+unfolding line_of octets_in decode_pairs
+a_port = refl
+
+pub no_request : line_of (codes "1010 udp 192.0.2.1 -") ≡ None
+unfolding line_of octets_in decode_pairs
+no_request = refl
