@@ -2,3 +2,4 @@ pub mod EntryLemmas
 pub mod ChunkLemmas
 pub mod JoinLemmas
 pub mod UptoLemmas
+pub mod CutLemmas

@@ -8,6 +8,7 @@ ghost use Rattle.dz_chunks.specs.Map.{last_upto, without_key};
 ghost use Rattle.dz_chunks.specs.inner.Chunked.{flat, IsChunked};
 
 use crate::chunk::{Chunk, chunk_for, count_entries, last_among, push_chunk, value_among};
+use crate::cutting::cut;
 use crate::entries::{with_entry, without_entry};
 use crate::joins::rebuilt;
 use crate::share::Share;
@@ -104,6 +105,17 @@ impl<K: Ord + Copy, V> Chunks<K, V> {
         Chunks {
             chunks: Vec::new(alloc),
         }
+    }
+
+    /// The map of entries in ascending order of their keys, no two of one key, made in one pass over them.
+    pub fn from_sorted(alloc: Global, entries: Vec<(K, V)>) -> Result<Chunks<K, V>, AllocError>
+    where
+        V: Drop,
+        requires { IsTrue (is_sorted K.cmp entries.items) }
+        ensures { IfOk result (λ map. map ≡ entries.items) }
+    {
+        let chunks = cut(alloc, entries)?;
+        Ok(Chunks { chunks })
     }
 
     /// How many keys there are; past the end of `usize` it is that end.

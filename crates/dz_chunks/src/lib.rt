@@ -3,6 +3,7 @@
 
 mod chunk;
 mod chunks;
+mod cutting;
 mod entries;
 mod joins;
 mod laws;

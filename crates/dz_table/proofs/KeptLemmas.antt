@@ -1,10 +1,11 @@
 -- A table in a map: the words of the map are those of the table.
-use Rattle.std.proofs.Common.{◌≡◌, ℕ, false, List, [], ◌∷◌, refl, sym, ◌∙◌, ap, inl, inr}
+use Rattle.std.proofs.Common.{◌≡◌, ℕ, true, false, List, [], ◌∷◌, refl, sym, ◌∙◌, ap, inl, inr}
 use Rattle.std.specs.Prelude.{filter}
 use Rattle.std.specs.List.{AllByRecursion}
 use Rattle.std.specs.List.Sorted.{IsStrictlySortedBy}
 use Rattle.std.specs.Ordering.{is_lt, eq_by_cmp, ordering_reverse}
 use Rattle.std.specs.FinMap as fin
+use Rattle.std.specs.FinMap.Entries.{below_all}
 use Rattle.std.specs.declared.cmp.Ordering.{Ordering}
 use Rattle.std.specs.declared.cmp.Ordering.TheVariants.{Less, Equal, Greater}
 use Rattle.std.proofs.lemmas.Bool.{cases_Bool}
@@ -110,3 +111,22 @@ without_slots entries new slots zone is view e =
 pub found_kept : (entries : List (List (List ℕ) × SlotOf)) (slots : List SlotOf) (zone : List (List ℕ)) → IsKept entries → slots_of entries ≡ slots → fin.find canonical_order zone entries ≡ slot_of zone slots
 found_kept entries slots zone is view =
     ap (fin.find canonical_order zone) is.keyed ∙ (find_entries zone (slots_of entries) ∙ ap (slot_of zone) view)
+
+-- slots in order make a map
+below : (zone : List (List ℕ)) (slots : List SlotOf) → AllByRecursion (λ s. canonical_order zone s.zone ≡ Less) slots → below_all canonical_order zone (entries_of slots) ≡ true
+below zone [] h = refl
+below zone (s ∷ slots) h = rw (h.0, below zone slots h.1) refl
+
+pub sorted_entries : (slots : List SlotOf) → IsTable slots → fin.is_sorted canonical_order (entries_of slots) ≡ true
+unfolding IsStrictlySortedBy
+sorted_entries [] up = refl
+sorted_entries (s ∷ slots) up = rw (below s.zone slots up.0, sorted_entries slots up.1) refl
+
+pub kept_slots : (slots : List SlotOf) (entries : List (List (List ℕ) × SlotOf)) → IsTable slots → entries ≡ entries_of slots → IsKept entries
+kept_slots slots entries up e = record {
+  keyed = e ∙ ap entries_of (sym (slots_back slots) ∙ ap slots_of (sym e));
+  order = rw (ap slots_of e ∙ slots_back slots) up;
+}
+
+pub slots_are : (slots : List SlotOf) (entries : List (List (List ℕ) × SlotOf)) → entries ≡ entries_of slots → slots_of entries ≡ slots
+slots_are slots entries e = ap slots_of e ∙ slots_back slots

@@ -81,9 +81,20 @@ impl Slot {
 
     /// The version as slots share it: a clone of the handle is one more owner of the same records.
     pub fn shared_version(&self) -> Option<&Arc<Version>>
-        ensures { option_map (λ r. r.now.value) result ≡ self.now.version }
+        ensures version { option_map (λ r. r.now.value) result ≡ self.now.version }
+        ensures valid { IsSlot self.now }
     {
         self.version.as_ref()
+    }
+
+    /// The same slot, refreshed at another moment in seconds, below 2^40. It shares the version.
+    pub fn refreshed_at(&self, moment: u64) -> Result<Slot, AllocError>
+        requires { moment < 2 ^ 40 }
+        ensures { IfOk result (λ s. s ≡ record self.now { refreshed = moment }) }
+    {
+        let mut slot = self.share()?;
+        slot.refreshed = moment;
+        Ok(slot)
     }
 
     /// Whether the version may answer at a moment in seconds: one is held, and fewer than EXPIRE seconds have passed

@@ -3,12 +3,13 @@
 ghost use Rattle.std.specs.Prelude.{◌≡◌, ◌≢◌, ◌≤◌, ◌+◌, ◌/◌, [], Some, None, IfOk, length, option_map};
 ghost use Rattle.dz_name.specs.Words.{Name};
 ghost use Rattle.dz_table.specs.Table.{IsTable, IsClosest, put, without, slot_of, closest};
+ghost use Rattle.dz_table.specs.inner.Kept.{entries_of};
 
 use crate::shared::labels_apart;
 use crate::slot::Slot;
 use crate::slots::Slots;
 use crate::zone_key::ZoneKey;
-use dz_chunks::Chunks;
+use dz_chunks::{Chunks, Share};
 use dz_name::Name;
 use dz_steps::Steps;
 use std::alloc::{AllocError, Global};
@@ -42,6 +43,16 @@ impl Table {
         Table {
             slots: Chunks::empty(alloc),
         }
+    }
+
+    /// The table of slots in the canonical order of their zones, made in one pass over them. It shares their versions.
+    pub fn from_slots(alloc: Global, slots: &[Slot]) -> Result<Table, AllocError>
+        requires { IsTable slots.now }
+        ensures { IfOk result (λ t. t ≡ slots.now) }
+    {
+        let entries = keyed(alloc, slots)?;
+        let slots = Chunks::from_sorted(alloc, entries)?;
+        Ok(Table { slots })
     }
 
     /// The slots, in the canonical order of their zones.
@@ -112,4 +123,15 @@ impl Table {
             asked = asked.ancestor(labels_apart(&asked, zone));
         }
     }
+}
+
+/// Slots, each behind the key of its zone.
+fn keyed(alloc: Global, slots: &[Slot]) -> Result<Vec<(ZoneKey, Slot)>, AllocError>
+    ensures { IfOk result (λ entries. entries.items ≡ entries_of slots.now) }
+{
+    let mut entries = Vec::with_capacity(alloc, slots.len())?;
+    'slots: for slot in slots {
+        entries.push((ZoneKey::of(slot.zone()), slot.share()?))?;
+    }
+    Ok(entries)
 }

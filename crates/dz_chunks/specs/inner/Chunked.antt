@@ -20,6 +20,11 @@ abbrev pub AreChunks : {A : Type 0} → List (List A) → Type 0
 AreChunks [] = Unit {0}
 AreChunks (c ∷ cs) = (1 ≤ length c) × (length c ≤ 128) × Joined c cs × AreChunks cs
 
+-- each chunk has 128 entries
+abbrev pub AreFull : {A : Type 0} → List (List A) → Type 0
+AreFull [] = Unit {0}
+AreFull (c ∷ cs) = (length c ≡ 128) × AreFull cs
+
 -- how many entries the chunk at a place has, and the one before it. Where there is none, 128: nothing is joined with it
 abbrev pub length_at : {A : Type 0} → List (List A) → ℕ → ℕ
 length_at [] at = 128

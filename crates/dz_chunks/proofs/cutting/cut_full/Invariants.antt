@@ -1,0 +1,13 @@
+use Rattle.std.proofs.Common.{◌≡◌, ◌++◌, map, reverse, length, ℕ}
+use Rattle.std.specs.Arc.{arc_value}
+use Rattle.dz_chunks.specs.inner.Chunked.{flat, AreFull}
+use Rattle.dz_chunks.proofs.cutting.cut_full.Given as goal
+
+abbrev pub invariant-chunks : goal.invariant-chunks
+invariant-chunks g l = record {
+  entries : l.rest.items ++ flat (reverse (map arc_value l.chunks.items)) ≡ l.fn.rest.items;
+  full : AreFull (reverse (map arc_value l.chunks.items));
+}
+
+abbrev pub decreases-chunks : goal.decreases-chunks
+decreases-chunks g l = length l.rest.items

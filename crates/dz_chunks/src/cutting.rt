@@ -1,0 +1,64 @@
+//! Chunks of many entries at once.
+
+ghost use Rattle.std.specs.Prelude.{◌≡◌, ◌≤◌, [], ◌++◌, length, map, reverse, OnOk, IfOk};
+ghost use Rattle.std.specs.Arc.{arc_value};
+ghost use Rattle.dz_chunks.specs.inner.Chunked.{flat, AreChunks, AreFull};
+
+use crate::chunk::{CHUNK, Chunk, push_chunk};
+use std::alloc::{AllocError, Global};
+use std::sync::Arc;
+
+/// Entries cut into chunks: from the end on full ones, and in front those that are left.
+pub(crate) fn cut<K: Copy, V: Drop>(
+    alloc: Global,
+    entries: Vec<(K, V)>,
+) -> Result<Vec<Arc<Chunk<K, V>>>, AllocError>
+    ensures entries { IfOk result (λ v. flat (map arc_value v.items) ≡ entries.items) }
+    ensures sized { IfOk result (λ v. AreChunks (map arc_value v.items)) }
+{
+    let mut chunks = Vec::new(alloc);
+    let mut rest = entries;
+    cut_full(alloc, &mut rest, &mut chunks)?;
+    push_first(alloc, rest, &mut chunks)?;
+    chunks.reverse();
+    Ok(chunks)
+}
+
+/// Takes full chunks away from the end of entries, and puts them behind one another, the last first.
+fn cut_full<K: Copy, V: Drop>(
+    alloc: Global,
+    rest: &mut Vec<(K, V)>,
+    chunks: &mut Vec<Arc<Chunk<K, V>>>,
+) -> Result<(), AllocError>
+    requires none { chunks.old.items ≡ [] }
+    ensures entries { OnOk result (rest.new.items ++ flat (reverse (map arc_value chunks.new.items))
+        ≡ rest.old.items) }
+    ensures full { OnOk result (AreFull (reverse (map arc_value chunks.new.items))) }
+    ensures few { OnOk result (length rest.new.items ≤ 128) }
+{
+    'chunks: while CHUNK < rest.len() {
+        let last = rest.split_off(rest.len() - CHUNK)?;
+        push_chunk(alloc, chunks, last)?;
+    }
+    Ok(())
+}
+
+/// A chunk of the entries in front, if there are some, behind full ones that stand the last first.
+fn push_first<K: Copy, V: Drop>(
+    alloc: Global,
+    mut first: Vec<(K, V)>,
+    chunks: &mut Vec<Arc<Chunk<K, V>>>,
+) -> Result<(), AllocError>
+    requires few { length first.items ≤ 128 }
+    requires full { AreFull (reverse (map arc_value chunks.old.items)) }
+    ensures entries { OnOk result (flat (reverse (map arc_value chunks.new.items))
+        ≡ first.items ++ flat (reverse (map arc_value chunks.old.items))) }
+    ensures sized { OnOk result (AreChunks (reverse (map arc_value chunks.new.items))) }
+{
+    if first.is_empty() {
+        return Ok(());
+    }
+    first.shrink_to_fit();
+    push_chunk(alloc, chunks, first)?;
+    Ok(())
+}
