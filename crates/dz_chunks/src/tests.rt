@@ -124,6 +124,9 @@ fn change<L: Ledger>(rt: &impl Abort, alloc: Global, blank: Blank) -> Result<(),
         &[(3, 30), (5, 55)],
     );
     assert!(rt; two.get(&4).is_none());
+    assert!(rt; two.last_upto(&4) == Some((&3, &30)), "the one before");
+    assert!(rt; two.last_upto(&5) == Some((&5, &55)), "the key itself");
+    assert!(rt; two.last_upto(&2).is_none(), "all come after");
     Ok(())
 }
 
