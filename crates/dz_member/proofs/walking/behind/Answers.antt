@@ -1,4 +1,4 @@
-use Rattle.std.proofs.Common.{refl, arith, ap, length, ◌∙◌}
+use Rattle.std.proofs.Common.{refl, arith, ap, length}
 use Rattle.dz_member.proofs.PlaceLemmas.{none_behind}
 use Rattle.dz_member.proofs.walking.behind.Goals.{else-taken-via-then-taken+else-at-nodes, else-taken-via-else-taken}
 use Rattle.dz_member.proofs.walking.behind.Goals as goal
