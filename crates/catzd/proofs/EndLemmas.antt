@@ -11,11 +11,13 @@ use Rattle.dz_io.specs.declared.run.ScriptError.{ScriptError}
 use Rattle.dz_io.specs.declared.run.ScriptError.TheVariants as errors
 use Rattle.dz_name.specs.Words.{Name, Octets}
 use Rattle.dz_table.specs.Slot.{SlotOf}
-use Rattle.catzd.specs.Answering.{State, is_skipped, transfer_of, answer_rules, answer_turn, line_turn, zone_turn, taking_turn, request_turn}
+use Rattle.dz_script.specs.Hex.{octets_in}
+use Rattle.dz_script.specs.Line.{is_skipped}
+use Rattle.catzd.specs.Answering.{State, transfer_of, answer_rules, answer_turn, line_turn, zone_turn, taking_turn, request_turn}
 use Rattle.dz_message.specs.Frame.{frame}
 use Rattle.dz_take.specs.Outcome.{outcome}
 use Rattle.dz_take.specs.Transfer.{Decision, up_to_date, new, refused}
-use Rattle.catzd.specs.ZoneLine.{octets_in, zone_line}
+use Rattle.catzd.specs.ZoneLine.{zone_line}
 use Rattle.catzd.specs.Running.{status_of, Answers}
 use Rattle.catzd.specs.declared.answering.End.{End}
 use Rattle.catzd.specs.declared.answering.End.TheVariants as endings

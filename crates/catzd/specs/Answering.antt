@@ -1,6 +1,5 @@
 -- Meaning: what `answer` writes: a zone is taken from the first line, and each further line is a request over UDP at moment 0.
-use Rattle.std.specs.Prelude.{ℕ, ◌==◌, ◌||◌, Bool, false, nat_eq, List, [], ◌∷◌, ◌++◌, length, codes, decimal, Option, Some, None, if◌then◌else◌}
-use Rattle.std.specs.List.{starts_with}
+use Rattle.std.specs.Prelude.{ℕ, false, List, [], ◌∷◌, ◌++◌, codes, decimal, Option, Some, None, if◌then◌else◌}
 use Rattle.std.specs.Option.{option_and_then, option_map_or}
 use Rattle.hex.specs.Hex.{encode_lower}
 use Rattle.dz_io.specs.Script.{Turn, goes_on, ends, Said, Rules}
@@ -17,8 +16,10 @@ use Rattle.dz_take.specs.declared.outcome.TakeFault.{TakeFault}
 use Rattle.catzd.specs.Reason.{reason_of}
 use Rattle.catzd.specs.declared.answering.End.{End}
 use Rattle.catzd.specs.declared.answering.End.TheVariants.{Done, BadInput}
-use Rattle.catzd.specs.ZoneLine.{octets_in, zone_line}
+use Rattle.catzd.specs.ZoneLine.{zone_line}
 use Rattle.dz_name.specs.Words.{Name, Octets}
+use Rattle.dz_script.specs.Hex.{octets_in}
+use Rattle.dz_script.specs.Line.{is_skipped}
 
 -- what `answer` goes on with: the table, once the zone is there
 abbrev pub State : Type 0
@@ -30,10 +31,6 @@ numbered_line word number = word ++ (decimal number ++ (10 ∷ []))
 
 abbrev pub bad : ℕ → Octets
 bad number = numbered_line (codes "bad ") number
-
--- an empty line, or one that begins with `#`
-abbrev pub is_skipped : Octets → Bool
-is_skipped line = length line == 0 || starts_with nat_eq line (codes "#")
 
 abbrev pub serial_of : Zone → ℕ
 serial_of zone = option_map_or (λ soa. soa.serial) (option_and_then soa_of (apex_soa zone)) 0

@@ -2,7 +2,7 @@
 use Rattle.std.specs.Prelude.{◌≡◌, refl, [], ◌∷◌, codes, true, false}
 use Rattle.catzd.specs.declared.words.Command.TheVariants.{Answer, Later, Wrong}
 use Rattle.catzd.specs.Words.{command_of}
-use Rattle.catzd.specs.Answering.{is_skipped}
+use Rattle.dz_script.specs.Line.{is_skipped}
 
 pub the_word_answer : command_of (codes "answer" ∷ []) ≡ Answer
 the_word_answer = refl

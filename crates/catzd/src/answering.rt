@@ -11,14 +11,16 @@ ghost use Rattle.dz_message.specs.Frame.{frame};
 ghost use Rattle.dz_take.specs.Fit.{Fits};
 ghost use Rattle.dz_take.specs.Outcome.{outcome};
 ghost use Rattle.dz_take.specs.Taken.{meaning_of};
-ghost use Rattle.catzd.specs.Answering.{numbered_line, is_skipped, transfer_of, refusal, slot_for, taking_turn, zone_turn, reply_text, request_turn, line_turn, answer_turn, turn_from};
-ghost use Rattle.catzd.specs.ZoneLine.{octets_in, zone_line};
+ghost use Rattle.dz_script.specs.Hex.{octets_in};
+ghost use Rattle.catzd.specs.Answering.{numbered_line, transfer_of, refusal, slot_for, taking_turn, zone_turn, reply_text, request_turn, line_turn, answer_turn, turn_from};
+ghost use Rattle.catzd.specs.ZoneLine.{zone_line};
 
 use crate::reason::{joined, numbered, reason_of};
-use crate::zone_line::{read_octets, read_zone_line};
+use crate::zone_line::read_zone_line;
 use dz_header::ReplyBuffer;
 use dz_name::Name;
 use dz_reply::{Transport, Turn, reply_into};
+use dz_script::{is_skipped, read_octets};
 use dz_steps::Steps;
 use dz_table::{Slot, Table};
 use dz_take::{Ask, Finished, Outcome, TakeFault, Taking};
@@ -278,10 +280,4 @@ pub fn numbered_line(alloc: Global, word: &[u8], number: u64) -> Result<Vec<u8>,
     let mut text = numbered(alloc, word, number)?;
     text.push(b'\n')?;
     Ok(text)
-}
-
-fn is_skipped(line: &[u8]) -> bool
-    ensures { result ≡ is_skipped line.now }
-{
-    line.is_empty() || line.starts_with(b"#")
 }
