@@ -1,8 +1,8 @@
 -- In a zone in order the records of a node's properties stand right behind the node's own.
 use Rattle.std.proofs.Common.{◌≡◌, ℕ, ◌+◌, ◌<◌, Bool, true, false, cond, List, [], ◌∷◌, ◌++◌, length, take, drop, get_or, refl, sym, ◌∙◌, ap, subst, arith, inl, inr, zero, suc, add-one}
-use Rattle.std.specs.Prelude.{filter, find, map, ◌==◌, ◌&&◌, slice_get, Option, Some, None, if◌then◌else◌}
+use Rattle.std.specs.Prelude.{filter, find, map, ◌==◌, slice_get, Option, Some, None, if◌then◌else◌}
 use Rattle.std.specs.Option.{option_map, option_and_then}
-use Rattle.std.specs.List.{AllByRecursion, take_while, filter_map, cons_option}
+use Rattle.std.specs.List.{AllByRecursion, filter_map, cons_option}
 use Rattle.std.specs.Option.{option_to_list}
 use Rattle.std.specs.List.Sorted.{IsStrictlySortedBy}
 use Rattle.std.specs.Ordering.{is_lt, is_gt, ordering_then, ordering_reverse}
@@ -24,7 +24,7 @@ use Rattle.dz_lookup.proofs.Within.{within_not_less, between_within}
 use Rattle.dz_lookup.specs.inner.Places.{from_key}
 use Rattle.std.specs.Ordering.{is_eq}
 use Rattle.dz_member.specs.declared.listing.Node.{Node}
-use Rattle.dz_catalog.specs.Member.{node_of, coo_of, groups_of, is_member, coo_name, group_name}
+use Rattle.dz_catalog.specs.Member.{node_of, coo_of, groups_of, is_member, coo_name}
 use Rattle.dz_catalog.specs.inner.Below.{below, is_at, coo_among, groups_among, node_among, node_behind}
 
 pub not_greater : (o p q : Ordering) → ordering_then (ordering_then o p) q ≡ Less → is_gt o ≡ false

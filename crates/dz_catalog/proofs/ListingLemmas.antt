@@ -1,7 +1,7 @@
 -- The nodes of a catalog that isn't broken make a listing.
-use Rattle.std.proofs.Common.{◌≡◌, ℕ, ◌+◌, ◌≤◌, ◌<◌, Bool, true, false, cond, List, [], ◌∷◌, ◌++◌, length, map, reverse, refl, sym, ◌∙◌, ap, arith, inl, inr, suc}
-use Rattle.std.specs.Prelude.{filter, ◌==◌, ◌&&◌, ◌||◌, nat_lt, Option, Some, None, Result, Ok, Err, if◌then◌else◌}
-use Rattle.std.specs.Option.{option_map, option_and_then, option_map_or, option_or}
+use Rattle.std.proofs.Common.{◌≡◌, ℕ, ◌+◌, ◌≤◌, Bool, true, false, cond, List, [], ◌∷◌, ◌++◌, length, map, reverse, refl, sym, ◌∙◌, ap, arith, inl, inr}
+use Rattle.std.specs.Prelude.{◌==◌, nat_lt, Option, Some, None, Ok, Err, if◌then◌else◌}
+use Rattle.std.specs.Option.{option_map_or}
 use Rattle.std.specs.List.{AllByRecursion, filter_map, cons_option, list_any, count_by}
 use Rattle.std.specs.List.Sorted.{IsStrictlySortedBy}
 use Rattle.std.specs.Ordering.{nat_cmp, ordering_then}
@@ -16,19 +16,17 @@ use Rattle.std.proofs.lemmas.Cmp.{nat_list_cmp_total}
 use Rattle.std.proofs.lemmas.List.{reverse-append}
 use Rattle.std.proofs.lemmas.List.Sums.{sum_by-cons}
 use Rattle.std.proofs.lemmas.Map.Keys.{sorted_head, sorted_tail}
-use Rattle.dz_name.specs.Name.{canonical_order, label_order, same_name, first_label, parent_of}
-use Rattle.dz_name.specs.Order.{canonical_total, same_decides, label_order_decides}
+use Rattle.dz_name.specs.Name.{canonical_order, label_order, first_label}
+use Rattle.dz_name.specs.Order.{same_decides}
 use Rattle.dz_record.specs.Record.{Record, record_order, target_of}
-use Rattle.dz_record.specs.Records.{in_order}
 use Rattle.dz_zone.specs.Valid.{some_two, both_are}
 use Rattle.dz_lookup.proofs.InOrder.{in_order_stays}
-use Rattle.dz_member.specs.Listing.{IsListing, same_zone}
-use Rattle.dz_member.specs.Twice.{has_twice}
+use Rattle.dz_member.specs.Listing.{IsListing}
 use Rattle.dz_member.specs.declared.listing.Node.{Node}
 use Rattle.dz_member.specs.declared.listing.Broken.{Broken}
 use Rattle.dz_member.specs.declared.listing.Broken.TheVariants.{NoVersion, VersionTwice, OtherVersion, MemberTwice, CooTwice, TooManyMembers, ZoneTwice}
-use Rattle.dz_catalog.specs.Broken.{no_version, version_twice, other_version, twins, member_twice, coo_twice, too_many, zone_twice, broken_records, broken_of}
-use Rattle.dz_catalog.specs.Listing.{listing_of, listing_from}
+use Rattle.dz_catalog.specs.Broken.{no_version, version_twice, other_version, twins, member_twice, coo_twice, too_many, zone_twice, broken_records}
+use Rattle.dz_catalog.specs.Listing.{listing_of}
 use Rattle.dz_catalog.specs.Member.{is_node, is_member, node_of, nodes_of, zones_of}
 
 then_equal : (o : Ordering) → ordering_then o Equal ≡ o

@@ -1,5 +1,5 @@
 -- Parts of names.
-use Rattle.std.proofs.Common.{◌≡◌, ℕ, List, [], ◌∷◌, length, drop, get_or, refl, sym, ◌∙◌, ap, arith, ◌≢◌, ◌<◌, ◌≤◌, ◌++◌, length-append, inl, inr}
+use Rattle.std.proofs.Common.{◌≡◌, ℕ, List, [], ◌∷◌, length, drop, get_or, refl, ◌∙◌, ap, arith, ◌≢◌, ◌<◌, ◌≤◌, length-append, inl, inr}
 use Rattle.std.specs.Prelude.{Some, MatchBool, ◌==◌}
 use Rattle.std.proofs.lemmas.Bool.{cases_Bool}
 use Rattle.std.proofs.lemmas.Bool.Decides.{nat_tests}

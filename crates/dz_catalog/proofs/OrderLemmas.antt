@@ -1,22 +1,22 @@
 -- Lists of records that are the same in order give the same listing.
 use Rattle.std.proofs.Common.{◌≡◌, ℕ, Bool, true, false, List, [], ◌∷◌, refl, sym, ◌∙◌, ap, inl, inr}
-use Rattle.std.specs.Prelude.{filter, ◌==◌, ◌&&◌, not, map, cond, slice_get, Option, Some, None, if◌then◌else◌, length}
-use Rattle.std.specs.Option.{option_map, option_and_then, option_or}
-use Rattle.std.specs.List.{filter_map, list_any, count_by}
+use Rattle.std.specs.Prelude.{filter, ◌&&◌, not, map, cond, slice_get, Option, None, if◌then◌else◌}
+use Rattle.std.specs.Option.{option_map, option_and_then}
+use Rattle.std.specs.List.{filter_map}
 use Rattle.std.specs.List.Sorted.{ties}
 use Rattle.std.proofs.lemmas.Bool.{cases_Bool}
 use Rattle.dz_name.specs.Name.{same_name, same_label, first_label}
-use Rattle.dz_record.specs.Record.{Record, record_order, target_of}
+use Rattle.dz_record.specs.Record.{Record, target_of}
 use Rattle.dz_record.specs.Records.{in_order}
-use Rattle.dz_zone.specs.Valid.{some_two, both_are}
+use Rattle.dz_zone.specs.Valid.{both_are}
 use Rattle.dz_zone.proofs.RecordLemmas.{before, before_ranks, in_order_puts}
 use Rattle.dz_zone.proofs.Ordered.{puts, alike, ascends_puts, puts_keep}
-use Rattle.dz_zone.proofs.Pairs.{any_puts, sum_puts, two_puts, ascends_filter}
+use Rattle.dz_zone.proofs.Pairs.{any_puts, sum_puts, two_puts}
 use Rattle.dz_zone.proofs.FaultLemmas.{both_back}
 use Rattle.dz_lookup.specs.Runs.{of_type, records_of}
 use Rattle.dz_member.specs.declared.listing.Node.{Node}
 use Rattle.dz_catalog.specs.Broken.{is_version, twins, version_2, broken_records}
-use Rattle.dz_catalog.specs.Listing.{listing_of, listing_from}
+use Rattle.dz_catalog.specs.Listing.{listing_of}
 use Rattle.dz_catalog.proofs.TwinLemmas.{one_owner}
 use Rattle.dz_catalog.specs.Member.{is_node, is_coo, is_member, node_of, nodes_of, coo_of, groups_of, coo_name, group_name}
 

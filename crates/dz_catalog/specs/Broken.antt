@@ -1,6 +1,6 @@
 -- Meaning: what is wrong with a catalog zone (RFC 9432 sections 4.1, 4.2.1 and 4.3.1). The records of the zone stand in
 -- any order, and no two of them are the same.
-use Rattle.std.specs.Prelude.{Bool, ◌==◌, ◌&&◌, not, nat_lt, List, ◌∷◌, [], codes, Option, Some, None, if◌then◌else◌}
+use Rattle.std.specs.Prelude.{Bool, ◌==◌, ◌&&◌, not, nat_lt, List, ◌∷◌, codes, Option, Some, None, if◌then◌else◌}
 use Rattle.std.specs.List.{list_any, count_by}
 use Rattle.std.specs.Option.{option_or}
 use Rattle.dz_name.specs.Name.{same_name, same_label}

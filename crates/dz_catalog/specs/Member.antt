@@ -1,10 +1,10 @@
 -- Meaning: the member nodes of a catalog zone and their properties (RFC 9432 sections 4.1 and 4.3). The records of the
 -- zone stand in any order.
-use Rattle.std.specs.Prelude.{Bool, false, ◌==◌, ◌&&◌, List, ◌∷◌, map, filter, codes, slice_get, Option, None, if◌then◌else◌}
+use Rattle.std.specs.Prelude.{Bool, false, ◌==◌, ◌&&◌, List, ◌∷◌, map, codes, slice_get, Option, None, if◌then◌else◌}
 use Rattle.std.specs.List.{filter_map}
 use Rattle.std.specs.Option.{option_map, option_map_or, option_and_then}
 use Rattle.dz_name.specs.Name.{same_name, same_label, first_label, parent_of}
-use Rattle.dz_name.specs.Words.{Kind, Name, Octets}
+use Rattle.dz_name.specs.Words.{Name, Octets}
 use Rattle.dz_name.specs.declared.dns.TheConstants.{TYPE_PTR, TYPE_TXT}
 use Rattle.dz_record.specs.Record.{Record, target_of}
 use Rattle.dz_record.specs.Records.{in_order}

@@ -10,8 +10,8 @@ ghost use Rattle.dz_catalog.specs.Member.{is_node, is_coo, is_member};
 ghost use Rattle.dz_catalog.specs.Broken.{is_version, no_version, version_twice, other_version, version_name, version_2, twins, member_twice, coo_twice, broken_records};
 
 use crate::names::{is_coo, is_node};
-use dz_member::{Broken, Listing};
 use dz_lookup::rrset_of;
+use dz_member::{Broken, Listing};
 use dz_name::dns::{TYPE_PTR, TYPE_TXT};
 use dz_name::{Label, Name};
 use dz_record::Rr;

@@ -1,5 +1,3 @@
-use Rattle.std.proofs.Common.{◌≡◌, ◌∙◌, ap, refl}
-use Rattle.dz_catalog.specs.Broken.{version_name}
 use Rattle.dz_catalog.proofs.VersionLemmas.{kept_rrset, kept_none}
 use Rattle.dz_catalog.proofs.judging.versions.Goals as goal
 

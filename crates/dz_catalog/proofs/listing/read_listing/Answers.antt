@@ -1,4 +1,3 @@
-use Rattle.std.proofs.Common.{sym, ◌∙◌, ap}
 use Rattle.dz_catalog.proofs.ListingLemmas.{reads_broken}
 use Rattle.dz_catalog.proofs.listing.read_listing.Goals as goal
 

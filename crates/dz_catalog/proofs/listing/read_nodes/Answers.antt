@@ -1,6 +1,3 @@
-use Rattle.std.proofs.Common.{◌≡◌, Some, None}
-use Rattle.std.specs.Prelude.{MatchOption}
-use Rattle.dz_member.specs.Listing.{IsListing}
 use Rattle.dz_catalog.proofs.ListingLemmas.{reads_none, reads_nodes}
 use Rattle.dz_catalog.proofs.listing.read_nodes.Goals as goal
 
