@@ -21,7 +21,8 @@ pub fn write_notify_reply(request: &[u8], heard: Heard, buffer: &mut ReplyBuffer
     ensures reply { IsWritten result buffer.new.reply.writing (notify_reply_of request.now heard) }
     ensures none { IsNone result ↔ heard ≡ Heard.Stranger }
     ensures size { IfSome result (λ count. count ≤ UDP_OCTETS) }
-    ensures reads_back { (text : Octets) → buffer.new.reply.writing.octets ≡ Some text → IsSome result → ReadsBack request.now heard text }
+    ensures reads_back { (text : Octets) → buffer.new.reply.writing.octets ≡ Some text →
+        IsSome result → ReadsBack request.now heard text }
     ensures kept { IsNone result → buffer.new ≡ buffer.old }
     ensures request { buffer.new.request ≡ buffer.old.request }
 {
@@ -34,7 +35,8 @@ pub fn notify_reply_to(request: &[u8], heard: Heard, writer: &mut Writer) -> Opt
     ensures reply { IsWritten result writer.new.writing (notify_reply_of request.now heard) }
     ensures none { IsNone result ↔ heard ≡ Heard.Stranger }
     ensures size { IfSome result (λ count. count ≤ UDP_OCTETS) }
-    ensures reads_back { (text : Octets) → writer.new.writing.octets ≡ Some text → IsSome result → ReadsBack request.now heard text }
+    ensures reads_back { (text : Octets) → writer.new.writing.octets ≡ Some text →
+        IsSome result → ReadsBack request.now heard text }
     ensures kept { IsNone result → writer.new ≡ writer.old }
 {
     let code = code_for(heard)?;

@@ -43,7 +43,8 @@ impl<'a> Fields<'a> {
 
     /// The first field, and those behind it.
     pub fn split_first(self) -> Option<(&'a [u8], Fields<'a>)>
-        ensures { MatchOption result (self.entry ≡ []) (λ parts. self.entry ≡ parts.0.now ∷ parts.1) }
+        ensures { MatchOption result (self.entry ≡ [])
+            (λ parts. self.entry ≡ parts.0.now ∷ parts.1) }
     {
         let separator = self.separator;
         let text = self.rest?;

@@ -30,7 +30,8 @@ fn read_catalog_from(
     policy: &[u8],
     primaries: &[u8],
 ) -> Result<Option<CatalogSettings>, AllocError>
-    ensures { IfOk result (λ settings. settings ≡ catalog_from (name_of name.now) (policy_of policy.now) (primaries_of primaries.now)) }
+    ensures { IfOk result (λ settings. settings ≡
+        catalog_from (name_of name.now) (policy_of policy.now) (primaries_of primaries.now)) }
 {
     let Some(name) = read_name(name) else {
         return Ok(None);
@@ -87,7 +88,8 @@ fn read_group_from(
     policy: &[u8],
     primaries: &[u8],
 ) -> Result<Option<GroupSettings>, AllocError>
-    ensures { IfOk result (λ settings. settings ≡ group_from (word_of word.now) (policy_of policy.now) (primaries_of primaries.now)) }
+    ensures { IfOk result (λ settings. settings ≡
+        group_from (word_of word.now) (policy_of policy.now) (primaries_of primaries.now)) }
 {
     let Some(policy) = read_policy(policy) else {
         return Ok(None);
