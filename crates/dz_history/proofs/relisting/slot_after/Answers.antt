@@ -1,0 +1,21 @@
+use Rattle.std.proofs.Common.{sym, ◌∙◌}
+use Rattle.std.proofs.lemmas.Result.{IfOk-weaker}
+use Rattle.dz_member.specs.Membership.{shown}
+use Rattle.dz_history.proofs.SlotLemmas.{slot_same, slot_again, slot_new}
+use Rattle.dz_history.proofs.relisting.slot_after.Goals as goal
+
+pub returns-then-incarnation-membership : goal.returns-then-incarnation-membership
+returns-then-incarnation-membership c =
+    let m = shown c.args.before.now.fold.config c.args.membership.now in
+    let found = rw c.fold.ensures.fold at c.in-Some.ensures in
+    let same = slot_same c.args.before.now m c.in-Some.member found (sym c.incarnation.ensures ∙ c.if-incarnation-membership.true) in
+    IfOk-weaker c.same_slot.result _ _ (λ x e. e ∙ sym same) (rw (c.deref.ensures, c.table.ensures) at c.same_slot.ensures)
+
+pub returns-else-incarnation-membership : goal.returns-else-incarnation-membership
+returns-else-incarnation-membership c =
+    let m = shown c.args.before.now.fold.config c.args.membership.now in
+    c.new.ensures ∙ sym (slot_again c.args.before.now m c.in-Some.member (rw c.fold.ensures.fold at c.in-Some.ensures) (λ e. c.if-incarnation-membership.false (c.incarnation.ensures ∙ e)))
+
+pub returns-in-None : goal.returns-in-None
+returns-in-None c =
+    c.new-in-None.ensures ∙ sym (slot_new c.args.before.now (shown c.args.before.now.fold.config c.args.membership.now) (rw c.fold.ensures.fold at c.in-None.ensures))

@@ -1,0 +1,7 @@
+pub mod After
+pub mod Ended
+pub mod Examples
+pub mod Laws
+pub mod Legal
+pub mod State
+pub mod inner

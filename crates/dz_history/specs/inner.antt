@@ -1,0 +1,2 @@
+-- Inner: how the code keeps the list.
+pub mod Entries

@@ -1,0 +1,27 @@
+//! Entries of the list of taken transfers.
+
+use dz_member::Config;
+use dz_name::{Name, Octets};
+use dz_take::Ask;
+
+/// A transfer that was taken.
+#[derive(Debug, Drop)]
+pub struct Taken {
+    pub zone: Name,
+    /// The position of the entry that the zone began by; 0 for a catalog.
+    pub incarnation: u64,
+    pub ask: Ask,
+    /// The ID of the query.
+    pub id: u16,
+    /// The messages, each behind its length in two octets.
+    pub octets: Octets,
+    /// The moment of the transfer's job in seconds, below 2^40.
+    pub moment: u64,
+}
+
+/// An entry of the list: the configuration, which comes first, or a transfer.
+#[derive(Debug, Drop)]
+pub enum Entry {
+    Setup(Config),
+    Transfer(Taken),
+}

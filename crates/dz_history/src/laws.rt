@@ -1,0 +1,18 @@
+//! Laws of what a transfer changes.
+
+ghost use Rattle.dz_history.specs.Laws.{BrokenKeeps, BeginsEmpty, RefusedKeeps};
+
+/// A catalog that is broken keeps its members and all that is held of them (RFC 9432 section 5.1).
+pub fn broken_keeps()
+    ensures { BrokenKeeps }
+{}
+
+/// A zone that is reset shows no records that were taken before (RFC 9432 section 5.4).
+pub fn begins_empty()
+    ensures { BeginsEmpty }
+{}
+
+/// A refused transfer keeps all members and all that is held of them.
+pub fn refused_keeps()
+    ensures { RefusedKeeps }
+{}

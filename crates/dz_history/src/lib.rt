@@ -1,0 +1,22 @@
+//! The list of taken transfers, and what the catalogs assign after it (RFC 9432 section 5): memberships, versions, and
+//! the table that answers.
+#![tactic(auto)]
+
+mod aftermath;
+mod entry;
+mod held;
+mod history;
+mod holdings;
+mod laws;
+mod past;
+mod relisting;
+mod slots;
+mod taking;
+#[cfg(test)]
+mod tests;
+
+pub use aftermath::Aftermath;
+pub use entry::{Entry, Taken};
+pub use history::History;
+pub use holdings::Holdings;
+pub use laws::{begins_empty, broken_keeps, refused_keeps};
