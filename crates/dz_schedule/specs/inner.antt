@@ -1,0 +1,2 @@
+-- Inner: how the code keeps the first of the moments.
+pub mod Tournament
