@@ -68,7 +68,7 @@ first_found zones waits place k h ne =
     let here = wait_at zones place within in
     let idle : v.timing.busy ≡ false = idle_of v (λ e. ne' (here ∙ e)) in
     let none : list_any (λ u. is_earlier u v) zones ≡ false = list_any_none (λ u. is_earlier u v) zones (All-from_get_or (λ u. is_earlier u v ≡ false) zones fresh
-        (λ i lt. not_earlier_by_waits (get_or zones i fresh) v idle (omega (arith, h'.least i (omega (arith, length-map zones wait_of)), wait_at zones i lt, here)))) in
+    (λ i lt. not_earlier_by_waits (get_or zones i fresh) v idle (omega (arith, h'.least i (omega (arith, length-map zones wait_of)), wait_at zones i lt, here)))) in
     position_at (is_first zones) zones place fresh within (rw (idle, none) refl)
     (λ i less.
     let u = get_or zones i fresh in

@@ -1,6 +1,7 @@
 -- Judge: laws of the first zone that is due.
 use Rattle.std.specs.Prelude.{◌≡◌, ℕ, ◌<◌, ◌≤◌, ◌↔◌, true, false, List, take, Some, None, slice_get}
-use Rattle.std.specs.List.{All, position}
+use Rattle.std.specs.List.{All, list_any, position}
+use Rattle.dz_timer.specs.Timing.{is_due}
 use Rattle.dz_schedule.specs.Values.{ValuesOf}
 use Rattle.dz_schedule.specs.Schedule.{is_first}
 
@@ -18,3 +19,8 @@ FirstIsLeast = (zones : List ValuesOf) (place : ℕ) → position (is_first zone
 -- there is no first zone exactly where each has a job in flight
 abbrev pub NoneIsIdle : Type 0
 NoneIsIdle = (zones : List ValuesOf) → (position (is_first zones) zones ≡ None) ↔ All (λ values. values.timing.busy ≡ true) zones
+
+-- some zone is due exactly where the first one is
+abbrev pub FirstIsDue : Type 0
+FirstIsDue = (zones : List ValuesOf) (place : ℕ) (values : ValuesOf) (now : ℕ) → position (is_first zones) zones ≡ Some place → slice_get zones place ≡ Some values
+    → list_any (λ other. is_due other.timing now) zones ≡ is_due values.timing now

@@ -10,6 +10,6 @@ mod tournament;
 mod values;
 mod wait;
 
-pub use laws::{first_is_least, none_is_idle};
+pub use laws::{first_is_due, first_is_least, none_is_idle};
 pub use schedule::Schedule;
 pub use values::Values;

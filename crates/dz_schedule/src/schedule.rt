@@ -61,8 +61,8 @@ impl Schedule {
         self.values[place]
     }
 
-    /// The place of the first zone, among those without a job in flight, that waits for the earliest moment; None where each
-    /// has a job in flight.
+    /// The place of the first zone, among those without a job in flight, that waits for the earliest moment; None where there
+    /// is no zone without one.
     pub fn first(&self) -> Option<usize>
         ensures { result ≡ position (is_first self.now) self.now }
     {

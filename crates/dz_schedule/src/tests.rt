@@ -50,7 +50,8 @@ fn a_refusal_asks_for_the_whole_zone_until_success(rt: HostRuntime) {
 fn five_zones(alloc: Global) -> Result<Schedule, AllocError>
     ensures { IfOk result (λ schedule. length schedule ≡ 5) }
 {
-    let values = vec![in alloc; refreshed(30), refreshed(20), refreshed(40), refreshed(20), refreshed(50)]?;
+    let (early, late) = (refreshed(20), refreshed(50));
+    let values = vec![in alloc; refreshed(30), early, refreshed(40), early, late]?;
     Schedule::over(alloc, values)
 }
 

@@ -107,9 +107,7 @@ fn play(nodes: &mut Vec<Wait>, count: usize)
     ensures is { IsTournament nodes.new.items count }
     ensures moments { moments nodes.new.items count ≡ moments nodes.old.items count }
 {
-    let mut at = count;
-    while 1 < at {
-        at -= 1;
+    for at in (1..count).rev() {
         nodes[at] = earlier(nodes[2 * at], nodes[2 * at + 1]);
     }
 }
@@ -119,10 +117,8 @@ fn climb(nodes: &mut Vec<Wait>, count: usize, wait: Wait)
     requires is { IsTournament nodes.old.items count }
     requires within { wait.place < count }
     ensures is { IsTournament nodes.new.items count }
-    ensures moments {
-        moments nodes.new.items count
-            ≡ slice_set (moments nodes.old.items count) wait.place wait.moment
-    }
+    ensures moments { moments nodes.new.items count
+        ≡ slice_set (moments nodes.old.items count) wait.place wait.moment }
 {
     let mut at = count + wait.place;
     nodes[at] = wait;

@@ -25,7 +25,7 @@ impl Model for Values {
 
     ghost view = { λ v. record { timing = v.timer; whole = v.whole; turn = v.turn } };
 
-    ghost inverse = { λ values. record { timer = values.timing; whole = values.whole; turn = values.turn } };
+    ghost inverse = { λ v. record { timer = v.timing; whole = v.whole; turn = v.turn } };
 }
 
 impl Values {

@@ -11,6 +11,3 @@ invariant-loop-at l = record {
   decided : AreDecidedFrom l.nodes.items l.count l.at;
   kept : moments l.nodes.items l.count ≡ moments l.initial.nodes.items l.count;
 }
-
-abbrev pub decreases-loop-at : goal.decreases-loop-at
-decreases-loop-at l = l.at
