@@ -3,7 +3,8 @@ use Rattle.std.specs.Prelude.{ℕ, ◌+◌, ◌%◌, Bool, true, false, Option}
 use Rattle.dz_timer.specs.Timing.{Timing}
 use Rattle.dz_timer.specs.Timing as timer
 
--- the values of a zone: its moments, whether its next job asks for the whole zone, and the number of the primary that it asks
+-- the values of a zone: its moments, whether its next job asks for the whole zone, and the number of the primary that it
+-- asks
 pub record ValuesOf : Type 0 where
   pub timing : Timing
   pub whole : Bool

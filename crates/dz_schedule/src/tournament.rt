@@ -81,7 +81,7 @@ fn leaves(alloc: Global, values: &[Values]) -> Result<Vec<Wait>, AllocError>
     requires { length values.now < 2 ^ 32 }
     ensures size { IfOk result (λ v. length v.items ≡ length values.now + length values.now) }
     ensures own { IfOk result (λ v. AreOwn v.items (length values.now)) }
-    ensures moments { IfOk result (λ v. moments v.items (length values.now) ≡ map wait_of values.now) }
+    ensures all { IfOk result (λ v. moments v.items (length values.now) ≡ map wait_of values.now) }
     ensures soon { IfOk result (λ _. All IsSoon values.now) }
 {
     let mut nodes = Vec::with_capacity(alloc, 2 * values.len())?;
