@@ -87,6 +87,13 @@ impl Finished {
         &self.octets
     }
 
+    /// The octets that were read, for good.
+    pub fn into_octets(self) -> Octets
+        ensures { result ≡ self.octets }
+    {
+        self.octets
+    }
+
     /// What came of the transfer.
     pub fn outcome(&self) -> &Outcome
         ensures { meaning_of result.now ≡ outcome self.now.transfer self.now.octets }
