@@ -1,7 +1,9 @@
 pub mod BegunLemmas
 pub mod FindLemmas
+pub mod JudgedLemmas
 mod LawLemmas
 pub mod ListLemmas
 pub mod SlotLemmas
+pub mod StandsLemmas
 pub mod StateLemmas
 pub mod StepLemmas
