@@ -1,4 +1,5 @@
 pub mod BegunLemmas
+pub mod EndedLemmas
 pub mod FindLemmas
 pub mod JudgedLemmas
 mod LawLemmas
