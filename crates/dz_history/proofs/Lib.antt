@@ -3,6 +3,7 @@ pub mod EndedLemmas
 pub mod FindLemmas
 pub mod JudgedLemmas
 mod LawLemmas
+pub mod LifeLemmas
 pub mod ListLemmas
 pub mod SlotLemmas
 pub mod StandsLemmas

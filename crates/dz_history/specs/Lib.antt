@@ -3,6 +3,7 @@ pub mod Ended
 pub mod Examples
 pub mod Laws
 pub mod Legal
+pub mod Life
 pub mod Places
 pub mod State
 pub mod inner
