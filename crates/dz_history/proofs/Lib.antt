@@ -1,3 +1,4 @@
+pub mod ApartLemmas
 pub mod BegunLemmas
 pub mod EndedLemmas
 pub mod FindLemmas
