@@ -6,6 +6,7 @@ pub mod JudgedLemmas
 mod LawLemmas
 pub mod LifeLemmas
 pub mod ListLemmas
+pub mod PlaceLemmas
 pub mod SlotLemmas
 pub mod StandsLemmas
 pub mod StateLemmas

@@ -1,5 +1,5 @@
 -- Meaning: the places of zones: the catalogs in the order of the configuration, and then the members in canonical order.
-use Rattle.std.specs.Prelude.{◌≡◌, ℕ, ◌+◌, List, ◌++◌, length, map, position, Option, Some, None}
+use Rattle.std.specs.Prelude.{◌≡◌, ℕ, ◌+◌, List, ◌++◌, length, map, position, slice_get, Option, Some, None, IsSome}
 use Rattle.std.specs.Option.{option_map}
 use Rattle.std.specs.List.{AllByRecursion}
 use Rattle.dz_name.specs.Words.{Name}
@@ -35,3 +35,13 @@ place_at s zone = place_from s zone (catalog_at s zone)
 -- no member is a configured catalog (RFC 9432 section 4.1)
 abbrev pub IsApart : State → Type 0
 IsApart s = AllByRecursion (λ m. number_of s.fold.config m.zone ≡ None) s.fold.members
+
+-- the catalog of each member is configured
+abbrev pub IsPlacedIn : State → Type 0
+IsPlacedIn s = AllByRecursion (λ m. IsSome (number_of s.fold.config m.catalog)) s.fold.members
+
+-- an incarnation of a zone has a place
+pub record IsSeated (s : State) (zone : Name) (incarnation : ℕ) : Type 0 where
+  pub place : ℕ
+  pub at : place_at s zone ≡ Some place
+  pub there : slice_get (seats s) place ≡ Some record { zone = zone; incarnation = incarnation }
