@@ -3,6 +3,7 @@ pub mod BegunLemmas
 pub mod EndedLemmas
 pub mod FindLemmas
 pub mod JudgedLemmas
+pub mod KeptLemmas
 mod LawLemmas
 pub mod LifeLemmas
 pub mod ListLemmas
