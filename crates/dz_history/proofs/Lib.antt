@@ -8,6 +8,7 @@ mod LawLemmas
 pub mod LifeLemmas
 pub mod ListLemmas
 pub mod PlaceLemmas
+pub mod PrimaryLemmas
 pub mod SlotLemmas
 pub mod StandsLemmas
 pub mod StateLemmas
