@@ -7,6 +7,7 @@ pub mod KeptLemmas
 mod LawLemmas
 pub mod LifeLemmas
 pub mod ListLemmas
+pub mod OwnLemmas
 pub mod PlaceLemmas
 pub mod PrimaryLemmas
 pub mod SlotLemmas

@@ -1,6 +1,6 @@
 //! Laws of what a transfer changes.
 
-ghost use Rattle.dz_history.specs.Laws.{BrokenKeeps, BeginsEmpty, RefusedKeeps};
+ghost use Rattle.dz_history.specs.Laws.{BrokenKeeps, BeginsEmpty, RefusedKeeps, RecordsAreOwn};
 
 /// A catalog that is broken keeps its members and all that is held of them (RFC 9432 section 5.1).
 pub fn broken_keeps()
@@ -15,4 +15,9 @@ pub fn begins_empty()
 /// A refused transfer keeps all members and all that is held of them.
 pub fn refused_keeps()
     ensures { RefusedKeeps }
+{}
+
+/// What is held of a member was taken for its zone and its incarnation, after it began.
+pub fn records_are_own()
+    ensures { RecordsAreOwn }
 {}

@@ -19,4 +19,4 @@ pub use aftermath::Aftermath;
 pub use entry::{Entry, Taken};
 pub use history::History;
 pub use holdings::Holdings;
-pub use laws::{begins_empty, broken_keeps, refused_keeps};
+pub use laws::{begins_empty, broken_keeps, records_are_own, refused_keeps};
