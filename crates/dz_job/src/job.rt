@@ -1,0 +1,127 @@
+//! Jobs.
+
+ghost use Rattle.std.specs.Prelude.{◌≡◌, ◌==◌, option_map};
+ghost use Rattle.std.specs.Arc.{arc_value};
+ghost use Rattle.dz_job.specs.Job.{IsJob};
+
+use crate::flight::Flight;
+use dz_io::Peer;
+use dz_name::Name;
+use dz_take::Ask;
+use dz_zone::Version;
+use std::marker::Model;
+use std::sync::Arc;
+
+/// A job: the transfer of a zone from one of its primaries. It is spent by settling it, by its failure, or by
+/// [`Job::close`].
+#[derive(Debug)]
+pub struct Job {
+    flight: Flight,
+    held: Option<Arc<Version>>,
+}
+
+impl Model for Job {
+    ghost use Rattle.std.specs.Prelude.{option_map};
+    ghost use Rattle.std.specs.Arc.{arc_value};
+    ghost use Rattle.dz_job.specs.Job.{JobOf, IsJob};
+
+    ghost Value = { JobOf };
+
+    ghost view = { λ j. record { flight = j.flight; held = option_map arc_value j.held } };
+
+    ghost invariant = { λ j. IsJob record { flight = j.flight; held = option_map arc_value j.held } };
+}
+
+impl Job {
+    /// The job of these parts.
+    pub fn new(flight: Flight, held: Option<Arc<Version>>) -> Job
+        requires { IsJob record { flight = flight; held = option_map arc_value held } }
+        ensures { result ≡ record { flight = flight; held = option_map arc_value held } }
+    {
+        Job { flight, held }
+    }
+
+    /// What it asks for.
+    pub fn flight(&self) -> &Flight
+        ensures { result.now ≡ self.now.flight }
+    {
+        &self.flight
+    }
+
+    /// The number of the job, from 1.
+    pub fn ticket(&self) -> u64
+        ensures { result ≡ self.now.flight.ticket }
+    {
+        self.flight.ticket
+    }
+
+    /// The zone.
+    pub fn zone(&self) -> &Name
+        ensures { result.now ≡ self.now.flight.zone }
+    {
+        &self.flight.zone
+    }
+
+    /// Whether the zone is a catalog.
+    pub fn is_catalog(&self) -> bool
+        ensures { result ≡ (self.now.flight.incarnation == 0) }
+    {
+        self.flight.incarnation == 0
+    }
+
+    /// The position of the entry that the zone began by; 0 for a catalog.
+    pub fn incarnation(&self) -> u64
+        ensures { result ≡ self.now.flight.incarnation }
+    {
+        self.flight.incarnation
+    }
+
+    /// What is asked for.
+    pub fn ask(&self) -> Ask
+        ensures { result ≡ self.now.flight.ask }
+    {
+        self.flight.ask
+    }
+
+    /// The ID of the query.
+    pub fn id(&self) -> u16
+        ensures { result ≡ self.now.flight.id }
+    {
+        self.flight.id
+    }
+
+    /// The version that was held as the job was handed out, which is of the zone. Beside none the whole zone is asked for.
+    pub fn held(&self) -> Option<&Arc<Version>>
+        ensures held { option_map (λ r. r.now.value) result ≡ self.now.held }
+        ensures valid { IsJob self.now }
+    {
+        self.held.as_ref()
+    }
+
+    /// The primary that is asked.
+    pub fn primary(&self) -> &Peer
+        ensures { result.now ≡ self.now.flight.primary }
+    {
+        &self.flight.primary
+    }
+
+    /// The moment of the job in seconds, below 2^40.
+    pub fn moment(&self) -> u64
+        ensures { result ≡ self.now.flight.moment }
+    {
+        self.flight.moment
+    }
+
+    /// The version that was held, as it is kept.
+    pub fn shared(&self) -> &Option<Arc<Version>>
+        ensures { option_map arc_value result.now ≡ self.now.held }
+    {
+        &self.held
+    }
+
+    /// Lets a job go that is left where no event ends it.
+    pub fn close(self) {
+        let Job { flight: _, held } = self;
+        drop(held);
+    }
+}
