@@ -1,4 +1,4 @@
-use Rattle.std.proofs.Common.{◌∙◌, ap, drop, arith}
+use Rattle.std.proofs.Common.{◌∙◌, ap, drop}
 use Rattle.dz_name.specs.Name.{is_within}
 use Rattle.dz_name.proofs.WireLemmas.{is_wire, labels_of-wire}
 use Rattle.dz_catalog.proofs.NameLemmas.{some_label, shorter, tail_is, not_longer, whole_is}

@@ -1,4 +1,4 @@
-use Rattle.std.proofs.Common.{◌∙◌, ap}
+use Rattle.std.proofs.Common.{ap}
 use Rattle.dz_catalog.specs.inner.Below.{node_behind}
 use Rattle.dz_catalog.proofs.BelowLemmas.{nodes_more}
 use Rattle.dz_catalog.proofs.reading.nodes.Goals as goal
