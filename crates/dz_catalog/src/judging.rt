@@ -44,7 +44,8 @@ pub(crate) fn broken_records(version: &Version, count: usize) -> Option<Broken>
 
 /// The name of the schema's version; none where it would be too long.
 fn version_name(apex: &Name) -> Option<Name>
-    ensures { MatchOption result (255 ≤ length (wire_of apex.now) + 7) (λ name. name ≡ version_name apex.now) }
+    ensures { MatchOption result (255 ≤ length (wire_of apex.now) + 7)
+        (λ name. name ≡ version_name apex.now) }
 {
     match Label::new(b"version") {
         None => None,

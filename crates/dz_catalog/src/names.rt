@@ -2,7 +2,7 @@
 
 ghost use Rattle.std.specs.Prelude.{◌≡◌, ◌∷◌, ◌&&◌, ◌<◌, codes, length, MatchBool};
 ghost use Rattle.std.specs.Option.{option_map};
-ghost use Rattle.dz_name.specs.Name.{same_name, first_label, parent_of};
+ghost use Rattle.dz_name.specs.Name.{same_name, is_within, first_label, parent_of};
 ghost use Rattle.dz_catalog.specs.Member.{begins_with, is_node, is_coo};
 
 use dz_name::{Label, Name, NameRef};
@@ -65,6 +65,17 @@ pub(crate) fn is_child(name: &NameRef, label: &[u8], above: &NameRef) -> bool
         None => false,
         Some(behind) => begins_with(label, name) && behind.same(above),
     }
+}
+
+/// Whether a name is another one or stands below it. One that is not longer is told at once, and so is a child.
+pub(crate) fn is_below(name: &NameRef, above: &NameRef) -> bool
+    ensures { result ≡ is_within name.now above.now }
+{
+    let mut rest = NameRef::of_wire(name.wire());
+    'labels: while above.wire().len() < rest.wire().len() {
+        rest = NameRef::of_wire(rest.behind(1));
+    }
+    rest.same(above)
 }
 
 /// Whether a name is that of a member node.

@@ -10,7 +10,7 @@ ghost use Rattle.dz_catalog.specs.Member.{node_of, coo_name};
 ghost use Rattle.dz_catalog.specs.inner.Below.{below, is_at, coo_among, groups_among, node_among, node_behind};
 
 use crate::judging::is_member;
-use crate::names::{first_of, is_child};
+use crate::names::{first_of, is_below, is_child};
 use dz_member::{Node, Texts};
 use dz_name::dns::{TYPE_PTR, TYPE_TXT};
 use dz_name::{Label, Name, NameRef, Octets};
@@ -30,8 +30,7 @@ pub(crate) fn nodes(
 {
     let mut nodes = Vec::with_capacity(alloc, count)?;
     'records: for (place, found) in records.iter().enumerate() {
-        let node = node_behind(alloc, apex, found, behind(records, place))?;
-        add(&mut nodes, node)?;
+        add(&mut nodes, alloc, apex, found, behind(records, place))?;
     }
     Ok(nodes)
 }
@@ -44,56 +43,37 @@ fn behind(records: &[Rr], place: usize) -> &[Rr]
     &records[place + 1..]
 }
 
-/// Puts a node behind the others, if there is one.
-fn add(nodes: &mut Vec<Node>, node: Option<Node>) -> Result<(), AllocError>
-    ensures { OnOk result (nodes.new.items ≡ nodes.old.items ++ option_to_list node) }
-{
-    if let Some(node) = node {
-        nodes.push(node)?;
-    }
-    Ok(())
-}
-
-/// The member node of a record, if it is a member record, by the records behind it.
+/// Puts the member node of a record behind the others, if it is a member record, by the records behind it.
 #[tactic(auto, unfolding(crate::specs::inner::Below::node_behind))]
-fn node_behind(
+fn add(
+    nodes: &mut Vec<Node>,
     alloc: Global,
     apex: &Name,
     found: &Rr,
     behind: &[Rr],
-) -> Result<Option<Node>, AllocError>
-    ensures { IfOk result (λ node. node ≡ node_behind apex.now found.now behind.now) }
+) -> Result<(), AllocError>
+    ensures { OnOk result (nodes.new.items
+        ≡ nodes.old.items ++ option_to_list (node_behind apex.now found.now behind.now)) }
 {
     if !is_member(apex, found) {
-        return Ok(None);
+        return Ok(());
     }
     let owner = found.owner_ref();
     match (first_of(&owner), found.target()) {
         (Some(label), Some(zone)) => {
-            let node = node_among(alloc, label, zone, &owner, below(&owner, behind))?;
-            Ok(Some(node))
+            let records = below(&owner, behind);
+            let coo = coo_among(&owner, records);
+            let groups = groups_among(alloc, &owner, records)?;
+            nodes.push(Node {
+                label,
+                zone,
+                coo,
+                groups,
+            })?;
+            Ok(())
         }
-        _ => Ok(None),
+        _ => Ok(()),
     }
-}
-
-/// The node of a label and a zone, by the records below it.
-fn node_among(
-    alloc: Global,
-    label: Label,
-    zone: Name,
-    owner: &NameRef,
-    records: &[Rr],
-) -> Result<Node, AllocError>
-    ensures { IfOk result (λ node. node ≡ node_among owner.now records.now label zone) }
-{
-    let groups = groups_among(alloc, owner, records)?;
-    Ok(Node {
-        label,
-        zone,
-        coo: coo_among(owner, records),
-        groups,
-    })
 }
 
 /// Of records behind one of a node, those of the node and of the names below it.
@@ -110,7 +90,7 @@ fn below<'a>(node: &NameRef, records: &'a [Rr]) -> &'a [Rr]
 fn place_outside(node: &NameRef, records: &[Rr]) -> Option<usize>
     ensures { result ≡ position (λ r. not (is_within r.owner node.now)) records.now }
 {
-    records.iter().position(|r| !r.owner_ref().is_within(node))
+    records.iter().position(|r| !is_below(&r.owner_ref(), node))
 }
 
 /// Whether a record is of this type, and its owner has this label in front of the node's name.
@@ -122,7 +102,8 @@ fn is_at(kind: u16, label: &[u8], node: &NameRef, found: &Rr) -> bool
 
 /// The first record of a node's change of ownership.
 fn first_coo<'a>(node: &NameRef, records: &'a [Rr]) -> Option<&'a Rr>
-    ensures { option_map (λ r. r.now) result ≡ find (is_at TYPE_PTR (coo_name node.now)) records.now }
+    ensures { option_map (λ r. r.now) result
+        ≡ find (is_at TYPE_PTR (coo_name node.now)) records.now }
 {
     records.iter().find(|r| is_at(TYPE_PTR, b"coo", node, r))
 }

@@ -5,6 +5,7 @@ pub mod DigitLemmas
 pub mod EachLemmas
 pub mod KeptLemmas
 pub mod LawLemmas
+pub mod LeadLemmas
 pub mod ListingLemmas
 pub mod NumberLemmas
 pub mod OrderLemmas

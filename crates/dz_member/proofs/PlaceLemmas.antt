@@ -18,10 +18,10 @@ pub empty_placed : IsPlaced [] []
 empty_placed = record { listing = empty_listing; in_order = refl }
 
 -- one node more
-pub placed_more : (nodes : List Node) (ps : List Placed) (p : Placed) (k : ℕ) (n : Node) → k < length nodes → n ≡ get_or nodes k n → p.place ≡ k → p.node.now ≡ n
+pub placed_more : (nodes : List Node) (ps : List Placed) (p : Placed) (k : ℕ) (n : Node) → k < length nodes → n ≡ get_or nodes k n → p.place ≡ k → p.node ≡ n
     → (nodes_in ps ≡ take k nodes) × AllByRecursion (IsAt nodes) ps → (nodes_in (ps ++ p ∷ []) ≡ take (k + 1) nodes) × AllByRecursion (IsAt nodes) (ps ++ p ∷ [])
 placed_more nodes ps p k n lt is place node inv = (
-  map-append (λ q. q.node.now) ps (p ∷ []) ∙ (ap (λ (xs : List Node). xs ++ p.node.now ∷ []) inv.0 ∙ (ap (λ (m : Node). take k nodes ++ m ∷ []) (node ∙ is) ∙ sym (take_more nodes k n lt))),
+  map-append (λ q. q.node) ps (p ∷ []) ∙ (ap (λ (xs : List Node). xs ++ p.node ∷ []) inv.0 ∙ (ap (λ (m : Node). take k nodes ++ m ∷ []) (node ∙ is) ∙ sym (take_more nodes k n lt))),
   all_push (IsAt nodes) ps p inv.1 (rw (place, node) (slice_get_read nodes (length nodes) k n refl lt is)),
 )
 
@@ -29,7 +29,7 @@ placed_more nodes ps p k n lt is place node inv = (
 pub places_are : (nodes : List Node) (ps : List Placed) → All (IsAt nodes) ps → map (slice_get nodes) (map (λ p. p.place) ps) ≡ map Some (nodes_in ps)
 places_are nodes [] a = refl
 places_are nodes (p ∷ ps) a =
-    let first : slice_get nodes p.place ≡ Some p.node.now = a 0 p (omega arith) in
+    let first : slice_get nodes p.place ≡ Some p.node = a 0 p (omega arith) in
     let rest = places_are nodes ps (λ k d lt. a (suc k) d (omega arith)) in
     λ i. first i ∷ rest i
 

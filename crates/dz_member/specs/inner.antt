@@ -1,3 +1,4 @@
 pub mod Kept
-pub mod Walk
+pub mod Lead
 pub mod Places
+pub mod Walk

@@ -143,7 +143,8 @@ impl Fold {
     /// The policy that holds for a member: that of its group, or else its catalog's own.
     pub fn policy(&self, place: usize) -> Policy
         requires { place < length self.now.members }
-        ensures { IfSome (slice_get self.now.members place) (λ m. policy_of self.now.config m ≡ Some result) }
+        ensures { IfSome (slice_get self.now.members place)
+            (λ m. policy_of self.now.config m ≡ Some result) }
     {
         policy_of(self.catalogs(), &self.members[place])
     }
@@ -151,7 +152,8 @@ impl Fold {
     /// The primaries of a member: those of its group, or else its catalog's own.
     pub fn primaries(&self, place: usize) -> &Peers
         requires { place < length self.now.members }
-        ensures { IfSome (slice_get self.now.members place) (λ m. primaries_of self.now.config m ≡ Some result.now) }
+        ensures { IfSome (slice_get self.now.members place)
+            (λ m. primaries_of self.now.config m ≡ Some result.now) }
     {
         primaries_of(self.catalogs(), &self.members[place])
     }

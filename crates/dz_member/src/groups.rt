@@ -35,7 +35,8 @@ fn group_of_word(groups: &[GroupSettings], word: &[u8]) -> Option<usize>
 
 /// The number of the group that has the word of this RDATA.
 fn group_of_text(groups: &[GroupSettings], text: &[u8]) -> Option<usize>
-    ensures { result ≡ option_and_then (λ word. position (λ g. bytes_eq g.word word) groups.now) (string_of text.now) }
+    ensures { result ≡ option_and_then (λ word. position (λ g. bytes_eq g.word word) groups.now)
+        (string_of text.now) }
 {
     match string_of(text) {
         None => None,
@@ -46,7 +47,8 @@ fn group_of_text(groups: &[GroupSettings], text: &[u8]) -> Option<usize>
 /// The number of the group that a node is of: that of the first of its TXT records which is a word of the catalog.
 pub(crate) fn group_of(groups: &[GroupSettings], texts: &[Octets]) -> Option<u8>
     requires { length groups.now ≤ 64 }
-    ensures word { option_map (λ number. (group_at groups.now number).word) result ≡ choice_of groups.now texts.now }
+    ensures word { option_map (λ number. (group_at groups.now number).word) result
+        ≡ choice_of groups.now texts.now }
     ensures there { ForSome result (λ number. number < length groups.now) }
 {
     'texts: for text in texts {

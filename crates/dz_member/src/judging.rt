@@ -31,7 +31,8 @@ pub(crate) struct Judged {
 fn choice(fold: &Fold, number: u8, node: &Node) -> Option<u8>
     requires fold { IsFold fold.now }
     requires number { number < length fold.now.config }
-    ensures word { option_map (λ g. (group_at (settings_at fold.now.config number).groups g).word) result
+    ensures word { option_map
+        (λ g. (group_at (settings_at fold.now.config number).groups g).word) result
         ≡ choice_in fold.now.config (catalog_at fold.now number) node.now }
     ensures there { ForSome result (λ g. g < length (settings_at fold.now.config number).groups) }
 {
@@ -43,7 +44,8 @@ fn choice(fold: &Fold, number: u8, node: &Node) -> Option<u8>
 fn enter(fold: &Fold, number: u8, position: u64, node: &Node) -> Membership
     requires fold { IsFold fold.now }
     requires number { number < length fold.now.config }
-    ensures shown { shown_in fold.now result ≡ entered fold.now (catalog_at fold.now number) position node.now }
+    ensures shown { shown_in fold.now result
+        ≡ entered fold.now (catalog_at fold.now number) position node.now }
     ensures numbered { IsNumbered fold.now.config result }
 {
     Membership {
@@ -65,7 +67,8 @@ fn name_of(fold: &Fold, number: u8) -> Name
 
 /// The node of a label. Labels rise, so it is found by halves.
 fn node_at<'a>(listing: &'a Listing, label: &Label) -> Option<&'a Node>
-    ensures { option_map (λ r. r.now) result ≡ find (λ n. same_label n.label label.now) listing.now }
+    ensures { option_map (λ r. r.now) result
+        ≡ find (λ n. same_label n.label label.now) listing.now }
 {
     let nodes = listing.nodes();
     match nodes.binary_search_by(|node| node.label.cmp(label)) {
@@ -97,7 +100,8 @@ fn coo_names(listing: &Listing, label: &Label, catalog: &Name) -> bool
 fn listing_of<'a>(fold: &'a Fold, member: &Membership) -> Option<&'a Listing>
     requires fold { IsFold fold.now }
     requires held { IsNumbered fold.now.config member.now }
-    ensures { option_map (λ r. r.now) result ≡ listing_of fold.now (shown_in fold.now member.now).catalog }
+    ensures { option_map (λ r. r.now) result
+        ≡ listing_of fold.now (shown_in fold.now member.now).catalog }
 {
     fold.listing(member.catalog as usize)
 }
@@ -140,7 +144,8 @@ fn choose_alike(fold: &Fold, a: &Membership, b: &Membership) -> bool
     requires a { IsNumbered fold.now.config a.now }
     requires b { IsNumbered fold.now.config b.now }
     requires catalog { a.now.catalog ≡ b.now.catalog }
-    ensures { result ≡ option_eq bytes_eq (shown_in fold.now a.now).choice (shown_in fold.now b.now).choice }
+    ensures { result ≡ option_eq bytes_eq
+        (shown_in fold.now a.now).choice (shown_in fold.now b.now).choice }
 {
     a.group == b.group
 }
@@ -150,7 +155,8 @@ fn holds(fold: &Fold, number: u8, member: &Membership) -> bool
     requires fold { IsFold fold.now }
     requires number { number < length fold.now.config }
     requires held { IsNumbered fold.now.config member.now }
-    ensures is { result ≡ same_name (shown_in fold.now member.now).catalog (catalog_at fold.now number) }
+    ensures is { result
+        ≡ same_name (shown_in fold.now member.now).catalog (catalog_at fold.now number) }
     ensures number { OnTrue result (member.now.catalog ≡ number) }
 {
     member.catalog == number
@@ -163,7 +169,8 @@ fn held_here(fold: &Fold, number: u8, position: u64, member: &Membership, node: 
     requires held { IsNumbered fold.now.config member.now }
     requires here { member.now.catalog ≡ number }
     ensures is { judgement_of fold.now.config result
-        ≡ held_here fold.now (catalog_at fold.now number) position (shown_in fold.now member.now) node.now }
+        ≡ held_here fold.now (catalog_at fold.now number) position
+        (shown_in fold.now member.now) node.now }
     ensures numbered { IfSome result.stands (IsNumbered fold.now.config) }
 {
     if member.label != node.label {
@@ -190,9 +197,11 @@ fn taken_over(fold: &Fold, number: u8, position: u64, member: &Membership, node:
     requires fold { IsFold fold.now }
     requires number { number < length fold.now.config }
     requires held { IsNumbered fold.now.config member.now }
-    requires consent { consents fold.now (catalog_at fold.now number) (shown_in fold.now member.now) ≡ true }
+    requires consent { consents fold.now (catalog_at fold.now number) (shown_in fold.now member.now)
+        ≡ true }
     ensures is { judgement_of fold.now.config result
-        ≡ held_elsewhere fold.now (catalog_at fold.now number) position (shown_in fold.now member.now) node.now }
+        ≡ held_elsewhere fold.now (catalog_at fold.now number) position
+        (shown_in fold.now member.now) node.now }
     ensures numbered { IfSome result.stands (IsNumbered fold.now.config) }
 {
     let from = name_of(fold, member.catalog);
@@ -222,7 +231,8 @@ fn held_elsewhere(
     requires number { number < length fold.now.config }
     requires held { IsNumbered fold.now.config member.now }
     ensures is { judgement_of fold.now.config result
-        ≡ held_elsewhere fold.now (catalog_at fold.now number) position (shown_in fold.now member.now) node.now }
+        ≡ held_elsewhere fold.now (catalog_at fold.now number) position
+        (shown_in fold.now member.now) node.now }
     ensures numbered { IfSome result.stands (IsNumbered fold.now.config) }
 {
     if consents(fold, &name_of(fold, number), member) {
@@ -263,7 +273,8 @@ fn listed(fold: &Fold, number: u8, position: u64, held: Option<&Membership>, nod
     requires number { number < length fold.now.config }
     requires held { ForSome held (λ r. IsNumbered fold.now.config r.now) }
     ensures is { judgement_of fold.now.config result
-        ≡ listed fold.now (catalog_at fold.now number) position (held_in fold.now held.entry) node.now }
+        ≡ listed fold.now (catalog_at fold.now number) position
+        (held_in fold.now held.entry) node.now }
     ensures numbered { IfSome result.stands (IsNumbered fold.now.config) }
 {
     match held {

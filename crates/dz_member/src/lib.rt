@@ -6,6 +6,7 @@ mod config;
 mod fold;
 mod groups;
 mod judging;
+mod keyed;
 mod known;
 mod laws;
 mod limits;

@@ -95,7 +95,8 @@ impl<'a> Member<'a> {
 /// The policy that holds for a member: that of its group, or else its catalog's own.
 pub(crate) fn policy_of(catalogs: &[CatalogSettings], membership: &Membership) -> Policy
     requires { IsNumbered catalogs.now membership.now }
-    ensures { result ≡ policy_in (settings_at catalogs.now membership.now.catalog) membership.now.group }
+    ensures { result
+        ≡ policy_in (settings_at catalogs.now membership.now.catalog) membership.now.group }
 {
     let catalog = &catalogs[membership.catalog as usize];
     match membership.group {
@@ -110,7 +111,8 @@ pub(crate) fn primaries_of<'a>(
     membership: &Membership,
 ) -> &'a Peers
     requires { IsNumbered catalogs.now membership.now }
-    ensures { result.now ≡ primaries_in (settings_at catalogs.now membership.now.catalog) membership.now.group }
+    ensures { result.now
+        ≡ primaries_in (settings_at catalogs.now membership.now.catalog) membership.now.group }
 {
     let catalog = &catalogs[membership.catalog as usize];
     match membership.group {

@@ -62,9 +62,13 @@ impl Fold {
         listing: Listing,
     ) -> Result<(Fold, Changes), AllocError>
         requires number { number < length self.now.config }
-        requires order { IsStrictlySortedBy canonical_order (map (λ m. m.zone) (map (shown self.now.config) processed.members.items)) }
+        requires order { IsStrictlySortedBy canonical_order
+            (map (λ m. m.zone) (map (shown self.now.config) processed.members.items)) }
         requires numbered { All (IsNumbered self.now.config) processed.members.items }
-        ensures fold { IfOk result (λ r. r.0 ≡ record self.now { members = map (shown self.now.config) processed.members.items; listings = slice_set self.now.listings number (Some listing) }) }
+        ensures fold { IfOk result (λ r. r.0 ≡ record self.now {
+          members = map (shown self.now.config) processed.members.items;
+          listings = slice_set self.now.listings number (Some listing);
+        }) }
         ensures changes { IfOk result (λ r. r.1 ≡ processed.changes.items) }
     {
         let listings = with_listing(alloc, &self.listings, number as usize, listing)?;
@@ -87,10 +91,17 @@ fn process_nodes(
 ) -> Result<Processed, AllocError>
     requires fold { IsFold fold.now }
     requires number { number < length fold.now.config }
-    ensures members { IfOk result (λ p. map (shown fold.now.config) p.members.items ≡ (process fold.now (settings_at fold.now.config number).name listing.now position).members) }
-    ensures changes { IfOk result (λ p. p.changes.items ≡ changes fold.now (settings_at fold.now.config number).name listing.now position) }
-    ensures each { IfOk result (λ _. EachZone fold.now (settings_at fold.now.config number).name listing.now position (process fold.now (settings_at fold.now.config number).name listing.now position) (changes fold.now (settings_at fold.now.config number).name listing.now position)) }
-    ensures order { IfOk result (λ p. IsStrictlySortedBy canonical_order (map (λ m. m.zone) (map (shown fold.now.config) p.members.items))) }
+    ensures members { IfOk result (λ p. map (shown fold.now.config) p.members.items
+        ≡ (process fold.now (settings_at fold.now.config number).name
+        listing.now position).members) }
+    ensures changes { IfOk result (λ p. p.changes.items
+        ≡ changes fold.now (settings_at fold.now.config number).name listing.now position) }
+    ensures each { IfOk result
+        (λ _. EachZone fold.now (settings_at fold.now.config number).name listing.now position
+        (process fold.now (settings_at fold.now.config number).name listing.now position)
+        (changes fold.now (settings_at fold.now.config number).name listing.now position)) }
+    ensures order { IfOk result (λ p. IsStrictlySortedBy canonical_order
+        (map (λ m. m.zone) (map (shown fold.now.config) p.members.items))) }
     ensures numbered { IfOk result (λ p. All (IsNumbered fold.now.config) p.members.items) }
 {
     listing.nodes();

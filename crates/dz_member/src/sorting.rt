@@ -8,14 +8,15 @@ ghost use Rattle.dz_member.specs.Twice.{has_twice};
 ghost use Rattle.dz_member.specs.Process.{in_zone_order};
 ghost use Rattle.dz_member.specs.inner.Places.{ArePlaces, IsAt, nodes_in, zones_in};
 
+use crate::keyed::Keyed;
 use crate::listing::{Listing, Node};
 use std::alloc::{AllocError, Global};
 use std::cmp::Ordering;
 
 /// A node and its place among others.
-#[derive(Clone, Copy)]
+#[derive(Drop)]
 pub(crate) struct Placed<'a> {
-    pub(crate) node: &'a Node,
+    pub(crate) node: Keyed<'a>,
     pub(crate) place: usize,
 }
 
@@ -35,7 +36,7 @@ pub fn has_zone_twice(alloc: Global, nodes: &[Node]) -> Result<bool, AllocError>
 fn zones_rise(nodes: &[Placed]) -> bool
     ensures { IsTrue result ↔ IsStrictlySortedBy canonical_order (zones_in nodes.now) }
 {
-    nodes.is_sorted_by(|a, b| a.node.zone.canonical_cmp(&b.node.zone) == Ordering::Less)
+    nodes.is_sorted_by(|a, b| a.node.zone_cmp(&b.node) == Ordering::Less)
 }
 
 /// Whether the label of each node comes before the next one's.
@@ -53,7 +54,8 @@ impl Listing {
     ///
     /// `AllocError` where there is no memory to put the zones in order.
     pub fn try_from_vec(alloc: Global, nodes: Vec<Node>) -> Result<Option<Listing>, AllocError>
-        ensures { IfOk result (λ o. MatchOption o (¬ IsListing nodes.items) (λ l. (l ≡ nodes.items) × IsListing nodes.items)) }
+        ensures { IfOk result (λ o. MatchOption o (¬ IsListing nodes.items)
+            (λ l. (l ≡ nodes.items) × IsListing nodes.items)) }
     {
         match places_of_listing(alloc, nodes.as_slice())? {
             None => Ok(None),
@@ -64,7 +66,8 @@ impl Listing {
 
 /// The places of the nodes of a listing in the order of their zones; none where the nodes make no listing.
 fn places_of_listing(alloc: Global, nodes: &[Node]) -> Result<Option<Vec<u32>>, AllocError>
-    ensures { IfOk result (λ o. MatchOption o (¬ IsListing nodes.now) (λ places. IsListing nodes.now × ArePlaces nodes.now places.items)) }
+    ensures { IfOk result (λ o. MatchOption o (¬ IsListing nodes.now)
+        (λ places. IsListing nodes.now × ArePlaces nodes.now places.items)) }
 {
     if nodes.len() > Listing::NODES || !labels_rise(nodes) {
         return Ok(None);
@@ -92,8 +95,10 @@ fn places_of(alloc: Global, sorted: &[Placed]) -> Result<Vec<u32>, AllocError>
 fn by_zone<'a>(alloc: Global, nodes: &'a [Node]) -> Result<Vec<Placed<'a>>, AllocError>
     ensures is { IfOk result (λ v. nodes_in v.items ≡ in_zone_order nodes.now) }
     ensures places { IfOk result (λ v. All (IsAt nodes.now) v.items) }
-    ensures rises { IfOk result (λ v. has_twice same_zone nodes.now ≡ false → IsStrictlySortedBy canonical_order (zones_in v.items)) }
-    ensures once { IfOk result (λ v. IsStrictlySortedBy canonical_order (zones_in v.items) → has_twice same_zone nodes.now ≡ false) }
+    ensures rises { IfOk result (λ v. has_twice same_zone nodes.now ≡ false
+        → IsStrictlySortedBy canonical_order (zones_in v.items)) }
+    ensures once { IfOk result (λ v. IsStrictlySortedBy canonical_order (zones_in v.items)
+        → has_twice same_zone nodes.now ≡ false) }
 {
     let mut listed = all(alloc, nodes)?;
     order(&mut listed)?;
@@ -107,7 +112,10 @@ fn all<'a>(alloc: Global, nodes: &'a [Node]) -> Result<Vec<Placed<'a>>, AllocErr
 {
     let mut all = Vec::with_capacity(alloc, nodes.len())?;
     'nodes: for (place, node) in nodes.iter().enumerate() {
-        all.push(Placed { node, place })?;
+        all.push(Placed {
+            node: Keyed::of(node),
+            place,
+        })?;
     }
     Ok(all)
 }
@@ -116,7 +124,7 @@ fn order(nodes: &mut Vec<Placed>) -> Result<(), AllocError>
     ensures is { OnOk result (nodes_in nodes.new.items ≡ in_zone_order (nodes_in nodes.old.items)) }
     ensures same { OnOk result (IsPermutation nodes.old.items nodes.new.items) }
 {
-    match nodes.sort_by(|a, b| a.node.zone.canonical_cmp(&b.node.zone)) {
+    match nodes.sort_by(|a, b| a.node.zone_cmp(&b.node)) {
         Ok(()) => Ok(()),
         Err(_) => Err(AllocError),
     }

@@ -82,7 +82,8 @@ fn first_pair<'a>(held: &'a [Membership], node: Option<&'a Node>) -> Option<Pair
 
 /// The number of the first node that is left, after the one of a number where it was taken.
 fn behind(listing: &Listing, at: usize, taken: bool) -> usize
-    ensures { drop result (in_zone_order listing.now) ≡ drop (if taken then 1 else 0) (drop at (in_zone_order listing.now)) }
+    ensures { drop result (in_zone_order listing.now)
+        ≡ drop (if taken then 1 else 0) (drop at (in_zone_order listing.now)) }
 {
     if taken && at < listing.nodes().len() {
         at + 1
@@ -94,8 +95,11 @@ fn behind(listing: &Listing, at: usize, taken: bool) -> usize
 impl Processed {
     /// Adds what was judged of a zone.
     fn add(&mut self, zone: &Name, judged: &Judged) -> Result<(), AllocError>
-        ensures members { OnOk result (self.new.members.items ≡ self.old.members.items ++ option_to_list judged.now.stands) }
-        ensures changes { OnOk result (self.new.changes.items ≡ self.old.changes.items ++ option_to_list (option_map (λ what. record { zone = zone.now; what = what }) judged.now.change)) }
+        ensures members { OnOk result (self.new.members.items
+            ≡ self.old.members.items ++ option_to_list judged.now.stands) }
+        ensures changes { OnOk result (self.new.changes.items
+            ≡ self.old.changes.items ++ option_to_list
+            (option_map (λ what. record { zone = zone.now; what = what }) judged.now.change)) }
     {
         if let Some(member) = judged.stands {
             self.members.push(member)?;
@@ -117,9 +121,14 @@ pub(crate) fn walk(
 ) -> Result<Processed, AllocError>
     requires fold { IsFold fold.now }
     requires number { number < length fold.now.config }
-    requires zones { IsStrictlySortedBy canonical_order (map (λ n. n.zone) (in_zone_order listing.now)) }
-    ensures members { IfOk result (λ p. map (shown fold.now.config) p.members.items ≡ members_from fold.now (settings_at fold.now.config number).name position (in_zone_order listing.now)) }
-    ensures changes { IfOk result (λ p. p.changes.items ≡ changes_from fold.now (settings_at fold.now.config number).name position (in_zone_order listing.now)) }
+    requires zones { IsStrictlySortedBy canonical_order
+        (map (λ n. n.zone) (in_zone_order listing.now)) }
+    ensures members { IfOk result (λ p. map (shown fold.now.config) p.members.items
+        ≡ members_from fold.now (settings_at fold.now.config number).name position
+        (in_zone_order listing.now)) }
+    ensures changes { IfOk result (λ p. p.changes.items
+        ≡ changes_from fold.now (settings_at fold.now.config number).name position
+        (in_zone_order listing.now)) }
     ensures numbered { IfOk result (λ p. All (IsNumbered fold.now.config) p.members.items) }
 {
     let members = fold.memberships();

@@ -16,10 +16,10 @@ pub record IsPlaced (nodes : List Node) (places : List ℕ) : Type 0 where
 
 -- a node that stands at its place
 abbrev pub IsAt : List Node → Placed → Type 0
-IsAt nodes p = slice_get nodes p.place ≡ Some p.node.now
+IsAt nodes p = slice_get nodes p.place ≡ Some p.node
 
 abbrev pub nodes_in : List Placed → List Node
-nodes_in ps = map (λ p. p.node.now) ps
+nodes_in ps = map (λ p. p.node) ps
 
 abbrev pub zones_in : List Placed → List Name
 zones_in ps = map (λ n. n.zone) (nodes_in ps)
