@@ -18,9 +18,10 @@ use std::sync::Arc;
 /// is one. A version's apex is the zone. Slots may share a version.
 #[derive(Debug, Drop)]
 pub struct Slot {
-    zone: Name,
+    // what a reply reads stands first, so that it lies beside the name of the key in front of it
     refreshed: u64,
     version: Option<Arc<Version>>,
+    zone: Name,
 }
 
 impl Model for Slot {
