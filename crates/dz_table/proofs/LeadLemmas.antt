@@ -1,5 +1,5 @@
 -- The first octets of a sort key.
-use Rattle.std.proofs.Common.{◌≡◌, ℕ, zero, suc, List, [], ◌∷◌, ◌++◌, length, take, drop, min, refl, sym, ◌∙◌, ap, arith}
+use Rattle.std.proofs.Common.{◌≡◌, ℕ, zero, suc, List, [], ◌∷◌, ◌++◌, length, take, drop, min, refl, ◌∙◌, ap, arith}
 use Rattle.dz_table.specs.inner.Lead.{lead_of}
 
 -- the first octets, and zeros where there are fewer

@@ -105,7 +105,7 @@ impl Slot {
     {
         match self.version() {
             None => false,
-            Some(version) => moment < self.refreshed + u64::from(version.soa().expire),
+            Some(version) => dz_timer::is_live(self.refreshed, version.soa().expire, moment),
         }
     }
 }

@@ -17,7 +17,7 @@ use std::marker::Model;
 /// How many octets of a sort key stand beside the name.
 const LEAD: usize = 16;
 
-/// A zone behind the first octets of its sort key, which tell most zones apart, so that few comparisons read names.
+/// A zone behind the first octets of its sort key, by which a map tells most zones apart.
 #[derive(Clone, Copy)]
 pub(crate) struct ZoneKey {
     lead: [u8; LEAD],
