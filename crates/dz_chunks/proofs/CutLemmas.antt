@@ -1,8 +1,8 @@
 -- Chunks that were cut from the end on.
-use Rattle.std.proofs.Common.{◌≡◌, ℕ, ◌+◌, ◌≤◌, List, [], ◌∷◌, ◌++◌, length, map, reverse, append_assoc, refl, sym, ◌∙◌, ap, subst, arith, take, drop}
+use Rattle.std.proofs.Common.{◌≡◌, ℕ, ◌≤◌, List, [], ◌∷◌, ◌++◌, length, map, reverse, append_assoc, refl, sym, ◌∙◌, ap, arith, take, drop}
 use Rattle.std.specs.Prelude.{◌==◌, false}
 use Rattle.std.proofs.lemmas.Bool.Decides.{nat_tests}
-use Rattle.std.proofs.lemmas.List.{reverse-append, map-append, append-nil, take-append-drop}
+use Rattle.std.proofs.lemmas.List.{reverse-append, map-append, take-append-drop}
 use Rattle.dz_chunks.specs.inner.Chunked.{flat, Joined, AreChunks, AreFull}
 
 -- one more behind the others is one more in front when they are turned round

@@ -8,6 +8,8 @@ ghost use Rattle.dz_chunks.specs.Map.{last_upto};
 ghost use Rattle.dz_chunks.specs.inner.Chunked.{flat, AllBefore, AllBehind, ends_before, begins_upto, length_at, length_before, IsChunked};
 
 use crate::entries::{last_of, value_of};
+use crate::entry::Entry;
+use crate::lead::Lead;
 use dz_steps::Steps;
 use std::alloc::{AllocError, Global};
 use std::marker::Model;
@@ -19,11 +21,11 @@ pub(crate) const CHUNK: usize = 128;
 
 /// Entries that stand together.
 #[derive(Drop)]
-pub(crate) struct Chunk<K, V> {
-    entries: Vec<(K, V)>,
+pub(crate) struct Chunk<K: Lead, V> {
+    entries: Vec<Entry<K, V>>,
 }
 
-impl<K, V> Model for Chunk<K, V> {
+impl<K: Lead, V> Model for Chunk<K, V> {
     ghost use Rattle.std.specs.Prelude.{List};
 
     ghost Value = { List (K × V) };
@@ -31,8 +33,8 @@ impl<K, V> Model for Chunk<K, V> {
     ghost view = { λ c. c.entries.items };
 }
 
-impl<K: Ord + Copy, V> Chunk<K, V> {
-    pub(crate) fn entries(&self) -> &[(K, V)]
+impl<K: Lead + Copy, V> Chunk<K, V> {
+    pub(crate) fn entries(&self) -> &[Entry<K, V>]
         ensures { result.now ≡ self.now }
     {
         self.entries.as_slice()
@@ -44,7 +46,7 @@ impl<K: Ord + Copy, V> Chunk<K, V> {
     {
         let entries = self.entries();
         let len = entries.len();
-        0 < len && entries[len - 1].0.cmp(key).is_lt()
+        0 < len && entries[len - 1].compare(key).is_lt()
     }
 
     /// Whether the first key doesn't come after a key.
@@ -52,12 +54,12 @@ impl<K: Ord + Copy, V> Chunk<K, V> {
         ensures { result ≡ begins_upto K.cmp key.now self.now }
     {
         let entries = self.entries();
-        0 < entries.len() && !entries[0].0.cmp(key).is_gt()
+        0 < entries.len() && !entries[0].compare(key).is_gt()
     }
 }
 
 /// How many entries the chunk at a place has. Where there is none it is as if one were full.
-pub(crate) fn length_at<K: Ord + Copy, V>(chunks: &[Arc<Chunk<K, V>>], at: usize) -> usize
+pub(crate) fn length_at<K: Lead + Copy, V>(chunks: &[Arc<Chunk<K, V>>], at: usize) -> usize
     ensures { result ≡ length_at (map arc_value chunks.now) at }
 {
     if at < chunks.len() {
@@ -68,7 +70,7 @@ pub(crate) fn length_at<K: Ord + Copy, V>(chunks: &[Arc<Chunk<K, V>>], at: usize
 }
 
 /// How many entries the chunk before a place has.
-pub(crate) fn length_before<K: Ord + Copy, V>(chunks: &[Arc<Chunk<K, V>>], at: usize) -> usize
+pub(crate) fn length_before<K: Lead + Copy, V>(chunks: &[Arc<Chunk<K, V>>], at: usize) -> usize
     ensures { result ≡ length_before (map arc_value chunks.now) at }
 {
     if at == 0 {
@@ -79,7 +81,7 @@ pub(crate) fn length_before<K: Ord + Copy, V>(chunks: &[Arc<Chunk<K, V>>], at: u
 }
 
 /// How many entries chunks have, at most as many as `usize` can tell.
-pub(crate) fn count_entries<K: Ord + Copy, V>(chunks: &[Arc<Chunk<K, V>>]) -> usize
+pub(crate) fn count_entries<K: Lead + Copy, V>(chunks: &[Arc<Chunk<K, V>>]) -> usize
     ensures { result ≡ min (length (flat (map arc_value chunks.now))) (2 ^ 64 - 1) }
 {
     let mut count: usize = 0;
@@ -90,7 +92,7 @@ pub(crate) fn count_entries<K: Ord + Copy, V>(chunks: &[Arc<Chunk<K, V>>]) -> us
 }
 
 /// How many chunks end before a key.
-fn count_before<K: Ord + Copy, V>(chunks: &[Arc<Chunk<K, V>>], key: &K) -> usize
+fn count_before<K: Lead + Copy, V>(chunks: &[Arc<Chunk<K, V>>], key: &K) -> usize
     requires { IsChunked K.cmp (map arc_value chunks.now) }
     ensures within { result ≤ length chunks.now }
     ensures before { AllBefore K.cmp key.now (flat (take result (map arc_value chunks.now))) }
@@ -100,7 +102,7 @@ fn count_before<K: Ord + Copy, V>(chunks: &[Arc<Chunk<K, V>>], key: &K) -> usize
 }
 
 /// The value at a key among chunks.
-pub(crate) fn value_among<'a, K: Ord + Copy, V>(
+pub(crate) fn value_among<'a, K: Lead + Copy, V>(
     chunks: &'a [Arc<Chunk<K, V>>],
     key: &K,
 ) -> Option<&'a V>
@@ -117,7 +119,7 @@ pub(crate) fn value_among<'a, K: Ord + Copy, V>(
 }
 
 /// The last entry among chunks whose key doesn't come after a key.
-pub(crate) fn last_among<'a, K: Ord + Copy, V>(
+pub(crate) fn last_among<'a, K: Lead + Copy, V>(
     chunks: &'a [Arc<Chunk<K, V>>],
     key: &K,
 ) -> Option<(&'a K, &'a V)>
@@ -134,7 +136,7 @@ pub(crate) fn last_among<'a, K: Ord + Copy, V>(
 }
 
 /// The place of the chunk that a key belongs to: the first that doesn't end before it, or the last.
-pub(crate) fn chunk_for<K: Ord + Copy, V>(chunks: &[Arc<Chunk<K, V>>], key: &K) -> usize
+pub(crate) fn chunk_for<K: Lead + Copy, V>(chunks: &[Arc<Chunk<K, V>>], key: &K) -> usize
     requires chunked { IsChunked K.cmp (map arc_value chunks.now) }
     requires some { 0 < length chunks.now }
     ensures within { result < length chunks.now }
@@ -150,7 +152,7 @@ pub(crate) fn chunk_for<K: Ord + Copy, V>(chunks: &[Arc<Chunk<K, V>>], key: &K) 
 }
 
 /// Copies references behind others. All references are copied here, and each is counted.
-pub(crate) fn copy_chunks<K: Copy, V: Drop, L: Ledger>(
+pub(crate) fn copy_chunks<K: Lead + Copy, V: Drop, L: Ledger>(
     copies: &mut Vec<Arc<Chunk<K, V>>>,
     chunks: &[Arc<Chunk<K, V>>],
     steps: &mut Steps<L>,
@@ -168,10 +170,10 @@ pub(crate) fn copy_chunks<K: Copy, V: Drop, L: Ledger>(
 }
 
 /// One more chunk of these entries.
-pub(crate) fn push_chunk<K: Copy, V: Drop>(
+pub(crate) fn push_chunk<K: Lead + Copy, V: Drop>(
     alloc: Global,
     chunks: &mut Vec<Arc<Chunk<K, V>>>,
-    entries: Vec<(K, V)>,
+    entries: Vec<Entry<K, V>>,
 ) -> Result<(), AllocError>
     ensures { OnOk result (map arc_value chunks.new.items
         ≡ map arc_value chunks.old.items ++ entries.items ∷ []) }

@@ -8,10 +8,11 @@ ghost use Rattle.dz_chunks.specs.Map.{last_upto, without_key};
 ghost use Rattle.dz_chunks.specs.inner.Chunked.{flat, IsChunked};
 
 use crate::chunk::{Chunk, chunk_for, count_entries, last_among, push_chunk, value_among};
-use crate::cutting::cut;
+use crate::cutting::{cut, entries_of};
 use crate::entries::{with_entry, without_entry};
+use crate::entry::Entry;
 use crate::joins::rebuilt;
-use crate::share::Share;
+use crate::lead::Lead;
 use crate::walk::Walk;
 use dz_steps::Steps;
 use std::alloc::{AllocError, Global};
@@ -20,7 +21,7 @@ use std::sync::Arc;
 use std::sync::ledger::Ledger;
 
 /// A chunk with one entry.
-fn first_chunk<K: Copy, V: Drop>(
+fn first_chunk<K: Lead + Copy, V: Drop>(
     alloc: Global,
     key: K,
     value: V,
@@ -28,14 +29,14 @@ fn first_chunk<K: Copy, V: Drop>(
     ensures { IfOk result (λ v. map arc_value v.items ≡ ((key, value) ∷ []) ∷ []) }
 {
     let mut entries = Vec::new(alloc);
-    entries.push((key, value))?;
+    entries.push(Entry::new(alloc, (key, value))?)?;
     let mut chunks = Vec::new(alloc);
     push_chunk(alloc, &mut chunks, entries)?;
     Ok(chunks)
 }
 
 /// The chunks with a value at a key.
-fn chunks_with<K: Ord + Copy, V: Share + Drop, L: Ledger>(
+fn chunks_with<K: Lead + Copy, V: Drop, L: Ledger>(
     alloc: Global,
     chunks: &[Arc<Chunk<K, V>>],
     key: K,
@@ -57,7 +58,7 @@ fn chunks_with<K: Ord + Copy, V: Share + Drop, L: Ledger>(
 }
 
 /// The chunks but the entry at a key.
-fn chunks_without<K: Ord + Copy, V: Share + Drop, L: Ledger>(
+fn chunks_without<K: Lead + Copy, V: Drop, L: Ledger>(
     alloc: Global,
     chunks: &[Arc<Chunk<K, V>>],
     key: &K,
@@ -81,11 +82,11 @@ fn chunks_without<K: Ord + Copy, V: Share + Drop, L: Ledger>(
 /// A finite map. A changed map is a new one, which shares with the old one all chunks of entries but the few that the
 /// change touches; the old one stays as it was. Contracts see its entries in ascending order of their keys.
 #[derive(Drop)]
-pub struct Chunks<K: Ord, V> {
+pub struct Chunks<K: Lead, V> {
     chunks: Vec<Arc<Chunk<K, V>>>,
 }
 
-impl<K: Ord, V> Model for Chunks<K, V> {
+impl<K: Lead, V> Model for Chunks<K, V> {
     ghost use Rattle.std.specs.Prelude.{List, map};
     ghost use Rattle.std.specs.Arc.{arc_value};
     ghost use Rattle.dz_chunks.specs.inner.Chunked.{flat, IsChunked};
@@ -97,7 +98,7 @@ impl<K: Ord, V> Model for Chunks<K, V> {
     ghost invariant = { λ s. IsChunked K.cmp (map arc_value s.chunks.items) };
 }
 
-impl<K: Ord + Copy, V> Chunks<K, V> {
+impl<K: Lead + Copy, V> Chunks<K, V> {
     /// The map of no keys. It takes no memory.
     pub fn empty(alloc: Global) -> Chunks<K, V>
         ensures { result ≡ [] }
@@ -114,7 +115,7 @@ impl<K: Ord + Copy, V> Chunks<K, V> {
         requires { IsTrue (is_sorted K.cmp entries.items) }
         ensures { IfOk result (λ map. map ≡ entries.items) }
     {
-        let chunks = cut(alloc, entries)?;
+        let chunks = cut(alloc, entries_of(alloc, entries)?)?;
         Ok(Chunks { chunks })
     }
 
@@ -149,7 +150,7 @@ impl<K: Ord + Copy, V> Chunks<K, V> {
     }
 }
 
-impl<K: Ord + Copy, V: Share + Drop> Chunks<K, V> {
+impl<K: Lead + Copy, V: Drop> Chunks<K, V> {
     /// The map with a value at a key, in place of the one that is there. The error is want of memory. A step is an entry
     /// or a reference to a chunk copied: at most 256 entries and one reference for each chunk.
     pub fn with<L: Ledger>(

@@ -5,13 +5,29 @@ ghost use Rattle.std.specs.Arc.{arc_value};
 ghost use Rattle.dz_chunks.specs.inner.Chunked.{flat, AreChunks, AreFull};
 
 use crate::chunk::{CHUNK, Chunk, push_chunk};
+use crate::entry::Entry;
+use crate::lead::Lead;
 use std::alloc::{AllocError, Global};
 use std::sync::Arc;
 
-/// Entries cut into chunks: from the end on full ones, and in front those that are left.
-pub(crate) fn cut<K: Copy, V: Drop>(
+/// Keys with their values as entries.
+pub(crate) fn entries_of<K: Lead + Copy, V: Drop>(
     alloc: Global,
-    entries: Vec<(K, V)>,
+    pairs: Vec<(K, V)>,
+) -> Result<Vec<Entry<K, V>>, AllocError>
+    ensures { IfOk result (λ entries. entries.items ≡ pairs.items) }
+{
+    let mut entries = Vec::with_capacity(alloc, pairs.len())?;
+    'pairs: for both in pairs {
+        entries.push(Entry::new(alloc, both)?)?;
+    }
+    Ok(entries)
+}
+
+/// Entries cut into chunks: from the end on full ones, and in front those that are left.
+pub(crate) fn cut<K: Lead + Copy, V: Drop>(
+    alloc: Global,
+    entries: Vec<Entry<K, V>>,
 ) -> Result<Vec<Arc<Chunk<K, V>>>, AllocError>
     ensures entries { IfOk result (λ v. flat (map arc_value v.items) ≡ entries.items) }
     ensures sized { IfOk result (λ v. AreChunks (map arc_value v.items)) }
@@ -25,9 +41,9 @@ pub(crate) fn cut<K: Copy, V: Drop>(
 }
 
 /// Takes full chunks away from the end of entries, and puts them behind one another, the last first.
-fn cut_full<K: Copy, V: Drop>(
+fn cut_full<K: Lead + Copy, V: Drop>(
     alloc: Global,
-    rest: &mut Vec<(K, V)>,
+    rest: &mut Vec<Entry<K, V>>,
     chunks: &mut Vec<Arc<Chunk<K, V>>>,
 ) -> Result<(), AllocError>
     requires none { chunks.old.items ≡ [] }
@@ -44,9 +60,9 @@ fn cut_full<K: Copy, V: Drop>(
 }
 
 /// A chunk of the entries in front, if there are some, behind full ones that stand the last first.
-fn push_first<K: Copy, V: Drop>(
+fn push_first<K: Lead + Copy, V: Drop>(
     alloc: Global,
-    mut first: Vec<(K, V)>,
+    mut first: Vec<Entry<K, V>>,
     chunks: &mut Vec<Arc<Chunk<K, V>>>,
 ) -> Result<(), AllocError>
     requires few { length first.items ≤ 128 }

@@ -6,15 +6,17 @@ ghost use Rattle.std.specs.Option.{option_map};
 ghost use Rattle.dz_chunks.specs.Map.{last_upto, without_key};
 ghost use Rattle.dz_chunks.specs.inner.Chunked.{AllBefore, NotBefore, begins_at};
 
+use crate::entry::Entry;
+use crate::lead::Lead;
 use crate::share::Share;
 use dz_steps::Steps;
 use std::alloc::{AllocError, Global};
 use std::sync::ledger::Ledger;
 
 /// Copies entries behind others. All entries are copied here, and each is counted.
-pub(crate) fn copy_entries<K: Copy, V: Share + Drop, L: Ledger>(
-    copies: &mut Vec<(K, V)>,
-    entries: &[(K, V)],
+pub(crate) fn copy_entries<K: Lead + Copy, V: Drop, L: Ledger>(
+    copies: &mut Vec<Entry<K, V>>,
+    entries: &[Entry<K, V>],
     steps: &mut Steps<L>,
 ) -> Result<(), AllocError>
     ensures copied { OnOk result (copies.new.items ≡ copies.old.items ++ entries.now) }
@@ -23,67 +25,67 @@ pub(crate) fn copy_entries<K: Copy, V: Share + Drop, L: Ledger>(
 {
     for entry in entries {
         steps.tick();
-        copies.push((entry.0, entry.1.share()?))?;
+        copies.push(entry.share()?)?;
     }
     Ok(())
 }
 
 /// The place of the first entry whose key doesn't come before a key.
-fn place_of<K: Ord + Copy, V>(entries: &[(K, V)], key: &K) -> usize
+fn place_of<K: Lead + Copy, V>(entries: &[Entry<K, V>], key: &K) -> usize
     requires { T (is_sorted K.cmp entries.now) }
     ensures within { result ≤ length entries.now }
     ensures before { AllBefore K.cmp key.now (take result entries.now) }
     ensures here { NotBefore K.cmp key.now (drop result entries.now) }
 {
-    entries.partition_point(|entry| entry.0.cmp(key).is_lt())
+    entries.partition_point(|entry| entry.compare(key).is_lt())
 }
 
 /// Whether a key stands at a place.
-fn is_at<K: Ord + Copy, V>(entries: &[(K, V)], place: usize, key: &K) -> bool
+fn is_at<K: Lead + Copy, V>(entries: &[Entry<K, V>], place: usize, key: &K) -> bool
     ensures { result ≡ begins_at K.cmp key.now (drop place entries.now) }
 {
-    place < entries.len() && key.cmp(&entries[place].0).is_eq()
+    place < entries.len() && key.cmp(entries[place].key()).is_eq()
 }
 
 /// The value at a key.
-pub(crate) fn value_of<'a, K: Ord + Copy, V>(entries: &'a [(K, V)], key: &K) -> Option<&'a V>
+pub(crate) fn value_of<'a, K: Lead + Copy, V>(entries: &'a [Entry<K, V>], key: &K) -> Option<&'a V>
     requires { T (is_sorted K.cmp entries.now) }
     ensures { option_map (λ value. value.now) result ≡ find K.cmp key.now entries.now }
 {
     let place = place_of(entries, key);
     if is_at(entries, place, key) {
-        Some(&entries[place].1)
+        Some(entries[place].value())
     } else {
         None
     }
 }
 
 /// The last entry whose key doesn't come after a key.
-pub(crate) fn last_of<'a, K: Ord + Copy, V>(
-    entries: &'a [(K, V)],
+pub(crate) fn last_of<'a, K: Lead + Copy, V>(
+    entries: &'a [Entry<K, V>],
     key: &K,
 ) -> Option<(&'a K, &'a V)>
     requires { T (is_sorted K.cmp entries.now) }
     ensures { option_map (λ entry. (entry.0.now, entry.1.now)) result
         ≡ last_upto K.cmp key.now entries.now }
 {
-    let count = entries.partition_point(|entry| !entry.0.cmp(key).is_gt());
+    let count = entries.partition_point(|entry| !entry.compare(key).is_gt());
     if count == 0 {
         None
     } else {
         let entry = &entries[count - 1];
-        Some((&entry.0, &entry.1))
+        Some((entry.key(), entry.value()))
     }
 }
 
 /// The entries with another value at a place.
-fn replaced<K: Copy, V: Share + Drop, L: Ledger>(
+fn replaced<K: Lead + Copy, V: Drop, L: Ledger>(
     alloc: Global,
-    entries: &[(K, V)],
+    entries: &[Entry<K, V>],
     place: usize,
     value: V,
     steps: &mut Steps<L>,
-) -> Result<Vec<(K, V)>, AllocError>
+) -> Result<Vec<Entry<K, V>>, AllocError>
     requires within { place < length entries.now }
     ensures items { (d : K × V) → IfOk result (λ v.
         v.items
@@ -93,19 +95,19 @@ fn replaced<K: Copy, V: Share + Drop, L: Ledger>(
 {
     let mut copies = Vec::with_capacity(alloc, entries.len())?;
     copy_entries(&mut copies, &entries[..place], steps)?;
-    copies.push((entries[place].0, value))?;
+    copies.push(Entry::new(alloc, (*entries[place].key(), value))?)?;
     copy_entries(&mut copies, &entries[place + 1..], steps)?;
     Ok(copies)
 }
 
 /// The entries with one more at a place.
-fn inserted<K: Copy, V: Share + Drop, L: Ledger>(
+fn inserted<K: Lead + Copy, V: Drop, L: Ledger>(
     alloc: Global,
-    entries: &[(K, V)],
+    entries: &[Entry<K, V>],
     place: usize,
     entry: (K, V),
     steps: &mut Steps<L>,
-) -> Result<Vec<(K, V)>, AllocError>
+) -> Result<Vec<Entry<K, V>>, AllocError>
     requires within { place ≤ length entries.now }
     requires short { length entries.now ≤ 128 }
     ensures items { IfOk result (λ v.
@@ -114,18 +116,18 @@ fn inserted<K: Copy, V: Share + Drop, L: Ledger>(
 {
     let mut copies = Vec::with_capacity(alloc, entries.len() + 1)?;
     copy_entries(&mut copies, &entries[..place], steps)?;
-    copies.push(entry)?;
+    copies.push(Entry::new(alloc, entry)?)?;
     copy_entries(&mut copies, &entries[place..], steps)?;
     Ok(copies)
 }
 
 /// The entries but the one at a place.
-fn removed<K: Copy, V: Share + Drop, L: Ledger>(
+fn removed<K: Lead + Copy, V: Drop, L: Ledger>(
     alloc: Global,
-    entries: &[(K, V)],
+    entries: &[Entry<K, V>],
     place: usize,
     steps: &mut Steps<L>,
-) -> Result<Vec<(K, V)>, AllocError>
+) -> Result<Vec<Entry<K, V>>, AllocError>
     requires within { place < length entries.now }
     ensures items { IfOk result (λ v.
         v.items ≡ take place entries.now ++ drop (place + 1) entries.now) }
@@ -138,11 +140,11 @@ fn removed<K: Copy, V: Share + Drop, L: Ledger>(
 }
 
 /// The entries as they are.
-fn unchanged<K: Copy, V: Share + Drop, L: Ledger>(
+fn unchanged<K: Lead + Copy, V: Drop, L: Ledger>(
     alloc: Global,
-    entries: &[(K, V)],
+    entries: &[Entry<K, V>],
     steps: &mut Steps<L>,
-) -> Result<Vec<(K, V)>, AllocError>
+) -> Result<Vec<Entry<K, V>>, AllocError>
     ensures items { IfOk result (λ v. v.items ≡ entries.now) }
     ensures cost { steps.new ≤ steps.old + length entries.now }
 {
@@ -152,13 +154,13 @@ fn unchanged<K: Copy, V: Share + Drop, L: Ledger>(
 }
 
 /// The entries with a value at a key.
-pub(crate) fn with_entry<K: Ord + Copy, V: Share + Drop, L: Ledger>(
+pub(crate) fn with_entry<K: Lead + Copy, V: Drop, L: Ledger>(
     alloc: Global,
-    entries: &[(K, V)],
+    entries: &[Entry<K, V>],
     key: K,
     value: V,
     steps: &mut Steps<L>,
-) -> Result<Vec<(K, V)>, AllocError>
+) -> Result<Vec<Entry<K, V>>, AllocError>
     requires sorted { T (is_sorted K.cmp entries.now) }
     requires short { length entries.now ≤ 128 }
     ensures put { IfOk result (λ v. v.items ≡ put K.cmp key value entries.now) }
@@ -173,12 +175,12 @@ pub(crate) fn with_entry<K: Ord + Copy, V: Share + Drop, L: Ledger>(
 }
 
 /// The entries but the one at a key.
-pub(crate) fn without_entry<K: Ord + Copy, V: Share + Drop, L: Ledger>(
+pub(crate) fn without_entry<K: Lead + Copy, V: Drop, L: Ledger>(
     alloc: Global,
-    entries: &[(K, V)],
+    entries: &[Entry<K, V>],
     key: &K,
     steps: &mut Steps<L>,
-) -> Result<Vec<(K, V)>, AllocError>
+) -> Result<Vec<Entry<K, V>>, AllocError>
     requires sorted { T (is_sorted K.cmp entries.now) }
     ensures left { IfOk result (λ v. v.items ≡ without_key K.cmp key.now entries.now) }
     ensures cost { steps.new ≤ steps.old + length entries.now }

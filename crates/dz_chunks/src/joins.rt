@@ -6,7 +6,8 @@ ghost use Rattle.dz_chunks.specs.inner.Chunked.{flat, length_at, length_before, 
 
 use crate::chunk::{CHUNK, Chunk, copy_chunks, length_at, length_before, push_chunk};
 use crate::entries::copy_entries;
-use crate::share::Share;
+use crate::entry::Entry;
+use crate::lead::Lead;
 use dz_steps::Steps;
 use std::alloc::{AllocError, Global};
 use std::sync::Arc;
@@ -17,18 +18,18 @@ const HALF: usize = 64;
 
 /// Entries, and the place in front of which, or behind which, they stand.
 #[derive(Drop)]
-struct Part<K, V> {
+struct Part<K: Lead, V> {
     place: usize,
-    entries: Vec<(K, V)>,
+    entries: Vec<Entry<K, V>>,
 }
 
 /// Copies of entries in front of others.
-fn prepended<K: Copy, V: Share + Drop, L: Ledger>(
+fn prepended<K: Lead + Copy, V: Drop, L: Ledger>(
     alloc: Global,
-    first: &[(K, V)],
-    mut rest: Vec<(K, V)>,
+    first: &[Entry<K, V>],
+    mut rest: Vec<Entry<K, V>>,
     steps: &mut Steps<L>,
-) -> Result<Vec<(K, V)>, AllocError>
+) -> Result<Vec<Entry<K, V>>, AllocError>
     ensures items { IfOk result (λ v. v.items ≡ first.now ++ rest.items) }
     ensures counted { IfOk result (λ v. steps.new ≡ steps.old + length first.now) }
     ensures cost { steps.new ≤ steps.old + length first.now }
@@ -40,11 +41,11 @@ fn prepended<K: Copy, V: Share + Drop, L: Ledger>(
 }
 
 /// Entries together with the chunk before a place, if they are fewer than 128 together.
-fn joined_before<K: Ord + Copy, V: Share + Drop, L: Ledger>(
+fn joined_before<K: Lead + Copy, V: Drop, L: Ledger>(
     alloc: Global,
     chunks: &[Arc<Chunk<K, V>>],
     at: usize,
-    entries: Vec<(K, V)>,
+    entries: Vec<Entry<K, V>>,
     steps: &mut Steps<L>,
 ) -> Result<Part<K, V>, AllocError>
     requires within { at ≤ length chunks.now }
@@ -74,10 +75,10 @@ fn joined_before<K: Ord + Copy, V: Share + Drop, L: Ledger>(
 }
 
 /// Entries together with the chunk at a place behind them, if they are fewer than 128 together.
-fn joined_behind<K: Ord + Copy, V: Share + Drop, L: Ledger>(
+fn joined_behind<K: Lead + Copy, V: Drop, L: Ledger>(
     chunks: &[Arc<Chunk<K, V>>],
     at: usize,
-    mut entries: Vec<(K, V)>,
+    mut entries: Vec<Entry<K, V>>,
     steps: &mut Steps<L>,
 ) -> Result<Part<K, V>, AllocError>
     requires within { at ≤ length chunks.now }
@@ -108,7 +109,7 @@ fn joined_behind<K: Ord + Copy, V: Share + Drop, L: Ledger>(
 }
 
 /// The chunks but the one at a place.
-fn without_chunk<K: Ord + Copy, V: Share + Drop, L: Ledger>(
+fn without_chunk<K: Lead + Copy, V: Drop, L: Ledger>(
     alloc: Global,
     chunks: &[Arc<Chunk<K, V>>],
     at: usize,
@@ -131,11 +132,11 @@ fn without_chunk<K: Ord + Copy, V: Share + Drop, L: Ledger>(
 }
 
 /// The chunks with these entries in place of one, joined with its neighbours where they are few.
-fn with_chunk<K: Ord + Copy, V: Share + Drop, L: Ledger>(
+fn with_chunk<K: Lead + Copy, V: Drop, L: Ledger>(
     alloc: Global,
     chunks: &[Arc<Chunk<K, V>>],
     at: usize,
-    entries: Vec<(K, V)>,
+    entries: Vec<Entry<K, V>>,
     steps: &mut Steps<L>,
 ) -> Result<Vec<Arc<Chunk<K, V>>>, AllocError>
     requires within { at < length chunks.now }
@@ -160,11 +161,11 @@ fn with_chunk<K: Ord + Copy, V: Share + Drop, L: Ledger>(
 
 /// The chunks with 129 entries in place of one: split into 64 and 65, each of which is joined with its neighbour where
 /// they are few.
-fn with_split<K: Ord + Copy, V: Share + Drop, L: Ledger>(
+fn with_split<K: Lead + Copy, V: Drop, L: Ledger>(
     alloc: Global,
     chunks: &[Arc<Chunk<K, V>>],
     at: usize,
-    entries: Vec<(K, V)>,
+    entries: Vec<Entry<K, V>>,
     steps: &mut Steps<L>,
 ) -> Result<Vec<Arc<Chunk<K, V>>>, AllocError>
     requires within { at < length chunks.now }
@@ -189,9 +190,9 @@ fn with_split<K: Ord + Copy, V: Share + Drop, L: Ledger>(
 }
 
 /// 129 entries split into 64 and 65.
-fn halves<K: Copy, V: Drop>(
-    mut entries: Vec<(K, V)>,
-) -> Result<(Vec<(K, V)>, Vec<(K, V)>), AllocError>
+fn halves<K: Lead + Copy, V: Drop>(
+    mut entries: Vec<Entry<K, V>>,
+) -> Result<(Vec<Entry<K, V>>, Vec<Entry<K, V>>), AllocError>
     requires { length entries.items ≡ 129 }
     ensures first_length { IfOk result (λ halves. length halves.0.items ≡ 64) }
     ensures second_length { IfOk result (λ halves. length halves.1.items ≡ 65) }
@@ -203,11 +204,11 @@ fn halves<K: Copy, V: Drop>(
 }
 
 /// The chunks with these entries in place of those of one. A step is an entry or a reference copied.
-pub(crate) fn rebuilt<K: Ord + Copy, V: Share + Drop, L: Ledger>(
+pub(crate) fn rebuilt<K: Lead + Copy, V: Drop, L: Ledger>(
     alloc: Global,
     chunks: &[Arc<Chunk<K, V>>],
     at: usize,
-    entries: Vec<(K, V)>,
+    entries: Vec<Entry<K, V>>,
     steps: &mut Steps<L>,
 ) -> Result<Vec<Arc<Chunk<K, V>>>, AllocError>
     requires within { at < length chunks.now }

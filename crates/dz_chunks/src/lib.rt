@@ -5,13 +5,16 @@ mod chunk;
 mod chunks;
 mod cutting;
 mod entries;
+mod entry;
 mod joins;
 mod laws;
+mod lead;
 mod share;
 mod walk;
 
 pub use chunks::Chunks;
 pub use laws::few_chunks;
+pub use lead::Lead;
 pub use share::Share;
 pub use walk::Walk;
 

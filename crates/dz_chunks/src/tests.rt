@@ -1,6 +1,6 @@
-ghost use Rattle.std.specs.Prelude.{◌≡◌};
+ghost use Rattle.std.specs.Prelude.{◌≡◌, [], ◌∷◌, refl};
 
-use crate::{Chunks, Share};
+use crate::{Chunks, Lead};
 use dz_steps::Steps;
 use std::alloc::{AllocError, Global};
 use std::marker::Brand;
@@ -11,9 +11,14 @@ use std::test::*;
 /// How many keys a map is given.
 const KEYS: u32 = 1_000;
 
-impl Share for u64 {
-    fn share(&self) -> Result<u64, AllocError> {
-        Ok(*self)
+/// First octets that tell no keys apart.
+impl Lead for u32 {
+    ghost lead = { λ key. 0 ∷ 0 ∷ 0 ∷ 0 ∷ 0 ∷ 0 ∷ 0 ∷ 0 ∷ 0 ∷ 0 ∷ 0 ∷ 0 ∷ 0 ∷ 0 ∷ 0 ∷ 0 ∷ [] };
+
+    ghost decides = { λ a b apart. absurd (apart refl) };
+
+    fn lead(&self) -> [u8; 16] {
+        [0; 16]
     }
 }
 

@@ -6,18 +6,20 @@ ghost use Rattle.std.specs.Iterator.{YieldsFirstBy, item_count};
 ghost use Rattle.dz_chunks.specs.inner.Chunked.{flat, AreChunks};
 
 use crate::chunk::Chunk;
+use crate::entry::Entry;
+use crate::lead::Lead;
 use std::iter::Iterator;
 use std::marker::Model;
 use std::sync::Arc;
 
 /// The keys of a map with their values, in ascending order of the keys. Contracts see the entries that are left.
 #[derive(Drop)]
-pub struct Walk<'a, K, V> {
-    entries: &'a [(K, V)],
+pub struct Walk<'a, K: Lead, V> {
+    entries: &'a [Entry<K, V>],
     chunks: &'a [Arc<Chunk<K, V>>],
 }
 
-impl<'a, K, V> Model for Walk<'a, K, V> {
+impl<'a, K: Lead, V> Model for Walk<'a, K, V> {
     ghost use Rattle.std.specs.Prelude.{List, map, ◌++◌};
     ghost use Rattle.std.specs.Arc.{arc_value};
     ghost use Rattle.dz_chunks.specs.inner.Chunked.{flat, AreChunks};
@@ -29,7 +31,7 @@ impl<'a, K, V> Model for Walk<'a, K, V> {
     ghost invariant = { λ w. AreChunks (map arc_value w.chunks.now) };
 }
 
-impl<'a, K: Ord + Copy, V> Walk<'a, K, V> {
+impl<'a, K: Lead + Copy, V> Walk<'a, K, V> {
     /// All entries of chunks.
     pub(crate) fn over(chunks: &'a [Arc<Chunk<K, V>>]) -> Walk<'a, K, V>
         requires { AreChunks (map arc_value chunks.now) }
@@ -42,7 +44,7 @@ impl<'a, K: Ord + Copy, V> Walk<'a, K, V> {
     }
 }
 
-impl<'a, K: Ord + Copy, V> Iterator for Walk<'a, K, V> {
+impl<'a, K: Lead + Copy, V> Iterator for Walk<'a, K, V> {
     type Item = (&'a K, &'a V);
 
     ghost next_gives = { YieldsFirstBy (λ entry. (entry.0.now, entry.1.now)) (λ left. left) };
@@ -52,12 +54,12 @@ impl<'a, K: Ord + Copy, V> Iterator for Walk<'a, K, V> {
     fn next(&mut self) -> Option<(&'a K, &'a V)> {
         if let Some((entry, rest)) = self.entries.split_first() {
             self.entries = rest;
-            return Some((&entry.0, &entry.1));
+            return Some((entry.key(), entry.value()));
         }
         let (chunk, rest) = self.chunks.split_first()?;
         let (entry, others) = chunk.entries().split_first()?;
         self.entries = others;
         self.chunks = rest;
-        Some((&entry.0, &entry.1))
+        Some((entry.key(), entry.value()))
     }
 }

@@ -1,9 +1,10 @@
 -- Meaning: what is held of a zone, and how long it answers (RFC 1035 section 3.3.13).
-use Rattle.std.specs.Prelude.{◌≡◌, ℕ, ◌+◌, ◌<◌, ◌^◌, Bool, false, nat_lt, Option}
+use Rattle.std.specs.Prelude.{◌≡◌, ℕ, ◌<◌, ◌^◌, Bool, false, Option}
 use Rattle.std.specs.Option.{option_and_then, option_map_or, ForSome}
 use Rattle.dz_name.specs.Words.{Name}
 use Rattle.dz_record.specs.Record.{soa_of}
 use Rattle.dz_record.specs.declared.rr.Soa.{Soa}
+use Rattle.dz_timer.specs.Timing as timing
 use Rattle.dz_zone.specs.Version.{Zone, apex_soa}
 
 -- what is held of a zone: its name, the moment in seconds of its last refresh, and its version, if there is one
@@ -23,4 +24,4 @@ soa_held slot = option_and_then soa_of (option_and_then apex_soa slot.version)
 
 -- a version answers until EXPIRE seconds have passed since its last refresh (RFC 1035 section 3.3.13)
 abbrev pub is_live : SlotOf → ℕ → Bool
-is_live slot moment = option_map_or (λ soa. nat_lt moment (slot.refreshed + soa.expire)) (soa_held slot) false
+is_live slot moment = option_map_or (λ soa. timing.is_live slot.refreshed soa.expire moment) (soa_held slot) false

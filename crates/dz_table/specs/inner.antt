@@ -1,3 +1,4 @@
 -- Inner: how the code keeps a table.
 pub mod Kept
 pub mod Lead
+pub mod LeadOrder

@@ -18,9 +18,10 @@ use std::sync::Arc;
 /// is one. A version's apex is the zone. Slots may share a version.
 #[derive(Debug, Drop)]
 pub struct Slot {
-    zone: Name,
+    // what a reply reads stands first, so that it lies beside the name of the key in front of it
     refreshed: u64,
     version: Option<Arc<Version>>,
+    zone: Name,
 }
 
 impl Model for Slot {
@@ -104,7 +105,7 @@ impl Slot {
     {
         match self.version() {
             None => false,
-            Some(version) => moment < self.refreshed + u64::from(version.soa().expire),
+            Some(version) => dz_timer::is_live(self.refreshed, version.soa().expire, moment),
         }
     }
 }

@@ -17,7 +17,7 @@ use std::marker::Model;
 use std::sync::ledger::Ledger;
 
 /// Slots in the canonical order of their zones (RFC 4034 section 6.1), one at most for each zone. A changed table is a
-/// new one, which shares with the old one all slots but some hundred.
+/// new one, which shares with the old one all other slots.
 #[derive(Drop)]
 pub struct Table {
     slots: Chunks<ZoneKey, Slot>,
@@ -63,8 +63,8 @@ impl Table {
         Slots::over(self.slots.walk())
     }
 
-    /// A new table with this slot in place of the one of its zone, or beside the others. It shares their versions. A step
-    /// is a slot copied, or a reference to some of them: at most 256 slots and one reference for each 64 of them.
+    /// A new table with this slot in place of the one of its zone, or beside the others, which it shares. A step is a
+    /// reference copied, to a slot or to a chunk of them: at most 256 of the first, and one chunk for each 64 slots.
     pub fn with<L: Ledger>(
         &self,
         alloc: Global,

@@ -6,7 +6,9 @@ ghost use Rattle.dz_name.specs.Name.{canonical_order, same_name};
 ghost use Rattle.dz_name.specs.Order.{canonical_total, names_equal, names_partly_equal, names_ordered, same_ties};
 ghost use Rattle.dz_index.specs.SortKey.{key_of};
 ghost use Rattle.dz_table.specs.inner.Lead.{lead_of};
+ghost use Rattle.dz_table.specs.inner.LeadOrder.{lead_decides};
 
+use dz_chunks::Lead;
 use dz_index::SortKey;
 use dz_name::Name;
 use std::cmp::Ordering;
@@ -15,7 +17,7 @@ use std::marker::Model;
 /// How many octets of a sort key stand beside the name.
 const LEAD: usize = 16;
 
-/// A zone behind the first octets of its sort key, which tell most zones apart, so that few comparisons read names.
+/// A zone behind the first octets of its sort key, by which a map tells most zones apart.
 #[derive(Clone, Copy)]
 pub(crate) struct ZoneKey {
     lead: [u8; LEAD],
@@ -104,9 +106,16 @@ impl Ord for ZoneKey {
     ghost matches_eq = { same_ties };
 
     fn cmp(&self, other: &ZoneKey) -> Ordering {
-        match self.lead[..].cmp(&other.lead[..]) {
-            Ordering::Equal => self.zone.canonical_cmp(&other.zone),
-            order => order,
-        }
+        self.zone.canonical_cmp(&other.zone)
+    }
+}
+
+impl Lead for ZoneKey {
+    ghost lead = { λ zone. lead_of 16 (key_of zone) };
+
+    ghost decides = { lead_decides };
+
+    fn lead(&self) -> [u8; LEAD] {
+        self.lead
     }
 }

@@ -1,4 +1,4 @@
-use Rattle.std.proofs.Common.{◌∙◌, ◌+◌, ◌-◌, rules, arith, sym, ap, subst}
+use Rattle.std.proofs.Common.{◌∙◌, ◌-◌, rules, arith, sym, ap, subst}
 use Rattle.std.specs.Prelude.{T}
 use Rattle.std.specs.FinMap.{is_sorted}
 use Rattle.std.specs.Arc.{arc_value}

@@ -1,4 +1,4 @@
-use Rattle.std.proofs.Common.{◌≡◌, ◌++◌, map, reverse, length, ℕ}
+use Rattle.std.proofs.Common.{◌≡◌, ◌++◌, map, reverse, length}
 use Rattle.std.specs.Arc.{arc_value}
 use Rattle.dz_chunks.specs.inner.Chunked.{flat, AreFull}
 use Rattle.dz_chunks.proofs.cutting.cut_full.Given as goal

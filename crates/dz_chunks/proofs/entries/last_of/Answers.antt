@@ -12,6 +12,6 @@ returns-then-count-eq0 g c =
 pub returns-else-count-eq0 : goal.returns-else-count-eq0
 returns-else-count-eq0 g c =
     let point = c.partition_point-count.ensures.partitioned (is_upto g.K.Ord.cmp c.args.key.now) (always_returns_same _ _ _ (λ a r f h. search rules)) (upto_partitioned g.K.Ord.cmp g.met.K.Ord.total c.args.key.now c.args.entries.now c.requires) in
-    rw (← c.index-entries-count.is) at (last_at (is_upto g.K.Ord.cmp c.args.key.now) c.args.entries.now (c.partition_point-count.result - 1) c.index-entries-count.result None (omega (arith, c.if-count-eq0.false, c.partition_point-count.ensures.bound))
+    rw (c.key.ensures, c.value.ensures) (rw (← c.index-entries-count.is) at (last_at (is_upto g.K.Ord.cmp c.args.key.now) c.args.entries.now (c.partition_point-count.result - 1) c.index-entries-count.result None (omega (arith, c.if-count-eq0.false, c.partition_point-count.ensures.bound))
     (point.0 (c.partition_point-count.result - 1) c.index-entries-count.result (omega arith) (omega (arith, c.if-count-eq0.false)))
-    (λ j e low lt. point.1 j e (omega (arith, c.if-count-eq0.false)) lt))
+    (λ j e low lt. point.1 j e (omega (arith, c.if-count-eq0.false)) lt)))

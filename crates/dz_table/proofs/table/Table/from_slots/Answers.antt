@@ -1,4 +1,4 @@
-use Rattle.std.proofs.Common.{◌≡◌, ◌∙◌}
+use Rattle.std.proofs.Common.{◌∙◌}
 use Rattle.dz_table.proofs.KeptLemmas.{sorted_entries, kept_slots, slots_are}
 use Rattle.dz_table.proofs.table.Table.from_slots.Goals as goal
 
