@@ -1,0 +1,16 @@
+pub mod CarryLemmas
+pub mod EndLemmas
+pub mod FlightLemmas
+pub mod FlyingLemmas
+pub mod HandLemmas
+pub mod KeptLemmas
+pub mod MadeLemmas
+pub mod RelistLemmas
+pub mod RenewLemmas
+pub mod SettleLemmas
+pub mod SoundLemmas
+pub mod StartLemmas
+pub mod TakeLemmas
+pub mod TakenLemmas
+pub mod WaitLemmas
+pub mod WakeLemmas

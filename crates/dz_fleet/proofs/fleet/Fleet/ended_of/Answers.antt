@@ -1,0 +1,20 @@
+use Rattle.std.proofs.Common.{◌≡◌, sym, ◌∙◌, ap, Some, None, map}
+use Rattle.std.specs.Prelude.{option_map, ◌==◌}
+use Rattle.std.specs.List.{find}
+use Rattle.dz_fleet.specs.inner.Flying.{job_in}
+use Rattle.dz_fleet.proofs.FlightLemmas.{found_ended, found_there}
+use Rattle.dz_fleet.proofs.fleet.Fleet.ended_of.Goals as goal
+
+pub unreachable-requires : goal.unreachable-requires
+unreachable-requires c =
+    let f = rw (← c.self.view_is) at c.requires in
+    let fs = c.self.inside.flying.items in
+    found_there c.args.job.now.flight fs c.self.invariant.sound.apart f.there (rw (c.in-None.is, c.deref.ensures.value, c.ticket.ensures) at c.flying_of.ensures)
+
+pub returns : goal.returns
+returns c =
+    let f = rw (← c.self.view_is) at c.requires in
+    let fs = c.self.inside.flying.items in
+    rw (← c.self.view_is)
+    (found_ended c.self.inside.history c.args.job.now.flight fs c.in-Some.flying.now c.self.invariant.sound.apart c.self.invariant.marked f.there
+    (rw (c.in-Some.is, c.deref.ensures.value, c.ticket.ensures) at c.flying_of.ensures))

@@ -1,0 +1,22 @@
+use Rattle.std.proofs.Common.{sym, ◌∙◌, ap, refl, Some}
+use Rattle.dz_fleet.proofs.MadeLemmas.{job_turn, job_primaries, job_made}
+use Rattle.dz_fleet.proofs.fleet.Fleet.job_at.Goals as goal
+
+pub primary-requires-clause-there : goal.primary-requires-clause-there
+primary-requires-clause-there c =
+    let i = c.self.inside in
+    rw (← c.self.view_is) (job_primaries i.holdings i.history i.tickets i.flying.items i.schedule c.self.invariant c.args.place _ c.at-values.result c.seat_at-zone.ensures c.at-values.ensures)
+
+pub primary-requires-clause-turn : goal.primary-requires-clause-turn
+primary-requires-clause-turn c =
+    let i = c.self.inside in
+    rw (c.turn.ensures, ← c.self.view_is) (job_turn i.holdings i.history i.tickets i.flying.items i.schedule c.self.invariant c.args.place _ c.at-values.result c.seat_at-zone.ensures c.at-values.ensures)
+
+pub returns : goal.returns
+returns c =
+    let i = c.self.inside in
+    let held = c.in_ok-held.ensures ∙ c.held.ensures.held in
+    let ask = rw c.is_whole.ensures at c.ask_of.ensures in
+    let primary = rw (← c.self.view_is, c.turn.ensures) at c.primary.ensures in
+    rw (← c.self.view_is)
+    (c.new.ensures ∙ job_made i.holdings i.history i.tickets i.flying.items i.schedule c.self.invariant c.args.place _ c.at-values.result c.seat_at-zone.ensures c.at-values.ensures c.args.now _ _ _ held ask primary)

@@ -1,0 +1,26 @@
+use Rattle.std.proofs.Common.{◌≡◌, sym, ◌∙◌, refl, ap, None}
+use Rattle.dz_take.specs.Transfer.{up_to_date}
+use Rattle.dz_history.specs.State.{State}
+use Rattle.dz_history.specs.After.{after, aftermath_of}
+use Rattle.dz_history.proofs.ListLemmas.{count_is}
+use Rattle.dz_history.proofs.StateLemmas.{same_alone}
+use Rattle.dz_fleet.specs.Core.{state_of, verdict_of}
+use Rattle.dz_fleet.specs.inner.Kept.{core_in}
+use Rattle.dz_fleet.proofs.TakeLemmas.{verdict_is}
+use Rattle.dz_fleet.proofs.fleet.Fleet.judge_same.Goals as goal
+
+pub returns-clause-verdict : goal.returns-clause-verdict
+returns-clause-verdict c =
+    let k = c.self.invariant in
+    let i = c.self.inside in
+    let same = rw c.requires.transfer at c.requires.same in
+    let none = rw (← c.self.view_is) at c.requires.standing in
+    let count = c.count.ensures ∙ (ap (λ (s : State). s.count) k.after ∙ count_is i.history k.sound.legal) in
+    let serial = rw c.held.ensures.held at c.serial_of.ensures in
+    rw (← c.self.view_is, count, serial) (sym (verdict_is (core_in i.history i.tickets i.flying.items i.schedule) c.args.job.now c.args.finished.now.octets up_to_date None same none))
+
+pub returns-clause-renewed : goal.returns-clause-renewed
+returns-clause-renewed c =
+    let zone = c.args.job.now.flight.zone in
+    let a = c.in_ok-renewal.ensures.aftermath ∙ (ap (aftermath_of (state_of c.args.self.now) zone) c.requires.same ∙ same_alone (state_of c.args.self.now) zone) in
+    rw a at c.in_ok-renewal.ensures.renewed

@@ -1,0 +1,65 @@
+use Rattle.std.proofs.Common.{◌≡◌, sym, ◌∙◌, ap, refl, subst, arith, length, Some}
+use Rattle.std.specs.Prelude.{IsSome}
+use Rattle.dz_take.specs.Outcome.{outcome}
+use Rattle.dz_take.specs.Transfer.{Transfer}
+use Rattle.dz_history.specs.State.{State, incarnation_at}
+use Rattle.dz_history.specs.After.{after, step, taken, aftermath_of}
+use Rattle.dz_history.proofs.ListLemmas.{count_is}
+use Rattle.dz_history.proofs.StepLemmas.{config_step}
+use Rattle.dz_job.specs.Job.{taken_for}
+use Rattle.dz_fleet.specs.Core.{Core, entry_for}
+use Rattle.dz_fleet.specs.Weighing.{values_for}
+use Rattle.dz_fleet.specs.inner.Kept.{core_in}
+use Rattle.dz_fleet.proofs.SoundLemmas.{among_stands}
+use Rattle.dz_fleet.proofs.TakeLemmas.{stands_some, step_is, room_more, taken_step}
+use Rattle.dz_fleet.proofs.fleet.Fleet.take.Goals as goal
+
+pub take-requires-clause-assigned : goal.take-requires-clause-assigned
+take-requires-clause-assigned c =
+    let k = c.self.invariant in
+    let i = c.self.inside in
+    let f = rw (← c.self.view_is) at c.requires.flying in
+    let none = rw (← c.self.view_is) at c.requires.standing in
+    let stood = among_stands (core_in i.history i.tickets i.flying.items i.schedule) c.args.job.now k.sound f.there none in
+    rw c.requires.transfer (subst (λ s. IsSome (incarnation_at s c.args.job.now.flight.zone)) (sym k.after) (stands_some (after i.history) c.args.job.now.flight.zone c.args.job.now.flight.incarnation stood))
+
+pub take-requires-clause-moment : goal.take-requires-clause-moment
+take-requires-clause-moment c = rw c.moment.ensures c.held.ensures.valid.moment
+
+pub take-requires-clause-room : goal.take-requires-clause-room
+take-requires-clause-room c =
+    let k = c.self.invariant in
+    let i = c.self.inside in
+    let f = rw (← c.self.view_is) at c.requires.flying in
+    omega (arith, room_more (core_in i.history i.tickets i.flying.items i.schedule) c.args.job.now k.sound f.there, count_is i.history k.sound.legal, ap (λ (s : State). s.count) k.after)
+
+pub renewal-requires : goal.renewal-requires
+renewal-requires c =
+    let k = c.self.invariant in
+    let i = c.self.inside in
+    let j = c.args.job.now in
+    let f = rw (← c.self.view_is) at c.requires.flying in
+    let none = rw (← c.self.view_is) at c.requires.standing in
+    let stood = among_stands (core_in i.history i.tickets i.flying.items i.schedule) j k.sound f.there none in
+    let state = rw (c.requires.transfer, c.moment.ensures) at c.in_ok-holdings.ensures.state in
+    let is = state ∙ taken_step i.holdings (after i.history) j c.args.finished.now.octets k.after (f.held stood) in
+    rw (← c.self.view_is) record { config = ap (λ (s : State). s.fold.config) is ∙ config_step (after i.history) (taken_for j c.args.finished.now.octets) }
+
+pub returns-clause-aftermath : goal.returns-clause-aftermath
+returns-clause-aftermath c =
+    let k = c.self.invariant in
+    let a = rw (c.requires.transfer, k.after) at c.in_ok-holdings.ensures.aftermath in
+    rw (← c.self.view_is, c.requires.transfer) a
+
+pub returns-clause-renewed : goal.returns-clause-renewed
+returns-clause-renewed c =
+    let k = c.self.invariant in
+    let i = c.self.inside in
+    let j = c.args.job.now in
+    let f = rw (← c.self.view_is) at c.requires.flying in
+    let none = rw (← c.self.view_is) at c.requires.standing in
+    let stood = among_stands (core_in i.history i.tickets i.flying.items i.schedule) j k.sound f.there none in
+    let state = rw (c.requires.transfer, c.moment.ensures) at c.in_ok-holdings.ensures.state in
+    let is = state ∙ taken_step i.holdings (after i.history) j c.args.finished.now.octets k.after (f.held stood) in
+    let r = rw (← c.self.view_is, is) at c.in_ok-renewal.ensures in
+    rw (← c.self.view_is) r

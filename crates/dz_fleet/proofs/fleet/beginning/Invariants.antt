@@ -1,0 +1,6 @@
+use Rattle.std.proofs.Common.{◌≡◌, replicate}
+use Rattle.dz_schedule.specs.Values.{fresh}
+use Rattle.dz_fleet.proofs.fleet.beginning.Given as goal
+
+abbrev pub invariant-zones : goal.invariant-zones
+invariant-zones l = l.values.items ≡ replicate l._place fresh

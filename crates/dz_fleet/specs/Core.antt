@@ -1,0 +1,247 @@
+-- Meaning: the core of the server: the list of taken transfers, the jobs in flight and what each zone waits for, and what
+-- each event makes of them (RFC 9432 section 5, RFC 1995 section 4, RFC 1996 section 3, RFC 8976 section 4).
+use Rattle.std.specs.Prelude.{◌≡◌, ℕ, ◌+◌, ◌-◌, ◌^◌, ◌%◌, ◌==◌, ◌||◌, Bool, true, false, not, nat_le, nat_lt, List, [], ◌∷◌, ◌++◌, length, map, filter, take, slice_set, slice_index_or, replicate, position, Option, Some, None, if◌then◌else◌}
+use Rattle.std.specs.Option.{option_map, option_map_or}
+use Rattle.std.specs.List.{list_any}
+use Rattle.std.specs.Str.{bytes_eq}
+use Rattle.dz_name.specs.Words.{Name, Octets}
+use Rattle.dz_io.specs.declared.peer.Peer.{Peer}
+use Rattle.dz_zone.specs.Version.{Zone}
+use Rattle.dz_zonemd.specs.Standing.{standing}
+use Rattle.dz_zonemd.specs.Acceptance.{accepts}
+use Rattle.dz_member.specs.declared.config.CatalogSettings.{CatalogSettings}
+use Rattle.dz_member.specs.declared.config.Policy.{Policy}
+use Rattle.dz_notify.specs.declared.notify.Heard.{Heard}
+use Rattle.dz_notify.specs.declared.notify.Heard.TheVariants as heard
+use Rattle.dz_schedule.specs.Values.{ValuesOf, fresh, departed, succeeded, failed, refused, notified}
+use Rattle.dz_schedule.specs.Schedule.{is_first}
+use Rattle.dz_take.specs.declared.ask.Ask.{Ask}
+use Rattle.dz_take.specs.declared.ask.Ask.TheVariants.{Axfr, Ixfr}
+use Rattle.dz_take.specs.declared.outcome.TakeFault.{TakeFault}
+use Rattle.dz_take.specs.declared.outcome.TakeFault.TheVariants.{Incomplete, Message, WrongId, WrongQuestion, Rcode, Shape, Zone as BadZone, OldSerial, TooLong}
+use Rattle.dz_take.specs.Outcome.{outcome, octets_used}
+use Rattle.dz_take.specs.Transfer.{Decision, up_to_date, new}
+use Rattle.dz_take.specs.Transfer as transfer
+use Rattle.dz_history.specs.declared.aftermath.Aftermath.{Aftermath}
+use Rattle.dz_history.specs.declared.aftermath.Aftermath.TheVariants.{Member}
+use Rattle.dz_history.specs.declared.entry.Entry.{Entry}
+use Rattle.dz_history.specs.declared.entry.Entry.TheVariants.{Setup, Transfer}
+use Rattle.dz_history.specs.State.{State, held_at, policy_at, primaries_at}
+use Rattle.dz_history.specs.After.{after, step, aftermath_of}
+use Rattle.dz_history.specs.Ended.{ended}
+use Rattle.dz_history.specs.Places.{Seat, seats, place_at}
+use Rattle.dz_job.specs.declared.flight.Flight.{Flight}
+use Rattle.dz_fleet.specs.declared.due.Due.{Due}
+use Rattle.dz_fleet.specs.declared.due.Due.TheVariants as due
+use Rattle.dz_job.specs.declared.verdict.Verdict.{Verdict}
+use Rattle.dz_job.specs.declared.verdict.Verdict.TheVariants.{Published, Confirmed, Refused, PolicyRefused, Stale, OutOfMemory}
+use Rattle.dz_job.specs.declared.verdict.Failure.{Failure}
+use Rattle.dz_job.specs.declared.verdict.Failure.TheVariants as failures
+use Rattle.dz_job.specs.Job.{JobOf, transfer_for, taken_for, serial_in, refresh_in, retry_in}
+use Rattle.dz_fleet.specs.Quiet.{QuietOf}
+use Rattle.dz_fleet.specs.Values.{value_at, changed, values_after}
+
+-- the list of taken transfers, how many tickets were handed out, the jobs in flight in the order of their tickets, and
+-- what each zone waits for, by its place
+pub record Core : Type 0 where
+  pub list : List Entry
+  pub tickets : ℕ
+  pub flight : List JobOf
+  pub values : List ValuesOf
+
+-- what the list assigns and holds
+abbrev pub state_of : Core → State
+state_of c = after c.list
+
+-- the core of a configuration: each catalog begins
+abbrev pub opened_core : List CatalogSettings → Core
+opened_core config = record { list = Setup config ∷ []; tickets = 0; flight = []; values = replicate (length config) fresh }
+
+-- ---- a job is asked for
+-- 16 jobs are in flight, or 2^64 - 2 tickets were handed out
+abbrev pub is_full : Core → Bool
+is_full c = nat_le 16 (length c.flight) || nat_le (2 ^ 64 - 2) c.tickets
+
+-- the place of the first zone among those without a job in flight that wait for the earliest moment
+abbrev pub first_place : Core → Option ℕ
+first_place c = position (is_first c.values) c.values
+
+abbrev pub quiet_of : Core → ℕ → QuietOf
+quiet_of c now = record {
+  count = length c.list;
+  moment = now;
+  in_flight = length c.flight;
+  drawn = c.tickets;
+  earliest = option_map (λ place. (value_at c.values place).timing.next) (first_place c);
+}
+
+-- the whole zone where none is held or where it is wanted, and else differences (RFC 1995 section 4)
+abbrev pub ask_of : Option Zone → Bool → Ask
+ask_of None whole = Axfr
+ask_of (Some zone) whole = if whole then Axfr else Ixfr
+
+-- one of the primaries of a zone
+abbrev pub primary_at : Option (List Peer) → ℕ → Peer
+primary_at peers number = slice_index_or (option_map_or (λ ps. ps) peers []) number record { address = []; port = 0 }
+
+abbrev pub seat_at : State → ℕ → Seat
+seat_at s place = slice_index_or (seats s) place record { zone = []; incarnation = 0 }
+
+-- the job of a zone, with the next ticket and that ticket as its ID
+abbrev pub flight_for : Core → ℕ → Seat → ValuesOf → Flight
+flight_for c now seat v = record {
+  ticket = c.tickets + 1;
+  zone = seat.zone;
+  incarnation = seat.incarnation;
+  ask = ask_of (held_at (state_of c) seat.zone) v.whole;
+  id = (c.tickets + 1) % 2 ^ 16;
+  primary = primary_at (primaries_at (state_of c) seat.zone) v.turn;
+  moment = now;
+}
+
+abbrev pub job_for : Core → ℕ → Seat → ValuesOf → JobOf
+job_for c now seat v = record { flight = flight_for c now seat v; held = held_at (state_of c) seat.zone }
+
+unfoldable pub job_at : Core → ℕ → ℕ → JobOf
+job_at c now place = job_for c now (seat_at (state_of c) place) (value_at c.values place)
+
+abbrev pub due_from : Core → ℕ → Option ℕ → Due
+due_from c now None = due.Idle (quiet_of c now)
+due_from c now (Some place) = if nat_lt now (value_at c.values place).timing.next then due.Idle (quiet_of c now) else due.Job (job_at c now place)
+
+abbrev pub due_of : Core → ℕ → Due
+due_of c now = if is_full c then due.Full (quiet_of c now) else due_from c now (first_place c)
+
+-- a job that is handed out joins those in flight, and its zone has one
+abbrev pub after_due : Core → Due → Core
+after_due c (due.Job job) = record c {
+  tickets = c.tickets + 1;
+  flight = c.flight ++ job ∷ [];
+  values = changed c.values (first_place c) departed;
+}
+after_due c (due.Idle quiet) = c
+after_due c (due.Full quiet) = c
+after_due c due.OutOfMemory = c
+
+-- what is answered and what is left; want of memory leaves all
+abbrev pub IsDue : Core → ℕ → Due → Core → Type 0
+IsDue c now due.OutOfMemory d = d ≡ c
+IsDue c now answer d = (answer ≡ due_of c now) × (d ≡ after_due c answer)
+
+-- ---- a job ends
+-- the entry that ended the incarnation of a job, if one did
+abbrev pub ended_of : Core → JobOf → Option ℕ
+ended_of c job = ended c.list job.flight.zone job.flight.incarnation
+
+-- the other jobs stay in flight
+abbrev pub others : List JobOf → JobOf → List JobOf
+others jobs job = filter (λ j. not (j.flight.ticket == job.flight.ticket)) jobs
+
+abbrev pub landed : Core → JobOf → Core
+landed c job = record c { flight = others c.flight job }
+
+-- how many primaries a zone has
+abbrev pub primaries_of : State → Name → ℕ
+primaries_of s zone = option_map_or (λ ps. length ps) (primaries_at s zone) 1
+
+-- the zone of a job waits after a failure at a moment, and after what it brought was refused
+abbrev pub failed_in : State → Name → ℕ → ValuesOf → ValuesOf
+failed_in s zone now v = failed v now (retry_in (held_at s zone)) (primaries_of s zone)
+
+abbrev pub refused_in : State → Name → ℕ → ValuesOf → ValuesOf
+refused_in s zone now v = refused v now (retry_in (held_at s zone)) (primaries_of s zone)
+
+abbrev pub after_failure : Core → JobOf → ℕ → Core
+after_failure c job now =
+    let zone = job.flight.zone in
+    record (landed c job) { values = changed c.values (place_at (state_of c) zone) (failed_in (state_of c) zone now) }
+
+abbrev pub after_refusal : Core → JobOf → ℕ → Core
+after_refusal c job now =
+    let zone = job.flight.zone in
+    record (landed c job) { values = changed c.values (place_at (state_of c) zone) (refused_in (state_of c) zone now) }
+
+-- an old serial alone leaves what is asked for next
+abbrev pub is_old_serial : TakeFault → Bool
+is_old_serial (OldSerial serial) = true
+is_old_serial fault = false
+
+-- the entry joins the list, and the zone waits for its next refresh from the moment of the job
+abbrev pub entry_for : JobOf → Octets → Entry
+entry_for job octets = Transfer (taken_for job octets)
+
+abbrev pub succeeded_in : State → Name → ℕ → List ValuesOf → List ValuesOf
+succeeded_in t zone moment values = changed values (place_at t zone) (λ v. succeeded v moment (refresh_in (held_at t zone)))
+
+unfoldable pub after_success : Core → JobOf → Octets → Aftermath → Core
+after_success c job octets aftermath =
+    let t = step (state_of c) (entry_for job octets) in
+    record (landed c job) {
+      list = c.list ++ entry_for job octets ∷ [];
+      values = succeeded_in t job.flight.zone job.flight.moment (values_after (state_of c) c.values aftermath t.fold.members);
+    }
+
+-- the policy of a zone accepts what the ZONEMD records of a new version say (RFC 8976 section 4)
+abbrev pub is_accepted : Option Policy → Zone → Bool
+is_accepted policy zone = option_map_or (λ p. accepts p (standing zone.apex zone.records)) policy false
+
+-- the verdict: stale where an entry ended the incarnation, and else by what came of the transfer
+abbrev pub verdict_from : Core → JobOf → Decision → Option ℕ → Verdict
+verdict_from c job decision (Some position) = Stale position
+verdict_from c job up_to_date None = Confirmed (length c.list) (serial_in job.held)
+verdict_from c job (transfer.refused fault) None = Refused fault
+verdict_from c job (new zone) None =
+    if is_accepted (policy_at (state_of c) job.flight.zone) zone
+    then Published (length c.list) (serial_in (Some zone)) (aftermath_of (state_of c) job.flight.zone (new zone))
+    else PolicyRefused (standing zone.apex zone.records)
+
+-- the octets of a transfer that are used, which are all that is looked at
+abbrev pub used_of : JobOf → Octets → Octets
+used_of job octets = take (octets_used (transfer_for job) octets) octets
+
+unfoldable pub verdict_of : Core → JobOf → Octets → Verdict
+verdict_of c job octets = verdict_from c job (outcome (transfer_for job) octets) (ended_of c job)
+
+-- what a verdict makes of the core; want of memory counts as a failure
+abbrev pub after_end : Core → JobOf → ℕ → Option ℕ → Core
+after_end c job now (Some position) = landed c job
+after_end c job now None = after_failure c job now
+
+abbrev pub after_verdict : Core → JobOf → Octets → ℕ → Verdict → Core
+after_verdict c job octets now (Published position serial aftermath) = after_success c job octets aftermath
+after_verdict c job octets now (Confirmed position serial) = after_success c job octets Member
+after_verdict c job octets now (Refused fault) = if is_old_serial fault then after_failure c job now else after_refusal c job now
+after_verdict c job octets now (PolicyRefused standing) = after_refusal c job now
+after_verdict c job octets now (Stale position) = landed c job
+after_verdict c job octets now OutOfMemory = after_end c job now (ended_of c job)
+
+-- a job ends with these octets at a moment
+abbrev pub settled : Core → JobOf → Octets → ℕ → Core
+settled c job octets now = after_verdict c job (used_of job octets) now (verdict_of c job octets)
+
+-- it fails; for want of memory it ends in the same way
+abbrev pub failure_of : Option ℕ → Failure
+failure_of (Some position) = failures.Stale position
+failure_of None = failures.Failed
+
+abbrev pub failed_core : Core → JobOf → ℕ → Core
+failed_core c job now = after_end c job now (ended_of c job)
+
+-- what `offer` answers and leaves
+abbrev pub IsOffered : Core → JobOf → Octets → ℕ → Verdict → Core → Type 0
+IsOffered c job octets now OutOfMemory d = d ≡ failed_core c job now
+IsOffered c job octets now verdict d = (verdict ≡ verdict_of c job octets) × (d ≡ settled c job octets now)
+
+-- ---- a NOTIFY comes (RFC 1996 section 3.11)
+abbrev pub heard_from : Peer → Option (List Peer) → Heard
+heard_from peer None = heard.NotOurs
+heard_from peer (Some peers) = if list_any (λ p. bytes_eq p.address peer.address) peers then heard.Taken else heard.Stranger
+
+abbrev pub heard_of : Core → Peer → Name → Heard
+heard_of c peer zone = heard_from peer (primaries_at (state_of c) zone)
+
+-- one that is taken changes the zone; any other changes nothing
+abbrev pub after_notify : Core → Name → Heard → Core
+after_notify c zone heard.Taken = record c { values = changed c.values (place_at (state_of c) zone) notified }
+after_notify c zone heard.Stranger = c
+after_notify c zone heard.NotOurs = c

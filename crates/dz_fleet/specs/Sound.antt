@@ -1,0 +1,76 @@
+-- Meaning: what holds of every core that can come about.
+use Rattle.std.specs.Prelude.{⊤, ◌≡◌, ◌⊎◌, ℕ, ◌+◌, ◌-◌, ◌^◌, ◌<◌, ◌≤◌, ◌==◌, ◌&&◌, Bool, true, false, List, [], ◌∷◌, length, map, slice_get, Some, None}
+use Rattle.std.specs.List.{AllByRecursion, list_any}
+use Rattle.dz_name.specs.Name.{same_name}
+use Rattle.dz_schedule.specs.Values.{ValuesOf}
+use Rattle.dz_history.specs.State.{State, held_at, primaries_at, stands}
+use Rattle.dz_history.specs.declared.entry.Entry.{Entry}
+use Rattle.dz_history.specs.After.{after}
+use Rattle.dz_history.specs.Ended.{ended}
+use Rattle.dz_history.specs.Legal.{IsLegal}
+use Rattle.dz_history.specs.Places.{Seat, seats}
+use Rattle.dz_job.specs.declared.flight.Flight.{Flight}
+use Rattle.dz_job.specs.Job.{JobOf, IsJob}
+use Rattle.dz_fleet.specs.declared.due.Due.{Due}
+use Rattle.dz_fleet.specs.declared.due.Due.TheVariants as due
+use Rattle.dz_fleet.specs.Core.{Core, state_of, primaries_of}
+use Rattle.dz_fleet.specs.Values.{value_at}
+
+-- a job is of this incarnation
+abbrev pub is_of : Seat → JobOf → Bool
+is_of seat job = same_name job.flight.zone seat.zone && job.flight.incarnation == seat.incarnation
+
+abbrev pub seat_of : JobOf → Seat
+seat_of job = record { zone = job.flight.zone; incarnation = job.flight.incarnation }
+
+-- a job in flight: its ticket was handed out, its incarnation began by an entry that is there and stands until one ends
+-- it, and while it stands the job's version is the one that is held
+pub record IsSent (list : List Entry) (tickets : ℕ) (job : JobOf) : Type 0 where
+  pub valid : IsJob job
+  pub ticket : job.flight.ticket ≤ tickets
+  pub old : job.flight.incarnation < length list
+  pub standing : ended list job.flight.zone job.flight.incarnation ≡ None → stands (after list) job.flight.zone job.flight.incarnation ≡ true
+  pub held : stands (after list) job.flight.zone job.flight.incarnation ≡ true → job.held ≡ held_at (after list) job.flight.zone
+
+-- tickets rise, and no two jobs are of one incarnation
+unfoldable pub AreApart : List JobOf → Type 0
+AreApart [] = ⊤
+AreApart (job ∷ jobs) =
+    AllByRecursion (λ other. job.flight.ticket < other.flight.ticket) jobs
+    × AllByRecursion (λ other. is_of (seat_of job) other ≡ false) jobs
+    × AreApart jobs
+
+-- what a zone waits for: it is marked to have a job exactly where one of its incarnation is in flight, and the primary
+-- that it asks is one that it has
+pub record IsWaiting (s : State) (jobs : List JobOf) (seat : Seat) (v : ValuesOf) : Type 0 where
+  pub busy : v.timing.busy ≡ list_any (is_of seat) jobs
+  pub turn : v.turn < primaries_of s seat.zone
+
+-- the list is legal and has begun; there are values for each place; there are at most 16 jobs, and tickets for all entries
+pub record IsSound (c : Core) : Type 0 where
+  pub legal : IsLegal c.list
+  pub begun : 0 < length c.list
+  pub sized : length c.values ≡ length (seats (state_of c))
+  pub waiting : (place : ℕ) (seat : Seat) → slice_get (seats (state_of c)) place ≡ Some seat → IsWaiting (state_of c) c.flight seat (value_at c.values place)
+  pub sent : AllByRecursion (IsSent c.list c.tickets) c.flight
+  pub apart : AreApart c.flight
+  pub few : length c.flight ≤ 16
+  pub drawn : length c.list + length c.flight ≤ c.tickets + 1
+  pub most : c.tickets ≤ 2 ^ 64 - 2
+
+-- a job is this core's: one in flight agrees with it, and while its incarnation stands its version is the one that is
+-- held
+unfoldable pub IsAmong : Flight → List JobOf → Type 0
+IsAmong flight [] = ⊥
+IsAmong flight (job ∷ jobs) = (job.flight ≡ flight) ⊎ IsAmong flight jobs
+
+pub record IsFlying (c : Core) (job : JobOf) : Type 0 where
+  pub there : IsAmong job.flight c.flight
+  pub held : stands (state_of c) job.flight.zone job.flight.incarnation ≡ true → job.held ≡ held_at (state_of c) job.flight.zone
+
+-- a job that was handed out is this core's
+abbrev pub IsHanded : Due → Core → Type 0
+IsHanded (due.Job job) c = IsFlying c job
+IsHanded (due.Idle quiet) c = ⊤
+IsHanded (due.Full quiet) c = ⊤
+IsHanded due.OutOfMemory c = ⊤

@@ -1,0 +1,73 @@
+-- Meaning: a transfer that was weighed, and what it holds for the core that it fits.
+use Rattle.std.specs.Prelude.{◌≡◌, ℕ, ◌^◌, ◌<◌, Bool, true, false, List, [], length, Option, Some, None}
+use Rattle.dz_name.specs.Words.{Octets}
+use Rattle.dz_take.specs.Outcome.{octets_used}
+use Rattle.dz_schedule.specs.Values.{ValuesOf}
+use Rattle.dz_history.specs.declared.entry.Entry.{Entry}
+use Rattle.dz_history.specs.declared.entry.Entry.TheVariants.{Setup, Transfer}
+use Rattle.dz_history.specs.declared.aftermath.Aftermath.{Aftermath}
+use Rattle.dz_history.specs.declared.aftermath.Aftermath.TheVariants.{Member, Broken, Changes}
+use Rattle.dz_history.specs.State.{State}
+use Rattle.dz_history.specs.After.{step, aftermath_of, decision_of}
+use Rattle.dz_job.specs.declared.verdict.Verdict.{Verdict}
+use Rattle.dz_job.specs.declared.verdict.Verdict.TheVariants.{Published, Confirmed, Refused, PolicyRefused, Stale, OutOfMemory}
+use Rattle.dz_job.specs.Job.{JobOf, transfer_for, taken_for}
+use Rattle.dz_fleet.specs.Values.{relisted_values}
+use Rattle.dz_fleet.specs.Core.{Core, state_of, entry_for, verdict_of}
+
+-- what is assigned and held afterwards, and what each zone waits for where a listing was processed
+pub record Renewed : Type 0 where
+  pub state : State
+  pub values : Option (List ValuesOf)
+
+-- the entry that the transfer makes or would make, the moment of its end, the verdict, what stands afterwards where it is
+-- taken, and whether the step is still to be handed out
+pub record Weighing : Type 0 where
+  pub entry : Entry
+  pub moment : ℕ
+  pub verdict : Verdict
+  pub renewed : Option Renewed
+  pub is_there : Bool
+
+abbrev pub octets_in : Entry → Octets
+octets_in (Setup config) = []
+octets_in (Transfer t) = t.octets
+
+abbrev pub values_for : State → List ValuesOf → State → Aftermath → Option (List ValuesOf)
+values_for s values t (Changes changes) = Some (relisted_values s values t.fold.members)
+values_for s values t Member = None
+values_for s values t (Broken reason) = None
+
+abbrev pub renewal_for : Core → JobOf → Octets → Aftermath → Option Renewed
+renewal_for c job octets aftermath =
+    let t = step (state_of c) (entry_for job octets) in
+    Some record { state = t; values = values_for (state_of c) c.values t aftermath }
+
+-- what a transfer that is taken changes beside itself
+unfoldable pub aftermath_in : Core → JobOf → Octets → Aftermath
+aftermath_in c job octets = aftermath_of (state_of c) job.flight.zone (decision_of (state_of c) (taken_for job octets))
+
+abbrev pub renewed_for : Core → JobOf → Octets → Verdict → Option Renewed
+renewed_for c job octets (Published position serial aftermath) = renewal_for c job octets aftermath
+renewed_for c job octets (Confirmed position serial) = renewal_for c job octets Member
+renewed_for c job octets (Refused fault) = None
+renewed_for c job octets (PolicyRefused standing) = None
+renewed_for c job octets (Stale position) = None
+renewed_for c job octets OutOfMemory = None
+
+-- a verdict by which a transfer is taken
+abbrev pub is_taken : Verdict → Bool
+is_taken (Published position serial aftermath) = true
+is_taken (Confirmed position serial) = true
+is_taken (Refused fault) = false
+is_taken (PolicyRefused standing) = false
+is_taken (Stale position) = false
+is_taken OutOfMemory = false
+
+-- what was weighed is of this core and this job
+pub record Fits (c : Core) (job : JobOf) (w : Weighing) : Type 0 where
+  pub entry : w.entry ≡ entry_for job (octets_in w.entry)
+  pub used : octets_used (transfer_for job) (octets_in w.entry) ≡ length (octets_in w.entry)
+  pub moment : w.moment < 2 ^ 40
+  pub verdict : w.verdict ≡ verdict_of c job (octets_in w.entry)
+  pub renewed : w.renewed ≡ renewed_for c job (octets_in w.entry) w.verdict

@@ -1,0 +1,4 @@
+-- Inner: how the code keeps jobs in flight and what was weighed.
+pub mod Flying
+pub mod Kept
+pub mod Renewing

@@ -1,0 +1,15 @@
+//! Jobs in flight.
+
+use dz_job::Flight;
+use dz_zone::Version;
+use std::snapshot::Snapshot;
+use std::sync::Arc;
+
+/// A job in flight, and the position of the entry that ended its incarnation. The version that was held is seen by contracts
+/// alone.
+#[derive(Drop)]
+pub(crate) struct Flying {
+    pub(crate) flight: Flight,
+    pub(crate) held: Snapshot<Option<Arc<Version>>>,
+    pub(crate) ended: Option<u64>,
+}

@@ -1,0 +1,22 @@
+//! The core of the server: which transfers are asked for and when, what is taken, what is published, and who is believed
+//! (RFC 9432 section 5, RFC 1995 section 4, RFC 1996 section 3).
+#![tactic(auto)]
+
+mod carrying;
+mod due;
+mod fleet;
+mod flight;
+mod handing;
+mod places;
+mod settling;
+#[cfg(test)]
+mod tests;
+mod weighed;
+mod weighing;
+
+pub use due::{Due, Quiet};
+pub use dz_history::{Aftermath, Entry, Taken};
+pub use dz_job::{Failure, Flight, Job, Verdict};
+pub use dz_notify::Heard;
+pub use fleet::Fleet;
+pub use weighed::{Step, Weighed};
