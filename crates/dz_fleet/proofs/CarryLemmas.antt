@@ -1,6 +1,6 @@
 -- The values of a member after a listing, by cases.
-use Rattle.std.proofs.Common.{◌≡◌, ℕ, ◌+◌, ◌++◌, [], ◌∷◌, map, take, get_or, length, append_assoc, true, false, List, refl, sym, ◌∙◌, ap, arith, inl, inr, Some, None}
-use Rattle.std.specs.Prelude.{Option, ◌==◌, slice_get}
+use Rattle.std.proofs.Common.{◌≡◌, ℕ, ◌+◌, ◌++◌, [], ◌∷◌, map, take, get_or, length, append_assoc, true, List, refl, ◌∙◌, ap, arith, inl, inr, Some, None}
+use Rattle.std.specs.Prelude.{◌==◌, slice_get}
 use Rattle.std.proofs.lemmas.Option.{get_or_from_slice_get, slice_get_within}
 use Rattle.std.proofs.lemmas.List.{map-append, take_more}
 use Rattle.std.proofs.lemmas.Bool.{cases_Bool, eqb-true}

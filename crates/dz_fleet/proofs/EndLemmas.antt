@@ -1,22 +1,21 @@
 -- A job that ends by which nothing is taken, and its zone.
-use Rattle.std.proofs.Common.{◌≡◌, ℕ, ◌+◌, ◌-◌, ◌%◌, ◌<◌, ◌≤◌, Bool, true, false, List, [], ◌∷◌, map, length, refl, sym, ◌∙◌, ap, subst, arith, inl, inr, Some, None}
+use Rattle.std.proofs.Common.{◌≡◌, ℕ, ◌<◌, ◌≤◌, Bool, true, false, List, map, length, refl, sym, ◌∙◌, subst, arith, Some, None}
 use Rattle.std.specs.Prelude.{Option, slice_get, slice_set, filter, IsSome, if◌then◌else◌}
 use Rattle.std.specs.Option.{option_map_or}
-use Rattle.std.specs.List.{AllByRecursion}
 use Rattle.std.proofs.lemmas.Option.{get_or_from_slice_get}
 use Rattle.dz_io.specs.declared.peer.Peer.{Peer}
 use Rattle.dz_schedule.specs.Values.{ValuesOf, fresh, failed, refused}
 use Rattle.dz_history.specs.declared.entry.Entry.{Entry}
-use Rattle.dz_history.specs.State.{State, IsState, held_at, primaries_at, stands}
+use Rattle.dz_history.specs.State.{State, IsState, held_at, primaries_at}
 use Rattle.dz_history.specs.After.{after}
 use Rattle.dz_history.specs.Ended.{ended}
-use Rattle.dz_history.specs.Places.{Seat, IsSeated, seats, place_at}
+use Rattle.dz_history.specs.Places.{IsSeated, seats, place_at}
 use Rattle.dz_history.proofs.PlaceLemmas.{place_there}
 use Rattle.dz_history.proofs.PrimaryLemmas.{primaries_some}
 use Rattle.dz_job.specs.Job.{JobOf, retry_in}
 use Rattle.dz_fleet.specs.declared.flight.Flying.{Flying}
-use Rattle.dz_fleet.specs.Values.{value_at, changed}
-use Rattle.dz_fleet.specs.Core.{Core, others, primaries_of, after_failure, after_refusal, failed_in, refused_in}
+use Rattle.dz_fleet.specs.Values.{value_at}
+use Rattle.dz_fleet.specs.Core.{others, primaries_of, after_failure, after_refusal}
 use Rattle.dz_fleet.specs.Sound.{seat_of, IsAmong}
 use Rattle.dz_fleet.specs.inner.Flying.{job_in}
 use Rattle.dz_fleet.specs.inner.Kept.{core_in, IsKept}

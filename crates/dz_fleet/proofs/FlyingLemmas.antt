@@ -1,9 +1,8 @@
 -- A job in flight is this core's.
-use Rattle.std.proofs.Common.{◌≡◌, ℕ, Bool, true, List, [], ◌∷◌, ◌++◌, refl, subst, inl, inr, Some, None, ap, sym}
-use Rattle.std.specs.Prelude.{◌⊎◌, Option, slice_get, zero, suc}
+use Rattle.std.proofs.Common.{◌≡◌, ℕ, List, [], ◌∷◌, subst, inl, inr, Some, ap}
+use Rattle.std.specs.Prelude.{slice_get, zero, suc}
 use Rattle.std.specs.List.{AllByRecursion}
 use Rattle.dz_job.specs.Job.{JobOf}
-use Rattle.dz_job.specs.declared.flight.Flight.{Flight}
 use Rattle.dz_fleet.specs.Core.{Core}
 use Rattle.dz_fleet.specs.Sound.{IsAmong, IsSent, IsSound, IsFlying}
 

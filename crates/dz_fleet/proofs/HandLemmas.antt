@@ -1,7 +1,6 @@
 -- A job that is handed out.
 use Rattle.std.proofs.Common.{◌≡◌, ℕ, ◌+◌, ◌-◌, ◌^◌, ◌<◌, ◌≤◌, Bool, true, false, List, [], ◌∷◌, ◌++◌, map, length, get_or, refl, sym, ◌∙◌, ap, subst, arith, inl, inr, Some, None}
-use Rattle.std.specs.Prelude.{Option, ◌||◌, ◌&&◌, not, nat_le, nat_lt, slice_get, slice_set, position, option_map, IsSome}
-use Rattle.std.specs.List.{AllByRecursion}
+use Rattle.std.specs.Prelude.{Option, ◌&&◌, not, nat_le, nat_lt, slice_get, slice_set, position, option_map, IsSome}
 use Rattle.std.specs.Arc.{arc_value}
 use Rattle.std.specs.Option.{ForSome}
 use Rattle.std.proofs.lemmas.Bool.{cases_Bool}
@@ -12,10 +11,10 @@ use Rattle.dz_io.specs.declared.peer.Peer.{Peer}
 use Rattle.dz_schedule.specs.Values.{ValuesOf, fresh, departed}
 use Rattle.dz_schedule.specs.Schedule.{is_first}
 use Rattle.dz_history.specs.declared.entry.Entry.{Entry}
-use Rattle.dz_history.specs.State.{State, IsState, stands, incarnation_at, primaries_at}
+use Rattle.dz_history.specs.State.{State, IsState, primaries_at}
 use Rattle.dz_history.specs.After.{after}
 use Rattle.dz_history.specs.Ended.{ended}
-use Rattle.dz_history.specs.Places.{Seat, seats, place_at, IsApart}
+use Rattle.dz_history.specs.Places.{Seat, seats, IsApart}
 use Rattle.dz_history.proofs.ListLemmas.{count_is}
 use Rattle.dz_history.proofs.StandsLemmas.{stands_old}
 use Rattle.dz_history.proofs.LifeLemmas.{whole}
@@ -24,9 +23,9 @@ use Rattle.dz_job.specs.Job.{JobOf, IsJob}
 use Rattle.dz_fleet.specs.declared.due.Due.TheVariants as due
 use Rattle.dz_fleet.specs.declared.flight.Flying.{Flying}
 use Rattle.dz_fleet.specs.Quiet.{IsQuiet}
-use Rattle.dz_fleet.specs.Values.{value_at, changed}
-use Rattle.dz_fleet.specs.Core.{Core, state_of, is_full, first_place, quiet_of, due_from, due_of, after_due, job_for, job_at, seat_at, IsDue}
-use Rattle.dz_fleet.specs.Sound.{seat_of, IsSent, IsSound, IsFlying}
+use Rattle.dz_fleet.specs.Values.{value_at}
+use Rattle.dz_fleet.specs.Core.{Core, state_of, is_full, first_place, quiet_of, due_of, after_due, job_for, job_at}
+use Rattle.dz_fleet.specs.Sound.{IsSent, IsSound, IsFlying}
 use Rattle.dz_fleet.specs.inner.Flying.{job_in, IsMarked}
 use Rattle.dz_fleet.specs.inner.Kept.{core_in, IsKept}
 use Rattle.dz_fleet.proofs.FlightLemmas.{all_push}

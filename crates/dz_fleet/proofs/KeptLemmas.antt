@@ -1,14 +1,13 @@
 -- What a fleet keeps, whatever happens.
-use Rattle.std.proofs.Common.{◌≡◌, ℕ, ◌+◌, ◌-◌, ◌^◌, ◌<◌, ◌≤◌, Bool, true, false, List, [], ◌∷◌, ◌++◌, map, length, refl, sym, ◌∙◌, ap, subst, arith, inl, inr, Some, None}
-use Rattle.std.specs.Prelude.{⊤, ◌⊎◌, Option, ◌==◌, ◌&&◌, not, is_some, filter, slice_get, slice_set, IsSome, if◌then◌else◌}
-use Rattle.std.specs.List.{AllByRecursion}
+use Rattle.std.proofs.Common.{◌≡◌, ℕ, ◌<◌, Bool, true, false, List, [], ◌∷◌, ◌++◌, map, length, refl, sym, ◌∙◌, ap, subst, inl, inr, Some, None}
+use Rattle.std.specs.Prelude.{Option, ◌==◌, ◌&&◌, not, is_some, filter, slice_get, slice_set, if◌then◌else◌}
 use Rattle.std.specs.Option.{option_or}
 use Rattle.std.proofs.lemmas.Bool.{cases_Bool}
 use Rattle.dz_schedule.specs.Values.{ValuesOf}
 use Rattle.dz_history.specs.declared.entry.Entry.{Entry}
 use Rattle.dz_history.specs.State.{State, IsState, stands}
 use Rattle.dz_history.specs.After.{after, step}
-use Rattle.dz_history.specs.Ended.{ended, ends}
+use Rattle.dz_history.specs.Ended.{ended}
 use Rattle.dz_history.specs.Legal.{CanFollow}
 use Rattle.dz_history.specs.Places.{seats, place_at, IsApart, IsPlacedIn}
 use Rattle.dz_history.proofs.ListLemmas.{after_more}
@@ -16,8 +15,8 @@ use Rattle.dz_history.proofs.EndedLemmas.{ended_more}
 use Rattle.dz_job.specs.Job.{JobOf}
 use Rattle.dz_fleet.specs.declared.flight.Flying.{Flying}
 use Rattle.dz_fleet.specs.Values.{value_at}
-use Rattle.dz_fleet.specs.Core.{Core, state_of, ended_of, others, primaries_of, entry_for}
-use Rattle.dz_fleet.specs.Sound.{is_of, seat_of, IsAmong, IsSent, IsSound}
+use Rattle.dz_fleet.specs.Core.{Core, others, primaries_of, entry_for}
+use Rattle.dz_fleet.specs.Sound.{seat_of, IsAmong, IsSent, IsSound}
 use Rattle.dz_fleet.specs.inner.Flying.{job_in, IsMarked, marked}
 use Rattle.dz_fleet.specs.inner.Kept.{core_in, IsKept}
 use Rattle.dz_fleet.proofs.FlightLemmas.{all_filter, all_mapped, all_both, all_map, landed_jobs}

@@ -1,5 +1,5 @@
 -- The job of a place.
-use Rattle.std.proofs.Common.{◌≡◌, ℕ, ◌+◌, ◌^◌, ◌%◌, ◌<◌, List, [], ◌∷◌, ◌++◌, map, length, refl, sym, ◌∙◌, ap, subst, arith, Some, None}
+use Rattle.std.proofs.Common.{◌≡◌, ℕ, ◌+◌, ◌^◌, ◌%◌, ◌<◌, List, refl, subst, Some}
 use Rattle.std.specs.Prelude.{Option, slice_get, IsSome}
 use Rattle.std.proofs.lemmas.Option.{get_or_from_slice_get}
 use Rattle.dz_io.specs.declared.peer.Peer.{Peer}
@@ -7,15 +7,14 @@ use Rattle.dz_zone.specs.Version.{Zone}
 use Rattle.dz_take.specs.declared.ask.Ask.{Ask}
 use Rattle.dz_schedule.specs.Values.{ValuesOf, fresh}
 use Rattle.dz_history.specs.declared.entry.Entry.{Entry}
-use Rattle.dz_history.specs.State.{State, held_at, primaries_at, incarnation_at}
+use Rattle.dz_history.specs.State.{State, held_at, primaries_at}
 use Rattle.dz_history.specs.After.{after}
 use Rattle.dz_history.specs.Places.{Seat, seats}
 use Rattle.dz_history.proofs.PlaceLemmas.{place_seat}
 use Rattle.dz_history.proofs.PrimaryLemmas.{primaries_there}
-use Rattle.dz_job.specs.Job.{JobOf}
 use Rattle.dz_fleet.specs.declared.flight.Flying.{Flying}
 use Rattle.dz_fleet.specs.Values.{value_at}
-use Rattle.dz_fleet.specs.Core.{Core, state_of, ask_of, primary_at, primaries_of, job_at}
+use Rattle.dz_fleet.specs.Core.{ask_of, primary_at, primaries_of, job_at}
 use Rattle.dz_fleet.specs.inner.Kept.{core_in, IsKept}
 use Rattle.dz_fleet.proofs.HandLemmas.{job_is}
 use Rattle.dz_fleet.proofs.TakeLemmas.{stands_some}

@@ -1,36 +1,33 @@
 -- What zones wait for after a listing.
-use Rattle.std.proofs.Common.{◌≡◌, ℕ, ◌+◌, ◌-◌, ◌<◌, ◌≤◌, Bool, true, false, List, [], ◌∷◌, ◌++◌, map, take, length, get_or, refl, sym, ◌∙◌, ap, subst, arith, inl, inr, Some, None, cond}
-use Rattle.std.specs.Prelude.{⊤, ◌⊎◌, Option, ◌==◌, ◌&&◌, slice_get, position, IsSome, zero, suc}
+use Rattle.std.proofs.Common.{◌≡◌, ℕ, ◌+◌, ◌-◌, ◌<◌, ◌≤◌, true, false, List, [], ◌∷◌, ◌++◌, map, take, length, refl, sym, ◌∙◌, ap, subst, arith, inl, inr, Some, None}
+use Rattle.std.specs.Prelude.{◌⊎◌, Option, ◌==◌, slice_get, position, zero, suc}
 use Rattle.std.specs.Option.{option_map, option_map_or, option_and_then, option_eq}
 use Rattle.std.specs.List.{AllByRecursion, list_any}
 use Rattle.std.specs.Str.{bytes_eq}
 use Rattle.std.specs.List.Sorted.{IsStrictlySortedBy}
 use Rattle.std.specs.Ordering.{is_eq}
-use Rattle.std.specs.declared.cmp.Ordering.{Ordering}
 use Rattle.std.specs.declared.cmp.Ordering.TheVariants.{Less}
-use Rattle.std.proofs.lemmas.Bool.{cases_Bool, cases_eq, cases_lt, eqb-true}
-use Rattle.std.proofs.lemmas.Bool.Decides.{nat_tests}
+use Rattle.std.proofs.lemmas.Bool.{cases_Bool, cases_lt, eqb-true}
 use Rattle.std.proofs.lemmas.List.{get_or-append_right, get_or_append_left, length-append, length-map, length-take-le, get_or-take, get_or-map}
-use Rattle.std.proofs.lemmas.Option.{slice_get-get_or, slice_get_within, get_or_from_slice_get, slice_get-map, slice_get_past}
+use Rattle.std.proofs.lemmas.Option.{slice_get-get_or, slice_get_within, get_or_from_slice_get, slice_get-map}
 use Rattle.std.proofs.lemmas.Slice.Eq.{bytes_eq-Decides}
 use Rattle.dz_io.specs.declared.peer.Peer.{Peer}
 use Rattle.dz_name.specs.Name.{same_name, canonical_order}
 use Rattle.dz_name.specs.Order.{same_decides, same_ties}
-use Rattle.dz_member.specs.declared.config.CatalogSettings.{CatalogSettings}
 use Rattle.dz_member.specs.Membership.{MemberOf}
 use Rattle.dz_member.specs.Fold.{number_of, member_of}
 use Rattle.dz_member.specs.Membership as membership
-use Rattle.dz_schedule.specs.Values.{ValuesOf, fresh, turned_back}
+use Rattle.dz_schedule.specs.Values.{ValuesOf, fresh}
 use Rattle.dz_history.specs.State.{State, IsState, stands, catalog_at, member_at, incarnation_at, primaries_at}
-use Rattle.dz_history.specs.Places.{Seat, IsSeated, seats, catalog_seat, member_seat, place_from, place_at, IsApart}
+use Rattle.dz_history.specs.Places.{Seat, seats, catalog_seat, member_seat, place_from, place_at, IsApart}
 use Rattle.dz_history.proofs.StateLemmas.{incarnation_member, primaries_catalog, primaries_member}
 use Rattle.dz_history.proofs.PlaceLemmas.{place_seat, place_there}
 use Rattle.dz_history.proofs.PrimaryLemmas.{primaries_some, primaries_kept}
 use Rattle.dz_job.specs.Job.{JobOf}
-use Rattle.dz_fleet.specs.Values.{value_at, value_in, same_primaries, kept, carried_from, carried, relisted_values}
+use Rattle.dz_fleet.specs.Values.{value_at, same_primaries, kept, carried_from, carried, relisted_values}
 use Rattle.dz_fleet.specs.Core.{primaries_of}
-use Rattle.dz_fleet.specs.Sound.{is_of, seat_of, IsWaiting}
-use Rattle.dz_fleet.proofs.FlightLemmas.{of_parts, all_weaker}
+use Rattle.dz_fleet.specs.Sound.{is_of, IsWaiting}
+use Rattle.dz_fleet.proofs.FlightLemmas.{of_parts}
 use Rattle.dz_fleet.proofs.WaitLemmas.{AreWaiting, seat_stands}
 
 -- ---- places of two lists

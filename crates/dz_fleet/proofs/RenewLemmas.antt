@@ -1,7 +1,7 @@
 -- What zones wait for after a transfer that is taken.
-use Rattle.std.proofs.Common.{◌≡◌, ◌≢◌, ℕ, ◌+◌, ◌<◌, ◌≤◌, true, false, List, [], ◌∷◌, ◌++◌, map, take, length, refl, sym, ◌∙◌, ap, subst, arith, inl, inr, Some, None, Ok, Err}
-use Rattle.std.specs.Prelude.{◌⊎◌, Option, Result, slice_get}
-use Rattle.std.specs.Option.{unwrap_or, option_map_or}
+use Rattle.std.proofs.Common.{◌≡◌, ℕ, ◌<◌, ◌≤◌, List, map, take, length, refl, sym, ◌∙◌, ap, arith, Some, None, Ok, Err}
+use Rattle.std.specs.Prelude.{Option, Result, slice_get}
+use Rattle.std.specs.Option.{unwrap_or}
 use Rattle.std.specs.List.{AllByRecursion}
 use Rattle.std.proofs.lemmas.List.{length-append, length-map, length-take-le}
 use Rattle.dz_member.specs.declared.change.Change.{Change}
@@ -15,18 +15,17 @@ use Rattle.dz_history.specs.declared.aftermath.Aftermath.{Aftermath}
 use Rattle.dz_history.specs.declared.aftermath.Aftermath.TheVariants.{Member, Broken, Changes}
 use Rattle.dz_history.specs.declared.entry.Taken.{Taken}
 use Rattle.dz_history.specs.declared.entry.Entry.TheVariants.{Transfer}
-use Rattle.dz_history.specs.State.{State, IsState, catalog_at, stands, primaries_at}
+use Rattle.dz_history.specs.State.{State, IsState, catalog_at}
 use Rattle.dz_history.specs.After.{step, decision_of, aftermath_of, aftermath_from, catalog_aftermath, listing_aftermath}
-use Rattle.dz_history.specs.Places.{Seat, seats, IsApart}
+use Rattle.dz_history.specs.Places.{seats, IsApart}
 use Rattle.dz_history.proofs.StepLemmas.{config_step}
 use Rattle.dz_history.proofs.StandsLemmas.{came_by}
 use Rattle.dz_history.proofs.ApartLemmas.{apart_step}
 use Rattle.dz_history.proofs.KeptLemmas.{fold_of_member, fold_up_to_date, fold_refused, fold_broken, seats_by_fold, primaries_by_fold}
 use Rattle.dz_history.proofs.PlaceLemmas.{seats_size}
 use Rattle.dz_job.specs.Job.{JobOf}
-use Rattle.dz_fleet.specs.Values.{value_at, carried, relisted_values}
+use Rattle.dz_fleet.specs.Values.{carried, relisted_values}
 use Rattle.dz_fleet.specs.Weighing.{values_for}
-use Rattle.dz_fleet.specs.Sound.{IsWaiting}
 use Rattle.dz_fleet.proofs.WaitLemmas.{AreWaiting}
 use Rattle.dz_fleet.proofs.RelistLemmas.{waiting_relisted}
 

@@ -1,6 +1,6 @@
 -- What a verdict makes of the core, by cases.
-use Rattle.std.proofs.Common.{◌≡◌, ℕ, Bool, true, false, List, take, length, refl, sym, ◌∙◌, ap, subst, arith, inl, inr, Some, None}
-use Rattle.std.specs.Prelude.{Option, not, IsSome, if◌then◌else◌}
+use Rattle.std.proofs.Common.{◌≡◌, ℕ, Bool, true, false, List, length, refl, sym, ◌∙◌, ap, Some, None}
+use Rattle.std.specs.Prelude.{not, IsSome, if◌then◌else◌}
 use Rattle.std.specs.Option.{option_and_then}
 use Rattle.std.proofs.Math.Seq.{take-length}
 use Rattle.dz_record.specs.Record.{soa_of}
@@ -16,7 +16,7 @@ use Rattle.dz_job.specs.Job.{JobOf, transfer_for, serial_in}
 use Rattle.dz_job.specs.declared.verdict.Verdict.{Verdict}
 use Rattle.dz_job.specs.declared.verdict.Verdict.TheVariants.{Published, Confirmed, Refused, PolicyRefused, Stale, OutOfMemory}
 use Rattle.dz_fleet.specs.Core.{Core, state_of, ended_of, landed, used_of, verdict_of, after_verdict, settled, is_old_serial, after_failure, after_refusal, after_success}
-use Rattle.dz_fleet.specs.Weighing.{is_taken, aftermath_in, renewal_for, renewed_for}
+use Rattle.dz_fleet.specs.Weighing.{aftermath_in}
 use Rattle.dz_fleet.proofs.TakeLemmas.{tells, aftermath_is}
 
 pub serial_new : (zone : Zone) (soa : Soa) → Some soa ≡ option_and_then soa_of (apex_soa zone) → soa.serial ≡ serial_in (Some zone)

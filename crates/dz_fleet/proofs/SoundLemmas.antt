@@ -1,37 +1,28 @@
 -- A core stays sound, whatever happens.
-use Rattle.std.proofs.Common.{◌≡◌, ◌≢◌, ℕ, ◌+◌, ◌-◌, ◌^◌, ◌<◌, ◌≤◌, Bool, true, false, List, [], ◌∷◌, ◌++◌, map, length, refl, sym, ◌∙◌, ap, subst, arith, inl, inr, Some, None}
-use Rattle.std.specs.Prelude.{⊤, ◌⊎◌, Option, ◌==◌, slice_get, slice_set, replicate, IsSome, if◌then◌else◌}
-use Rattle.std.specs.List.{AllByRecursion, list_any}
+use Rattle.std.proofs.Common.{◌≡◌, ◌≢◌, ℕ, ◌+◌, ◌-◌, ◌^◌, ◌<◌, true, false, List, [], ◌∷◌, ◌++◌, length, refl, sym, ◌∙◌, arith, inl, inr, Some, None}
+use Rattle.std.specs.Prelude.{Option, ◌==◌, slice_get, slice_set, if◌then◌else◌}
 use Rattle.std.specs.Option.{option_or, option_map_or}
 use Rattle.std.proofs.lemmas.Option.{slice_get_within}
 use Rattle.std.proofs.lemmas.Bool.{cases_Bool, eqb-true}
-use Rattle.std.proofs.lemmas.Bool.Decides.{nat_tests}
 use Rattle.std.proofs.lemmas.List.{length-set, length-append}
-use Rattle.dz_member.specs.declared.config.CatalogSettings.{CatalogSettings}
-use Rattle.dz_member.specs.Config.{IsAllowed}
-use Rattle.dz_schedule.specs.Values.{ValuesOf, fresh}
-use Rattle.dz_take.specs.Taken.{CanAsk, IsOfZone}
+use Rattle.dz_schedule.specs.Values.{ValuesOf}
 use Rattle.dz_history.specs.declared.entry.Entry.{Entry}
-use Rattle.dz_history.specs.declared.entry.Entry.TheVariants.{Setup, Transfer}
-use Rattle.dz_history.specs.State.{State, IsState, stands, held_at, incarnation_at, opened}
+use Rattle.dz_history.specs.State.{State, IsState, stands, incarnation_at}
 use Rattle.dz_history.specs.After.{after, step}
 use Rattle.dz_history.specs.Ended.{ended, ends}
-use Rattle.dz_history.specs.Legal.{IsLegal, CanFollow}
+use Rattle.dz_history.specs.Legal.{CanFollow}
 use Rattle.dz_history.specs.Places.{Seat, seats, place_at, IsApart}
 use Rattle.dz_history.proofs.ListLemmas.{after_more, legal_more, count_is}
 use Rattle.dz_history.proofs.EndedLemmas.{ended_more}
 use Rattle.dz_history.proofs.LifeLemmas.{whole}
-use Rattle.dz_history.proofs.StandsLemmas.{came_by, stands_old}
+use Rattle.dz_history.proofs.StandsLemmas.{came_by}
 use Rattle.dz_history.proofs.KeptLemmas.{held_keeps}
-use Rattle.dz_history.proofs.PlaceLemmas.{place_there, place_within, seats_size}
-use Rattle.dz_job.specs.declared.flight.Flight.{Flight}
-use Rattle.dz_job.specs.Job.{JobOf, IsJob, taken_for}
+use Rattle.dz_job.specs.Job.{JobOf, taken_for}
 use Rattle.dz_fleet.specs.Values.{value_at}
-use Rattle.dz_fleet.specs.Core.{Core, state_of, opened_core, ended_of, landed, others, primaries_of, entry_for}
-use Rattle.dz_fleet.specs.Sound.{is_of, seat_of, AreApart, IsAmong, IsSent, IsWaiting, IsSound, IsFlying}
-use Rattle.dz_fleet.proofs.FlightLemmas.{all_filter, all_weaker, all_both, all_push, among_all, apart_others, fewer, fewer_kept, none_others, any_none, any_itself, apart_push, of_same}
+use Rattle.dz_fleet.specs.Core.{Core, state_of, ended_of, landed, others, primaries_of, entry_for}
+use Rattle.dz_fleet.specs.Sound.{is_of, seat_of, IsAmong, IsSent, IsSound}
+use Rattle.dz_fleet.proofs.FlightLemmas.{all_filter, all_weaker, all_both, all_push, among_all, apart_others, fewer, none_others, any_none, any_itself, apart_push, of_same}
 use Rattle.dz_fleet.proofs.WaitLemmas.{AreWaiting, waiting_end, waiting_landed, waiting_due, waiting_changed}
-use Rattle.dz_fleet.proofs.RelistLemmas.{some_primary}
 
 -- ---- what a sound core says of a job in flight
 pub among_stands : (c : Core) (job : JobOf) → IsSound c → IsAmong job.flight c.flight → ended_of c job ≡ None → stands (state_of c) job.flight.zone job.flight.incarnation ≡ true

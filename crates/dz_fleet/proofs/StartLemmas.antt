@@ -1,21 +1,20 @@
 -- The core of a configuration.
-use Rattle.std.proofs.Common.{◌≡◌, ℕ, ◌+◌, ◌<◌, ◌≤◌, List, [], ◌∷◌, map, length, replicate, refl, sym, ◌∙◌, ap, subst, arith, inl, inr, Some, None}
+use Rattle.std.proofs.Common.{◌≡◌, ℕ, ◌<◌, List, [], ◌∷◌, length, replicate, refl, sym, ◌∙◌, ap, subst, arith, Some}
 use Rattle.std.specs.Prelude.{slice_get}
 use Rattle.std.proofs.lemmas.List.{length-replicate, get_or-replicate}
 use Rattle.std.proofs.lemmas.Option.{slice_get_within}
 use Rattle.dz_member.specs.declared.config.CatalogSettings.{CatalogSettings}
 use Rattle.dz_member.specs.Config.{IsAllowed}
-use Rattle.dz_schedule.specs.Values.{ValuesOf, fresh}
-use Rattle.dz_history.specs.declared.entry.Entry.{Entry}
+use Rattle.dz_schedule.specs.Values.{fresh}
 use Rattle.dz_history.specs.declared.entry.Entry.TheVariants.{Setup}
-use Rattle.dz_history.specs.State.{State, IsState, nothing, opened}
+use Rattle.dz_history.specs.State.{State, IsState, opened}
 use Rattle.dz_history.specs.After.{after, step}
 use Rattle.dz_history.specs.Legal.{IsLegalFrom, IsLegal}
 use Rattle.dz_history.specs.Places.{Seat, seats}
 use Rattle.dz_history.proofs.ApartLemmas.{apart_opened}
 use Rattle.dz_history.proofs.PlaceLemmas.{seats_size}
 use Rattle.dz_history.proofs.PrimaryLemmas.{placed_opened}
-use Rattle.dz_fleet.specs.Core.{state_of, opened_core}
+use Rattle.dz_fleet.specs.Core.{opened_core}
 use Rattle.dz_fleet.specs.Sound.{AreApart, IsSound, IsWaiting}
 use Rattle.dz_fleet.specs.Values.{value_at}
 use Rattle.dz_fleet.specs.inner.Kept.{IsKept}

@@ -1,35 +1,26 @@
 -- A transfer that is taken, and the verdict of one.
-use Rattle.std.proofs.Common.{◌≡◌, ℕ, ◌+◌, ◌-◌, ◌^◌, ◌<◌, ◌≤◌, Bool, true, false, List, [], ◌∷◌, map, length, refl, sym, ◌∙◌, ap, subst, arith, inl, inr, Some, None}
-use Rattle.std.specs.Prelude.{⊤, ◌⊎◌, Option, is_some, ◌==◌, slice_get, IsSome, if◌then◌else◌}
-use Rattle.std.specs.Option.{option_map_or, option_or, unwrap_or}
-use Rattle.std.specs.List.{AllByRecursion}
-use Rattle.std.proofs.lemmas.Bool.{cases_Bool}
+use Rattle.std.proofs.Common.{◌≡◌, ℕ, ◌+◌, ◌^◌, ◌<◌, ◌≤◌, Bool, true, false, List, [], ◌∷◌, length, refl, sym, ◌∙◌, ap, subst, arith, Some, None}
+use Rattle.std.specs.Prelude.{Option, is_some, ◌==◌, IsSome, if◌then◌else◌}
+use Rattle.std.specs.Option.{option_map_or}
 use Rattle.dz_zone.specs.Version.{Zone}
 use Rattle.dz_zonemd.specs.Standing.{standing}
-use Rattle.dz_zonemd.specs.Acceptance.{accepts}
 use Rattle.dz_member.specs.declared.config.Policy.{Policy}
-use Rattle.dz_schedule.specs.Values.{ValuesOf}
 use Rattle.dz_take.specs.Taken.{CanAsk}
 use Rattle.dz_take.specs.Outcome.{outcome, octets_used}
-use Rattle.dz_take.specs.Transfer.{Transfer, Decision, up_to_date, new, refused}
-use Rattle.dz_take.specs.declared.outcome.TakeFault.{TakeFault}
+use Rattle.dz_take.specs.Transfer.{Decision, up_to_date, new, refused}
 use Rattle.dz_history.specs.declared.aftermath.Aftermath.{Aftermath}
-use Rattle.dz_history.specs.declared.aftermath.Aftermath.TheVariants.{Member, Broken, Changes}
-use Rattle.dz_history.specs.declared.entry.Entry.{Entry}
-use Rattle.dz_history.specs.declared.entry.Entry.TheVariants.{Setup, Transfer as Transferred}
-use Rattle.dz_history.specs.State.{State, IsState, stands, held_at, policy_at, incarnation_at}
-use Rattle.dz_history.specs.After.{after, step, taken, transfer_of, decision_of, aftermath_of}
-use Rattle.dz_history.specs.Ended.{ended}
-use Rattle.dz_history.specs.Legal.{IsApproved, IsTakeable, CanFollow}
+use Rattle.dz_history.specs.declared.aftermath.Aftermath.TheVariants.{Member}
+use Rattle.dz_history.specs.State.{State, stands, held_at, policy_at, incarnation_at}
+use Rattle.dz_history.specs.After.{step, taken, transfer_of, decision_of, aftermath_of}
+use Rattle.dz_history.specs.Legal.{IsApproved, CanFollow}
 use Rattle.dz_history.proofs.ListLemmas.{count_is}
 use Rattle.dz_history.proofs.StateLemmas.{same_alone}
 use Rattle.dz_job.specs.Job.{JobOf, IsJob, transfer_for, taken_for, serial_in}
 use Rattle.dz_job.specs.declared.verdict.Verdict.{Verdict}
 use Rattle.dz_job.specs.declared.verdict.Verdict.TheVariants.{Published, Confirmed, Refused, PolicyRefused, Stale, OutOfMemory}
 use Rattle.dz_fleet.specs.Core.{Core, state_of, ended_of, entry_for, is_accepted, verdict_from, verdict_of}
-use Rattle.dz_fleet.specs.Weighing.{Weighing, Renewed, Fits, renewal_for, renewed_for, is_taken, aftermath_in, octets_in}
-use Rattle.dz_fleet.specs.Sound.{IsAmong, IsSent, IsSound, IsFlying}
-use Rattle.dz_fleet.proofs.FlightLemmas.{all_weaker, among_all}
+use Rattle.dz_fleet.specs.Weighing.{renewed_for, is_taken, aftermath_in}
+use Rattle.dz_fleet.specs.Sound.{IsAmong, IsSound, IsFlying}
 use Rattle.dz_fleet.proofs.SoundLemmas.{among_stands}
 
 -- ---- an incarnation that stands is one

@@ -1,40 +1,36 @@
 -- A job whose transfer is taken: what the fleet keeps then.
-use Rattle.std.proofs.Common.{◌≡◌, ℕ, ◌+◌, ◌<◌, ◌≤◌, Bool, true, false, List, [], ◌∷◌, ◌++◌, map, length, refl, sym, ◌∙◌, ap, subst, arith, inl, inr, Some, None}
+use Rattle.std.proofs.Common.{◌≡◌, ℕ, ◌<◌, true, List, [], ◌∷◌, ◌++◌, map, length, refl, sym, ◌∙◌, ap, subst, arith, Some, None}
 use Rattle.std.specs.Prelude.{Option, slice_get, slice_set, filter, IsSome, option_map}
 use Rattle.std.specs.Option.{unwrap_or}
-use Rattle.std.specs.List.{AllByRecursion}
 use Rattle.std.proofs.lemmas.Option.{get_or_from_slice_get, slice_get_within}
 use Rattle.dz_schedule.specs.Values.{ValuesOf, fresh, succeeded}
-use Rattle.dz_take.specs.Outcome.{outcome}
 use Rattle.dz_history.specs.declared.aftermath.Aftermath.{Aftermath}
 use Rattle.dz_history.specs.declared.aftermath.Aftermath.TheVariants.{Member, Broken, Changes}
 use Rattle.dz_history.specs.declared.entry.Entry.{Entry}
 use Rattle.dz_history.specs.State.{State, IsState, stands, held_at, catalog_at}
-use Rattle.dz_history.specs.After.{after, step, taken, decision_of, aftermath_of}
+use Rattle.dz_history.specs.After.{after, step}
 use Rattle.dz_history.specs.Ended.{ended}
 use Rattle.dz_history.specs.Legal.{CanFollow}
-use Rattle.dz_history.specs.Places.{Seat, IsSeated, seats, place_at, IsApart, IsPlacedIn}
+use Rattle.dz_history.specs.Places.{IsSeated, seats, place_at, IsApart, IsPlacedIn}
 use Rattle.dz_history.proofs.ListLemmas.{count_is}
 use Rattle.dz_history.proofs.ApartLemmas.{apart_step}
 use Rattle.dz_history.proofs.PrimaryLemmas.{placed_step}
 use Rattle.dz_history.proofs.StandsLemmas.{stands_catalog}
 use Rattle.dz_history.proofs.KeptLemmas.{fold_of_member, stands_by_fold}
 use Rattle.dz_history.proofs.PlaceLemmas.{place_there, stands_zero}
-use Rattle.dz_job.specs.Job.{JobOf, transfer_for, taken_for, refresh_in}
+use Rattle.dz_job.specs.Job.{JobOf, taken_for, refresh_in}
 use Rattle.dz_fleet.specs.declared.flight.Flying.{Flying}
 use Rattle.dz_fleet.specs.Values.{value_at, values_after}
-use Rattle.dz_fleet.specs.Core.{Core, others, primaries_of, entry_for, after_success}
+use Rattle.dz_fleet.specs.Core.{entry_for, after_success}
 use Rattle.dz_fleet.specs.Weighing.{Renewed, values_for, renewal_for, aftermath_in}
-use Rattle.dz_fleet.specs.Sound.{is_of, seat_of, IsAmong, IsSent}
+use Rattle.dz_fleet.specs.Sound.{seat_of, IsAmong, IsSent}
 use Rattle.dz_fleet.specs.inner.Flying.{job_in, marked}
 use Rattle.dz_fleet.specs.inner.Kept.{core_in, IsKept}
 use Rattle.dz_fleet.proofs.FlightLemmas.{all_weaker, any_itself, landed_jobs}
-use Rattle.dz_fleet.proofs.WaitLemmas.{AreWaiting}
 use Rattle.dz_fleet.proofs.RenewLemmas.{AreRenewed, renewed_waits}
 use Rattle.dz_fleet.proofs.SoundLemmas.{among_stands}
 use Rattle.dz_fleet.proofs.EndLemmas.{placed_at}
 use Rattle.dz_fleet.proofs.KeptLemmas.{stay, kept_taken, marked_jobs}
-use Rattle.dz_fleet.proofs.TakeLemmas.{step_is}
 
 -- the incarnation of a transfer stands after it
 own_from : (s : State) (job : JobOf) (octets : List ℕ) (o : Option ℕ) → o ≡ catalog_at s job.flight.zone → stands s job.flight.zone job.flight.incarnation ≡ true

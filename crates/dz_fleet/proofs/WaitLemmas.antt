@@ -1,20 +1,19 @@
 -- What zones wait for, after each kind of event.
-use Rattle.std.proofs.Common.{◌≡◌, ℕ, ◌+◌, ◌-◌, ◌<◌, ◌≤◌, Bool, true, false, List, [], ◌∷◌, ◌++◌, map, take, length, get_or, refl, sym, ◌∙◌, ap, subst, arith, inl, inr, Some, None}
-use Rattle.std.specs.Prelude.{⊤, ◌⊎◌, Option, ◌==◌, ◌||◌, slice_get, slice_set, IsSome}
-use Rattle.std.specs.List.{AllByRecursion, list_any}
-use Rattle.std.proofs.lemmas.Bool.{cases_Bool, cases_eq, eqb-true}
+use Rattle.std.proofs.Common.{◌≡◌, ℕ, ◌<◌, true, false, List, [], ◌∷◌, ◌++◌, length, refl, sym, ◌∙◌, ap, arith, inl, inr, Some}
+use Rattle.std.specs.Prelude.{◌||◌, slice_get, slice_set}
+use Rattle.std.specs.List.{list_any}
+use Rattle.std.proofs.lemmas.Bool.{cases_Bool, cases_eq}
 use Rattle.std.proofs.lemmas.Bool.Decides.{nat_tests}
-use Rattle.std.proofs.lemmas.List.{get_or-set_same, get_or-set_other, get_or-append_right, get_or_append_left, length-append}
-use Rattle.std.proofs.lemmas.Option.{slice_get-get_or, slice_get_within, get_or_from_slice_get, slice_get-map}
+use Rattle.std.proofs.lemmas.List.{get_or-set_same, get_or-set_other}
 use Rattle.dz_schedule.specs.Values.{ValuesOf, fresh}
-use Rattle.dz_history.specs.State.{State, IsState, stands, incarnation_at, primaries_at}
+use Rattle.dz_history.specs.State.{State, IsState, stands, incarnation_at}
 use Rattle.dz_history.specs.Places.{Seat, seats, place_at, IsApart}
 use Rattle.dz_history.proofs.PlaceLemmas.{place_seat}
 use Rattle.dz_job.specs.Job.{JobOf}
 use Rattle.dz_fleet.specs.Values.{value_at}
 use Rattle.dz_fleet.specs.Core.{others, primaries_of}
 use Rattle.dz_fleet.specs.Sound.{is_of, seat_of, AreApart, IsAmong, IsWaiting}
-use Rattle.dz_fleet.proofs.FlightLemmas.{of_parts, of_same, none_others, any_others, any_push, of_it}
+use Rattle.dz_fleet.proofs.FlightLemmas.{of_parts, none_others, any_others, any_push, of_it}
 
 abbrev pub AreWaiting : State → List JobOf → List ValuesOf → Type 0
 AreWaiting s jobs values = (place : ℕ) (seat : Seat) → slice_get (seats s) place ≡ Some seat → IsWaiting s jobs seat (value_at values place)

@@ -1,6 +1,6 @@
 -- A zone that a NOTIFY wakes.
-use Rattle.std.proofs.Common.{◌≡◌, ℕ, ◌<◌, Bool, true, false, List, map, length, refl, sym, ◌∙◌, ap, subst, arith, Some}
-use Rattle.std.specs.Prelude.{slice_get, slice_set, if◌then◌else◌}
+use Rattle.std.proofs.Common.{◌≡◌, ℕ, ◌<◌, Bool, true, false, List, length, refl, subst, Some}
+use Rattle.std.specs.Prelude.{slice_get, slice_set}
 use Rattle.std.proofs.lemmas.Option.{get_or_from_slice_get}
 use Rattle.dz_timer.specs.Timing.{Timing}
 use Rattle.dz_timer.specs.Timing as timer
@@ -8,12 +8,12 @@ use Rattle.dz_schedule.specs.Values.{ValuesOf, fresh, notified}
 use Rattle.dz_history.specs.declared.entry.Entry.{Entry}
 use Rattle.dz_history.specs.State.{State}
 use Rattle.dz_history.specs.After.{after}
-use Rattle.dz_history.specs.Places.{seats, place_at}
+use Rattle.dz_history.specs.Places.{place_at}
 use Rattle.dz_history.proofs.PlaceLemmas.{place_within}
 use Rattle.dz_notify.specs.declared.notify.Heard.TheVariants.{Taken}
 use Rattle.dz_fleet.specs.declared.flight.Flying.{Flying}
-use Rattle.dz_fleet.specs.Values.{value_at, changed}
-use Rattle.dz_fleet.specs.Core.{Core, after_notify}
+use Rattle.dz_fleet.specs.Values.{value_at}
+use Rattle.dz_fleet.specs.Core.{after_notify}
 use Rattle.dz_fleet.specs.inner.Kept.{core_in, IsKept}
 use Rattle.dz_fleet.proofs.KeptLemmas.{kept_changed}
 

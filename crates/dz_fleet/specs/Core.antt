@@ -1,6 +1,6 @@
 -- Meaning: the core of the server: the list of taken transfers, the jobs in flight and what each zone waits for, and what
 -- each event makes of them (RFC 9432 section 5, RFC 1995 section 4, RFC 1996 section 3, RFC 8976 section 4).
-use Rattle.std.specs.Prelude.{◌≡◌, ℕ, ◌+◌, ◌-◌, ◌^◌, ◌%◌, ◌==◌, ◌||◌, Bool, true, false, not, nat_le, nat_lt, List, [], ◌∷◌, ◌++◌, length, map, filter, take, slice_set, slice_index_or, replicate, position, Option, Some, None, if◌then◌else◌}
+use Rattle.std.specs.Prelude.{◌≡◌, ℕ, ◌+◌, ◌-◌, ◌^◌, ◌%◌, ◌==◌, ◌||◌, Bool, true, false, not, nat_le, nat_lt, List, [], ◌∷◌, ◌++◌, length, filter, take, slice_index_or, replicate, position, Option, Some, None, if◌then◌else◌}
 use Rattle.std.specs.Option.{option_map, option_map_or}
 use Rattle.std.specs.List.{list_any}
 use Rattle.std.specs.Str.{bytes_eq}
@@ -18,7 +18,7 @@ use Rattle.dz_schedule.specs.Schedule.{is_first}
 use Rattle.dz_take.specs.declared.ask.Ask.{Ask}
 use Rattle.dz_take.specs.declared.ask.Ask.TheVariants.{Axfr, Ixfr}
 use Rattle.dz_take.specs.declared.outcome.TakeFault.{TakeFault}
-use Rattle.dz_take.specs.declared.outcome.TakeFault.TheVariants.{Incomplete, Message, WrongId, WrongQuestion, Rcode, Shape, Zone as BadZone, OldSerial, TooLong}
+use Rattle.dz_take.specs.declared.outcome.TakeFault.TheVariants.{OldSerial}
 use Rattle.dz_take.specs.Outcome.{outcome, octets_used}
 use Rattle.dz_take.specs.Transfer.{Decision, up_to_date, new}
 use Rattle.dz_take.specs.Transfer as transfer

@@ -1,9 +1,9 @@
 -- Meaning: what holds of every core that can come about.
-use Rattle.std.specs.Prelude.{⊤, ◌≡◌, ◌⊎◌, ℕ, ◌+◌, ◌-◌, ◌^◌, ◌<◌, ◌≤◌, ◌==◌, ◌&&◌, Bool, true, false, List, [], ◌∷◌, length, map, slice_get, Some, None}
+use Rattle.std.specs.Prelude.{⊤, ◌≡◌, ◌⊎◌, ℕ, ◌+◌, ◌-◌, ◌^◌, ◌<◌, ◌≤◌, ◌==◌, ◌&&◌, Bool, true, false, List, [], ◌∷◌, length, slice_get, Some, None}
 use Rattle.std.specs.List.{AllByRecursion, list_any}
 use Rattle.dz_name.specs.Name.{same_name}
 use Rattle.dz_schedule.specs.Values.{ValuesOf}
-use Rattle.dz_history.specs.State.{State, held_at, primaries_at, stands}
+use Rattle.dz_history.specs.State.{State, held_at, stands}
 use Rattle.dz_history.specs.declared.entry.Entry.{Entry}
 use Rattle.dz_history.specs.After.{after}
 use Rattle.dz_history.specs.Ended.{ended}

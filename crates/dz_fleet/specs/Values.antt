@@ -2,7 +2,6 @@
 use Rattle.std.specs.Prelude.{ℕ, ◌==◌, ◌&&◌, Bool, List, ◌++◌, length, map, take, slice_set, slice_index_or, Option, Some, None, if◌then◌else◌}
 use Rattle.std.specs.Option.{option_map_or, option_eq}
 use Rattle.std.specs.Str.{bytes_eq}
-use Rattle.dz_name.specs.Words.{Name}
 use Rattle.dz_name.specs.Name.{same_name}
 use Rattle.dz_member.specs.Membership.{MemberOf}
 use Rattle.dz_history.specs.declared.aftermath.Aftermath.{Aftermath}

@@ -1,5 +1,5 @@
 -- Inner: what was weighed, as it is kept.
-use Rattle.std.specs.Prelude.{◌≡◌, ⊤, ℕ, Bool, Option, Some, None, is_some}
+use Rattle.std.specs.Prelude.{◌≡◌, ⊤, Option, Some, None}
 use Rattle.std.specs.Arc.{arc_value}
 use Rattle.dz_history.specs.declared.entry.Entry.{Entry}
 use Rattle.dz_fleet.specs.declared.weighed.Step.{Step}

@@ -1,4 +1,4 @@
-use Rattle.std.proofs.Common.{sym, ◌∙◌, ap, refl, Some, None}
+use Rattle.std.proofs.Common.{sym, ◌∙◌}
 use Rattle.dz_fleet.proofs.CarryLemmas.{carried_new, carried_same, carried_other}
 use Rattle.dz_fleet.proofs.carrying.carried.Goals as goal
 

@@ -1,4 +1,3 @@
-use Rattle.std.proofs.Common.{◌+◌, ◌++◌, map, take, sym, ◌∙◌, ap, arith}
 use Rattle.dz_fleet.specs.Values.{carried}
 use Rattle.dz_fleet.proofs.CarryLemmas.{carried_more}
 use Rattle.dz_fleet.proofs.carrying.carry.Goals as goal

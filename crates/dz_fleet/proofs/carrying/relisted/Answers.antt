@@ -1,4 +1,4 @@
-use Rattle.std.proofs.Common.{sym, ◌∙◌, ap, refl}
+use Rattle.std.proofs.Common.{◌∙◌}
 use Rattle.std.proofs.lemmas.Result.{IfOk-weaker}
 use Rattle.dz_fleet.proofs.CarryLemmas.{relisted_is}
 use Rattle.dz_fleet.proofs.carrying.relisted.Goals as goal

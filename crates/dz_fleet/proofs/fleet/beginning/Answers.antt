@@ -1,4 +1,4 @@
-use Rattle.std.proofs.Common.{arith, length, replicate, ap, ◌∙◌}
+use Rattle.std.proofs.Common.{arith}
 use Rattle.std.proofs.lemmas.List.{length-replicate}
 use Rattle.dz_fleet.proofs.fleet.beginning.Goals as goal
 

@@ -1,5 +1,5 @@
-use Rattle.std.proofs.Common.{◌+◌, sym, ◌∙◌, ap, refl, arith}
-use Rattle.std.specs.Prelude.{◌≡◌, option_map, length}
+use Rattle.std.proofs.Common.{sym, ◌∙◌, ap, refl, arith}
+use Rattle.std.specs.Prelude.{length}
 use Rattle.std.proofs.lemmas.List.{length-map}
 use Rattle.dz_name.specs.Name.{same_name}
 use Rattle.dz_history.proofs.FindLemmas.{place_within}

@@ -1,4 +1,4 @@
-use Rattle.std.proofs.Common.{sym, ◌∙◌, ap}
+use Rattle.std.proofs.Common.{◌∙◌, ap}
 use Rattle.dz_history.specs.State.{State}
 use Rattle.dz_history.proofs.ListLemmas.{count_is}
 use Rattle.dz_fleet.proofs.fleet.Fleet.count.Goals as goal

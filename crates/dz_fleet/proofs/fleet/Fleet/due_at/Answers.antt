@@ -1,9 +1,7 @@
-use Rattle.std.proofs.Common.{sym, ◌∙◌, ap, refl, subst, arith}
-use Rattle.std.proofs.lemmas.Bool.Decides.{nat_tests}
+use Rattle.std.proofs.Common.{sym, ◌∙◌, ap, subst, arith}
 use Rattle.std.proofs.lemmas.Option.{get_or_from_slice_get}
 use Rattle.dz_job.specs.Job.{JobOf}
 use Rattle.dz_schedule.specs.Values.{fresh}
-use Rattle.dz_fleet.specs.Values.{value_at}
 use Rattle.dz_fleet.specs.Core.{job_at, IsDue}
 use Rattle.dz_fleet.proofs.HandLemmas.{job_moment, late_test}
 use Rattle.dz_fleet.proofs.fleet.Fleet.due_at.Goals as goal

@@ -1,5 +1,4 @@
-use Rattle.std.proofs.Common.{refl, map}
-use Rattle.dz_fleet.specs.inner.Flying.{job_in}
+use Rattle.std.proofs.Common.{refl}
 use Rattle.dz_fleet.proofs.FlightLemmas.{landed_jobs}
 use Rattle.dz_fleet.proofs.EndLemmas.{kept_stale}
 use Rattle.dz_fleet.proofs.fleet.Fleet.end_stale.Goals as goal

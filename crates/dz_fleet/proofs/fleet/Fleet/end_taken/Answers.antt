@@ -1,10 +1,10 @@
-use Rattle.std.proofs.Common.{◌≡◌, map, ◌++◌, ◌∷◌, [], sym, ◌∙◌, ap, refl, subst, Some, None}
+use Rattle.std.proofs.Common.{map, ◌++◌, ◌∷◌, [], sym, ◌∙◌, ap, subst}
 use Rattle.std.specs.Prelude.{filter, slice_set}
 use Rattle.dz_schedule.specs.Values.{succeeded}
 use Rattle.dz_history.specs.State.{held_at}
 use Rattle.dz_history.specs.After.{after}
 use Rattle.dz_history.specs.Legal.{CanFollow}
-use Rattle.dz_fleet.specs.Weighing.{octets_in, aftermath_in}
+use Rattle.dz_fleet.specs.Weighing.{octets_in}
 use Rattle.dz_job.specs.Job.{refresh_in}
 use Rattle.dz_fleet.specs.inner.Flying.{marked}
 use Rattle.dz_fleet.specs.inner.Kept.{core_in, IsKept}

@@ -1,5 +1,4 @@
-use Rattle.std.proofs.Common.{refl, map, sym, ◌∙◌, ap, arith, Some, None}
-use Rattle.dz_fleet.specs.inner.Flying.{job_in}
+use Rattle.std.proofs.Common.{sym}
 use Rattle.dz_fleet.proofs.RelistLemmas.{some_primary}
 use Rattle.dz_fleet.proofs.EndLemmas.{job_seated, place_fits, place_busy, kept_waiting, waiting_core, few_primaries, none_placed}
 use Rattle.dz_fleet.proofs.fleet.Fleet.end_unchanged.Goals as goal

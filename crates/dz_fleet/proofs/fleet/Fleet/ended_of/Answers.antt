@@ -1,7 +1,3 @@
-use Rattle.std.proofs.Common.{◌≡◌, sym, ◌∙◌, ap, Some, None, map}
-use Rattle.std.specs.Prelude.{option_map, ◌==◌}
-use Rattle.std.specs.List.{find}
-use Rattle.dz_fleet.specs.inner.Flying.{job_in}
 use Rattle.dz_fleet.proofs.FlightLemmas.{found_ended, found_there}
 use Rattle.dz_fleet.proofs.fleet.Fleet.ended_of.Goals as goal
 

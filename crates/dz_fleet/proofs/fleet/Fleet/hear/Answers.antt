@@ -1,4 +1,4 @@
-use Rattle.std.proofs.Common.{sym, ◌∙◌, ap, refl}
+use Rattle.std.proofs.Common.{sym, ◌∙◌, refl}
 use Rattle.dz_fleet.proofs.fleet.Fleet.hear.Goals as goal
 
 pub returns-then-has_address : goal.returns-then-has_address

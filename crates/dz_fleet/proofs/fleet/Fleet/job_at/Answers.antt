@@ -1,4 +1,4 @@
-use Rattle.std.proofs.Common.{sym, ◌∙◌, ap, refl, Some}
+use Rattle.std.proofs.Common.{◌∙◌}
 use Rattle.dz_fleet.proofs.MadeLemmas.{job_turn, job_primaries, job_made}
 use Rattle.dz_fleet.proofs.fleet.Fleet.job_at.Goals as goal
 

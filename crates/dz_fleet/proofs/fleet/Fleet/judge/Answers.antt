@@ -1,4 +1,4 @@
-use Rattle.std.proofs.Common.{sym, ◌∙◌, refl}
+use Rattle.std.proofs.Common.{sym, refl}
 use Rattle.dz_fleet.proofs.TakeLemmas.{verdict_is}
 use Rattle.dz_fleet.proofs.fleet.Fleet.judge.Goals as goal
 

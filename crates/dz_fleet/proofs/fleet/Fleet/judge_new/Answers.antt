@@ -1,9 +1,8 @@
-use Rattle.std.proofs.Common.{◌≡◌, sym, ◌∙◌, refl, ap, Some, None}
+use Rattle.std.proofs.Common.{sym, ◌∙◌, ap}
 use Rattle.dz_history.specs.State.{State}
-use Rattle.dz_history.specs.After.{after, aftermath_of}
+use Rattle.dz_history.specs.After.{aftermath_of}
 use Rattle.dz_history.proofs.ListLemmas.{count_is}
-use Rattle.dz_fleet.specs.Core.{state_of, verdict_of}
-use Rattle.dz_fleet.specs.inner.Kept.{core_in}
+use Rattle.dz_fleet.specs.Core.{state_of}
 use Rattle.dz_fleet.proofs.TakeLemmas.{verdict_new, verdict_policy}
 use Rattle.dz_fleet.proofs.SettleLemmas.{serial_new}
 use Rattle.dz_fleet.proofs.fleet.Fleet.judge_new.Goals as goal

@@ -1,10 +1,10 @@
-use Rattle.std.proofs.Common.{◌≡◌, sym, ◌∙◌, refl, ap, None}
+use Rattle.std.proofs.Common.{sym, ◌∙◌, ap, None}
 use Rattle.dz_take.specs.Transfer.{up_to_date}
 use Rattle.dz_history.specs.State.{State}
-use Rattle.dz_history.specs.After.{after, aftermath_of}
+use Rattle.dz_history.specs.After.{aftermath_of}
 use Rattle.dz_history.proofs.ListLemmas.{count_is}
 use Rattle.dz_history.proofs.StateLemmas.{same_alone}
-use Rattle.dz_fleet.specs.Core.{state_of, verdict_of}
+use Rattle.dz_fleet.specs.Core.{state_of}
 use Rattle.dz_fleet.specs.inner.Kept.{core_in}
 use Rattle.dz_fleet.proofs.TakeLemmas.{verdict_is}
 use Rattle.dz_fleet.proofs.fleet.Fleet.judge_same.Goals as goal

@@ -1,4 +1,4 @@
-use Rattle.std.proofs.Common.{sym, ◌∙◌, ap, refl, Some, None}
+use Rattle.std.proofs.Common.{sym}
 use Rattle.dz_fleet.proofs.HandLemmas.{no_primaries}
 use Rattle.dz_fleet.proofs.fleet.Fleet.primary.Goals as goal
 

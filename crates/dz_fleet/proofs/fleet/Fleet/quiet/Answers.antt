@@ -1,4 +1,4 @@
-use Rattle.std.proofs.Common.{◌≡◌, sym, ◌∙◌, ap, refl, length, map, arith}
+use Rattle.std.proofs.Common.{◌≡◌, ◌∙◌, ap, refl, length, map, arith}
 use Rattle.std.proofs.lemmas.List.{length-map}
 use Rattle.dz_history.specs.State.{State}
 use Rattle.dz_history.proofs.ListLemmas.{count_is}

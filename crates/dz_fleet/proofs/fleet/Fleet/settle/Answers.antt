@@ -1,6 +1,5 @@
-use Rattle.std.proofs.Common.{◌≡◌, sym, ◌∙◌, ap, refl, subst, true, Some, None}
-use Rattle.dz_fleet.specs.Core.{state_of, ended_of, entry_for, verdict_of}
-use Rattle.dz_fleet.specs.Weighing.{octets_in, aftermath_in, renewal_for}
+use Rattle.std.proofs.Common.{sym, ◌∙◌, refl}
+use Rattle.dz_fleet.specs.Weighing.{octets_in}
 use Rattle.dz_fleet.proofs.SoundLemmas.{among_stands}
 use Rattle.dz_fleet.proofs.TakeLemmas.{follows, tells}
 use Rattle.dz_fleet.proofs.SettleLemmas.{standing_by, published_aftermath, confirmed_aftermath, settled_published, settled_confirmed, settled_refused, settled_policy, settled_stale, stale_some, never_memory}

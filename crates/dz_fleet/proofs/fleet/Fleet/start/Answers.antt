@@ -1,4 +1,4 @@
-use Rattle.std.proofs.Common.{◌≡◌, sym, ◌∙◌, ap, refl}
+use Rattle.std.proofs.Common.{◌∙◌, ap}
 use Rattle.dz_history.specs.State.{opened}
 use Rattle.dz_fleet.proofs.StartLemmas.{opened_kept, same_setup}
 use Rattle.dz_fleet.proofs.fleet.Fleet.start.Goals as goal

@@ -1,17 +1,13 @@
-use Rattle.std.proofs.Common.{◌≡◌, sym, ◌∙◌, ap, refl, subst, arith, length, Some}
+use Rattle.std.proofs.Common.{sym, ◌∙◌, ap, subst, arith}
 use Rattle.std.specs.Prelude.{IsSome}
-use Rattle.dz_take.specs.Outcome.{outcome}
-use Rattle.dz_take.specs.Transfer.{Transfer}
 use Rattle.dz_history.specs.State.{State, incarnation_at}
-use Rattle.dz_history.specs.After.{after, step, taken, aftermath_of}
+use Rattle.dz_history.specs.After.{after}
 use Rattle.dz_history.proofs.ListLemmas.{count_is}
 use Rattle.dz_history.proofs.StepLemmas.{config_step}
 use Rattle.dz_job.specs.Job.{taken_for}
-use Rattle.dz_fleet.specs.Core.{Core, entry_for}
-use Rattle.dz_fleet.specs.Weighing.{values_for}
 use Rattle.dz_fleet.specs.inner.Kept.{core_in}
 use Rattle.dz_fleet.proofs.SoundLemmas.{among_stands}
-use Rattle.dz_fleet.proofs.TakeLemmas.{stands_some, step_is, room_more, taken_step}
+use Rattle.dz_fleet.proofs.TakeLemmas.{stands_some, room_more, taken_step}
 use Rattle.dz_fleet.proofs.fleet.Fleet.take.Goals as goal
 
 pub take-requires-clause-assigned : goal.take-requires-clause-assigned

@@ -1,4 +1,4 @@
-use Rattle.std.proofs.Common.{sym, ◌∙◌, ap, refl, map, subst}
+use Rattle.std.proofs.Common.{sym, ◌∙◌}
 use Rattle.dz_fleet.proofs.WakeLemmas.{wake_fits, kept_wake, wake_core}
 use Rattle.dz_fleet.proofs.fleet.Fleet.wake.Goals as goal
 
