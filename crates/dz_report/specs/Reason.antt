@@ -1,0 +1,43 @@
+-- Meaning: why a transfer is refused, as it is written.
+use Rattle.std.specs.Prelude.{◌++◌, ℕ, codes, decimal}
+use Rattle.dz_name.specs.Words.{Octets}
+use Rattle.dz_message.specs.Fault.{fault_number}
+use Rattle.dz_form.specs.declared.fault.ShapeFault.{ShapeFault}
+use Rattle.dz_form.specs.declared.fault.ShapeFault.TheVariants.{NotSoaFirst, AfterEnd, SerialGap, DeleteMissing, AddPresent}
+use Rattle.dz_zone.specs.declared.fault.ZoneFault.{ZoneFault}
+use Rattle.dz_zone.specs.declared.fault.ZoneFault.TheVariants.{NoSoa, SoaTwice, SoaBelow, NoNs, OutOfZone, CnameBeside, CnameTwice, DnameTwice, TooMany}
+use Rattle.dz_take.specs.declared.outcome.TakeFault.{TakeFault}
+use Rattle.dz_take.specs.declared.outcome.TakeFault.TheVariants.{Incomplete, Message, WrongId, WrongQuestion, Rcode, Shape, Zone, OldSerial, TooLong}
+
+abbrev pub shape_word : ShapeFault → Octets
+shape_word NotSoaFirst = codes "not-soa-first"
+shape_word AfterEnd = codes "after-end"
+shape_word SerialGap = codes "serial-gap"
+shape_word DeleteMissing = codes "delete-missing"
+shape_word AddPresent = codes "add-present"
+
+abbrev pub zone_word : ZoneFault → Octets
+zone_word NoSoa = codes "no-soa"
+zone_word SoaTwice = codes "soa-twice"
+zone_word SoaBelow = codes "soa-below"
+zone_word NoNs = codes "no-ns"
+zone_word OutOfZone = codes "out-of-zone"
+zone_word CnameBeside = codes "cname-beside"
+zone_word CnameTwice = codes "cname-twice"
+zone_word DnameTwice = codes "dname-twice"
+zone_word TooMany = codes "too-many"
+
+-- a word, and what stands behind it: a number in decimal, or a further word
+abbrev pub numbered : Octets → ℕ → Octets
+numbered word number = word ++ decimal number
+
+abbrev pub reason_of : TakeFault → Octets
+reason_of Incomplete = codes "incomplete"
+reason_of (Message fault) = numbered (codes "message ") (fault_number fault)
+reason_of WrongId = codes "wrong-id"
+reason_of WrongQuestion = codes "wrong-question"
+reason_of (Rcode code) = numbered (codes "rcode ") code
+reason_of (Shape fault) = codes "shape " ++ shape_word fault
+reason_of (Zone fault) = codes "zone " ++ zone_word fault
+reason_of (OldSerial serial) = numbered (codes "old-serial ") serial
+reason_of TooLong = codes "too-long"
