@@ -1,2 +1,9 @@
+pub mod AnswerLemmas
+pub mod CoreLemmas
 pub mod EndLemmas
+pub mod FlightLemmas
+pub mod MomentLemmas
+pub mod OpeningLemmas
+pub mod PhaseLemmas
+pub mod ReplayLemmas
 pub mod TakingLemmas

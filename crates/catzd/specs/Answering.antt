@@ -13,7 +13,7 @@ use Rattle.dz_take.specs.Outcome.{outcome}
 use Rattle.dz_take.specs.Transfer.{Transfer, Decision, up_to_date, new, refused}
 use Rattle.dz_take.specs.declared.ask.Ask.TheVariants.{Axfr}
 use Rattle.dz_take.specs.declared.outcome.TakeFault.{TakeFault}
-use Rattle.catzd.specs.Reason.{reason_of}
+use Rattle.dz_report.specs.Reason.{reason_of}
 use Rattle.catzd.specs.declared.answering.End.{End}
 use Rattle.catzd.specs.declared.answering.End.TheVariants.{Done, BadInput}
 use Rattle.catzd.specs.ZoneLine.{zone_line}

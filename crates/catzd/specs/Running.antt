@@ -1,11 +1,13 @@
 -- Meaning: how the program ends.
-use Rattle.std.specs.Prelude.{◌≡◌, ◌≢◌, ◌≤◌, ◌⊎◌, ⊤, ℕ, codes, Option, None, Result, Ok, Err}
+use Rattle.std.specs.Prelude.{◌≡◌, ◌≢◌, ◌≤◌, ◌⊎◌, ⊤, ℕ, [], codes, Option, None, Result, Ok, Err}
 use Rattle.dz_io.specs.Counts.{HasRisen}
 use Rattle.dz_io.specs.Device.{Gains, GainsPrefix}
 use Rattle.dz_io.specs.Run.{IsRun}
 use Rattle.dz_io.specs.declared.run.ScriptError.{ScriptError}
 use Rattle.dz_io.specs.declared.run.ScriptError.TheVariants as errors
 use Rattle.catzd.specs.Answering.{State, answer_rules}
+use Rattle.catzd.specs.Replaying.{opening, replay_rules}
+use Rattle.catzd.specs.Replaying as replaying
 use Rattle.catzd.specs.declared.answering.End.{End}
 use Rattle.catzd.specs.declared.answering.End.TheVariants as endings
 use Rattle.catzd.specs.declared.running.Status.{Status}
@@ -14,7 +16,7 @@ use Rattle.catzd.specs.declared.words.Command.{Command}
 use Rattle.catzd.specs.declared.words.Command.TheVariants as commands
 use Rattle.dz_name.specs.Words.{Octets}
 
--- the status of a run of `answer`
+-- the status of a run of a script
 abbrev pub status_of : Result End ScriptError → Status
 status_of (Ok endings.Done) = Done
 status_of (Ok endings.BadInput) = BadInput
@@ -26,6 +28,10 @@ status_of (Err errors.OutOfMemory) = NoMemory
 abbrev pub Answers : Octets → Status → Option Octets → Option Octets → Option Octets → Type 0
 Answers input status left before after = (result : Result End ScriptError) × (state : State) × (status ≡ status_of result) × IsRun answer_rules None input result state left before after
 
+-- the same of `replay`
+abbrev pub Replays : Octets → Status → Option Octets → Option Octets → Option Octets → Type 0
+Replays input status left before after = (result : Result End ScriptError) × (state : replaying.State) × (status ≡ status_of result) × IsRun replay_rules (opening []) input result state left before after
+
 -- a text was written and the status is this one, or the write failed behind a prefix of the text
 abbrev pub Says : Octets → Status → Status → Option Octets → Option Octets → Type 0
 Says text own status before after = ((status ≡ own) × Gains text before after) ⊎ ((status ≡ WriteFault) × GainsPrefix text before after)
@@ -33,9 +39,11 @@ Says text own status before after = ((status ≡ own) × Gains text before after
 abbrev pub usage : Octets
 usage = codes "usage: catzd answer | replay | rehearse N | serve\n"
 
--- what the words decide, whatever the input: each command but `answer` says one line, and `answer` never says Usage
+-- what the words decide, whatever the input: each command but `answer` and `replay` says one line, and these two never say
+-- Usage
 abbrev pub Decides : Command → Status → Option Octets → Option Octets → Type 0
 Decides commands.Answer status before after = status ≢ Usage
+Decides commands.Replay status before after = status ≢ Usage
 Decides commands.Later status before after = Says (codes "unbuilt 0\n") Unbuilt status before after
 Decides commands.Wrong status before after = Says usage Usage status before after
 

@@ -12,14 +12,14 @@ ghost use Rattle.dz_take.specs.Fit.{Fits};
 ghost use Rattle.dz_take.specs.Outcome.{outcome};
 ghost use Rattle.dz_take.specs.Taken.{meaning_of};
 ghost use Rattle.dz_script.specs.Hex.{octets_in};
-ghost use Rattle.catzd.specs.Answering.{numbered_line, transfer_of, refusal, slot_for, taking_turn, zone_turn, reply_text, request_turn, line_turn, answer_turn, turn_from};
+ghost use Rattle.catzd.specs.Answering.{bad, numbered_line, transfer_of, refusal, slot_for, taking_turn, zone_turn, reply_text, request_turn, line_turn, answer_turn, turn_from};
 ghost use Rattle.catzd.specs.ZoneLine.{zone_line};
 
-use crate::reason::{joined, numbered, reason_of};
 use crate::zone_line::read_zone_line;
 use dz_header::ReplyBuffer;
 use dz_name::Name;
 use dz_reply::{Transport, Turn, reply_into};
+use dz_report::{joined, numbered, reason_of};
 use dz_script::{is_skipped, read_octets};
 use dz_steps::Steps;
 use dz_table::{Slot, Table};
@@ -116,7 +116,7 @@ impl Answering {
         ensures { IfOk result (λ s. zone_turn number (zone_line line.now) ≡ turn_from s.text.items s.ending self.new) }
     {
         match read_zone_line(alloc, line)? {
-            None => say_last(alloc, b"bad ", number, End::BadInput),
+            None => say_bad(alloc, number),
             Some((apex, octets)) => self.take_message(alloc, &apex, octets.as_slice()),
         }
     }
@@ -179,7 +179,7 @@ fn take_request(
     ensures { IfOk result (λ s. request_turn table.now number (octets_in line.now) ≡ turn_from s.text.items s.ending (Some table.now)) }
 {
     match read_octets(alloc, line)? {
-        None => say_last(alloc, b"bad ", number, End::BadInput),
+        None => say_bad(alloc, number),
         Some(octets) => Ok(Saying {
             text: reply_text(alloc, table, octets.as_slice(), buffer)?,
             ending: None,
@@ -263,13 +263,13 @@ fn say(alloc: Global, word: &[u8], number: u64) -> Result<Saying, AllocError>
     })
 }
 
-/// Says a word and a number, and ends so.
-fn say_last(alloc: Global, word: &[u8], number: u64, ending: End) -> Result<Saying, AllocError>
-    ensures { IfOk result (λ s. (s.text.items ≡ numbered_line word.now number) × (s.ending ≡ Some ending)) }
+/// Says that a line is bad, and ends so.
+pub fn say_bad(alloc: Global, number: u64) -> Result<Saying, AllocError>
+    ensures { IfOk result (λ s. (s.text.items ≡ bad number) × (s.ending ≡ Some End.BadInput)) }
 {
     Ok(Saying {
-        text: numbered_line(alloc, word, number)?,
-        ending: Some(ending),
+        text: numbered_line(alloc, b"bad ", number)?,
+        ending: Some(End::BadInput),
     })
 }
 

@@ -3,7 +3,12 @@
 
 mod answering;
 mod edge;
-mod reason;
+mod events;
+mod opening;
+mod replay_script;
+#[cfg(test)]
+mod replay_tests;
+mod replaying;
 mod running;
 mod script;
 #[cfg(test)]

@@ -3,10 +3,12 @@
 ghost use Rattle.std.specs.Prelude.{◌≡◌, ◌≢◌, ◌≤◌, [], Some};
 ghost use Rattle.dz_io.specs.Counts.{HasRisen};
 ghost use Rattle.dz_name.specs.Words.{Octets};
-ghost use Rattle.catzd.specs.Running.{status_of, Answers, Says, Decides, IsWithoutFault, HasCauseIn};
+ghost use Rattle.catzd.specs.Running.{status_of, Answers, Replays, Says, Decides, IsWithoutFault, HasCauseIn};
 ghost use Rattle.catzd.specs.Words.{command_of};
 
 use crate::answering::{Answering, End};
+use crate::replay_script::run_replaying;
+use crate::replaying::Replaying;
 use crate::script::run_answering;
 use crate::words::{Command, Words, read_words};
 use dz_header::ReplyBuffer;
@@ -43,6 +45,9 @@ pub struct Ended<K> {
 /// `answer` reads lines: first `zone <name> <hex>`, one message with ID 1 that is to hold a whole transfer (RFC 5936), and
 /// then requests in hex, each taken as over UDP at moment 0. It writes `taken <serial>` or `refused <reason>`, and for
 /// each request the hex of the reply, `none`, or `notify <name>`. A bad line ends it.
+///
+/// `replay` reads lines: first the configuration, and then events at their moments. It writes what each job asks for and
+/// what comes of it, and the reply to each request at the whole list so far. A bad line ends it.
 pub fn run<S: Source, K: Sink>(
     alloc: Global,
     words: &Words,
@@ -52,9 +57,13 @@ pub fn run<S: Source, K: Sink>(
     ensures ends { command_of words.now ≡ Command.Answer →
         (octets : Octets) → S.left input.old ≡ Some octets →
         Answers octets result.status (S.left input.new) (K.held output) (K.held result.output) }
+    ensures ends_replay { command_of words.now ≡ Command.Replay →
+        (octets : Octets) → S.left input.old ≡ Some octets →
+        Replays octets result.status (S.left input.new) (K.held output) (K.held result.output) }
     ensures words { Decides (command_of words.now) result.status (K.held output) (K.held result.output) }
     ensures usage { result.status ≡ Status.Usage → command_of words.now ≡ Command.Wrong }
-    ensures unread { command_of words.now ≢ Command.Answer → input.new ≡ input.old }
+    ensures unread { command_of words.now ≢ Command.Answer → command_of words.now ≢ Command.Replay →
+        input.new ≡ input.old }
     ensures done { (octets : Octets) → S.left input.old ≡ Some octets →
         result.status ≡ Status.Done → S.left input.new ≡ Some [] }
     ensures read_later { S.faults input.old ≤ S.faults input.new }
@@ -79,9 +88,12 @@ fn run_command<S: Source, K: Sink>(
     ensures ends { command ≡ Command.Answer →
         (octets : Octets) → S.left input.old ≡ Some octets →
         Answers octets result (S.left input.new) (K.held output.old) (K.held output.new) }
+    ensures ends_replay { command ≡ Command.Replay →
+        (octets : Octets) → S.left input.old ≡ Some octets →
+        Replays octets result (S.left input.new) (K.held output.old) (K.held output.new) }
     ensures words { Decides command result (K.held output.old) (K.held output.new) }
     ensures usage { result ≡ Status.Usage → command ≡ Command.Wrong }
-    ensures unread { command ≢ Command.Answer → input.new ≡ input.old }
+    ensures unread { command ≢ Command.Answer → command ≢ Command.Replay → input.new ≡ input.old }
     ensures done { (octets : Octets) → S.left input.old ≡ Some octets →
         result ≡ Status.Done → S.left input.new ≡ Some [] }
     ensures read_cause { HasCauseIn (S.faults input.old) (S.faults input.new) result Status.ReadFault }
@@ -89,6 +101,7 @@ fn run_command<S: Source, K: Sink>(
 {
     match command {
         Command::Answer => answer(alloc, input, output),
+        Command::Replay => replay(alloc, input, output),
         Command::Later => say(b"unbuilt 0\n", Status::Unbuilt, output),
         Command::Wrong => say(
             b"usage: catzd answer | replay | rehearse N | serve\n",
@@ -113,6 +126,27 @@ pub fn answer<S: Source, K: Sink>(alloc: Global, input: &mut S, output: &mut K) 
         Ok(buffer) => {
             let mut answering = Answering::new(buffer);
             status_of(run_answering(alloc, &mut answering, input, output))
+        }
+    }
+}
+
+/// Runs the command `replay` on an input, whose text it writes to the output.
+pub fn replay<S: Source, K: Sink>(alloc: Global, input: &mut S, output: &mut K) -> Status
+    ensures ends { (octets : Octets) → S.left input.old ≡ Some octets →
+        Replays octets result (S.left input.new) (K.held output.old) (K.held output.new) }
+    ensures other { result ≢ Status.Usage }
+    ensures done { (octets : Octets) → S.left input.old ≡ Some octets →
+        result ≡ Status.Done → S.left input.new ≡ Some [] }
+    ensures read_cause { HasCauseIn (S.faults input.old) (S.faults input.new) result Status.ReadFault }
+    ensures write_cause { HasCauseIn (K.faults output.old) (K.faults output.new) result Status.WriteFault }
+{
+    match ReplyBuffer::make(alloc) {
+        Err(_) => Status::NoMemory,
+        Ok(buffer) => {
+            let mut replaying = Replaying::new(alloc, buffer);
+            let ended = run_replaying(alloc, &mut replaying, input, output);
+            replaying.close();
+            status_of(ended)
         }
     }
 }

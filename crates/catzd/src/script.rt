@@ -94,7 +94,7 @@ impl<'a, K: Sink> Script for AnswerScript<'a, K> {
 }
 
 /// Writes `bad` and the number of the line.
-fn put_bad<K: Sink>(alloc: Global, number: u64, output: &mut K) -> Result<End, TurnError>
+pub fn put_bad<K: Sink>(alloc: Global, number: u64, output: &mut K) -> Result<End, TurnError>
     ensures done { MatchResult result
         (λ ending. (ending ≡ End.BadInput)
         × Gains (bad number) (K.held output.old) (K.held output.new))

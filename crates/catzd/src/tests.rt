@@ -1,8 +1,8 @@
 use crate::edge::ReadSource;
-use crate::reason::reason_of;
 use crate::running::{Ended, Status, answer, run};
 use crate::words::{Command, Words, read_words};
 use dz_io::{Failed, MemorySink, MemorySource, Source};
+use dz_report::reason_of;
 use dz_take::{ShapeFault, TakeFault, ZoneFault};
 use std::alloc::{AllocError, Global};
 use std::io::{Error, ErrorKind, Read};
@@ -70,6 +70,24 @@ fn is_end(
     Ok(ended.status == status && ended.output.written() == text_of(alloc, output)?.as_slice())
 }
 
+/// What a command writes to this input, and how it ends.
+pub fn expect_of(
+    rt: &impl Abort,
+    alloc: Global,
+    word: &str,
+    input: &[&[u8]],
+    status: Status,
+    output: &[&[u8]],
+) -> Result<(), AllocError> {
+    let ended = run_on(alloc, &[word], input, Vec::new(alloc), Vec::new(alloc))?;
+    assert!(rt;
+        is_end(alloc, &ended, status, output)?,
+        "{:?}",
+        ended.status
+    );
+    Ok(())
+}
+
 /// What `answer` writes to this input, and how it ends.
 fn expect(
     rt: &impl Abort,
@@ -78,13 +96,7 @@ fn expect(
     status: Status,
     output: &[&[u8]],
 ) -> Result<(), AllocError> {
-    let ended = run_on(alloc, &["answer"], input, Vec::new(alloc), Vec::new(alloc))?;
-    assert!(rt;
-        is_end(alloc, &ended, status, output)?,
-        "{:?}",
-        ended.status
-    );
-    Ok(())
+    expect_of(rt, alloc, "answer", input, status, output)
 }
 
 #[test]
@@ -275,6 +287,7 @@ fn each_reason_has_its_words(rt: HostRuntime) -> Result<(), AllocError> {
 fn words_name_a_command(rt: HostRuntime) -> Result<(), AllocError> {
     let alloc = rt.alloc();
     assert!(rt; read_words(&words_of(alloc, &["answer"])?) == Command::Answer);
+    assert!(rt; read_words(&words_of(alloc, &["replay"])?) == Command::Replay);
     assert!(rt; read_words(&words_of(alloc, &["rehearse", "1000"])?) == Command::Later);
     assert!(rt; read_words(&words_of(alloc, &["rehearse", "1"])?) == Command::Later);
     assert!(rt; read_words(&words_of(alloc, &["rehearse", "0"])?) == Command::Wrong);
@@ -288,7 +301,7 @@ fn words_name_a_command(rt: HostRuntime) -> Result<(), AllocError> {
 #[test]
 fn commands_that_are_not_built_say_so(rt: HostRuntime) -> Result<(), AllocError> {
     let alloc = rt.alloc();
-    let ended = run_on(alloc, &["replay"], &[], Vec::new(alloc), Vec::new(alloc))?;
+    let ended = run_on(alloc, &["serve"], &[], Vec::new(alloc), Vec::new(alloc))?;
     assert!(rt; is_end(alloc, &ended, Status::Unbuilt, &[b"unbuilt 0"])?);
     Ok(())
 }

@@ -25,7 +25,8 @@ impl Model for Words {
 #[derive(Clone, Copy, Debug, PartialEq, Eq)]
 pub enum Command {
     Answer,
-    /// One of the commands to come: `replay`, `rehearse N` and `serve`.
+    Replay,
+    /// One of the commands to come: `rehearse N` and `serve`.
     Later,
     /// None of the four forms.
     Wrong,
@@ -47,7 +48,9 @@ fn one_word(word: &[u8]) -> Command
 {
     if word == b"answer".as_slice() {
         Command::Answer
-    } else if word == b"replay".as_slice() || word == b"serve".as_slice() {
+    } else if word == b"replay".as_slice() {
+        Command::Replay
+    } else if word == b"serve".as_slice() {
         Command::Later
     } else {
         Command::Wrong

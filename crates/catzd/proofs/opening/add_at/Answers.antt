@@ -1,0 +1,11 @@
+use Rattle.std.proofs.Common.{◌∙◌, ap, sym, set}
+use Rattle.dz_member.specs.declared.config.CatalogSettings.{CatalogSettings}
+use Rattle.catzd.specs.Replaying.{with_group}
+use Rattle.catzd.proofs.OpeningLemmas.{placed}
+use Rattle.catzd.proofs.opening.add_at.Goals as goal
+
+pub returns : goal.returns
+returns c =
+    let old = c.index_mut.result.now in
+    ap (λ (settings : CatalogSettings). set c.args.catalogs.now.items c.args.place settings) (c.in_ok-add_to.ensures ∙ ap (with_group c.args.group) c.index_mut.ensures.value)
+    ∙ placed (with_group c.args.group) c.args.place c.args.catalogs.now.items old c.requires

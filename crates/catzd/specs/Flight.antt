@@ -1,0 +1,14 @@
+-- Meaning: the jobs in flight, by their places and by their tickets.
+use Rattle.std.specs.Prelude.{ℕ, ◌==◌, List, Option, slice_index_or}
+use Rattle.std.specs.List.{find, position}
+use Rattle.dz_name.specs.Words.{Octets}
+use Rattle.dz_io.specs.declared.peer.Peer.{Peer}
+use Rattle.dz_take.specs.declared.ask.Ask.TheVariants.{Axfr}
+use Rattle.dz_job.specs.Job.{JobOf}
+
+-- the place of the job of a ticket, and the job
+abbrev pub place_in : List JobOf → ℕ → Option ℕ
+place_in jobs ticket = position (λ j. j.flight.ticket == ticket) jobs
+
+abbrev pub job_in : List JobOf → ℕ → Option JobOf
+job_in jobs ticket = find (λ j. j.flight.ticket == ticket) jobs
