@@ -1,7 +1,11 @@
+pub mod AbsentLemmas
+pub mod CallLemmas
 pub mod CarryLemmas
 pub mod EndLemmas
+pub mod EventLemmas
 pub mod FlightLemmas
 pub mod FlyingLemmas
+pub mod GrowLemmas
 pub mod HandLemmas
 pub mod KeptLemmas
 pub mod MadeLemmas
@@ -10,6 +14,7 @@ pub mod RenewLemmas
 pub mod SettleLemmas
 pub mod SoundLemmas
 pub mod StartLemmas
+pub mod StateLemmas
 pub mod TakeLemmas
 pub mod TakenLemmas
 pub mod WaitLemmas

@@ -33,14 +33,14 @@ use Rattle.dz_fleet.proofs.EndLemmas.{placed_at}
 use Rattle.dz_fleet.proofs.KeptLemmas.{stay, kept_taken, marked_jobs}
 
 -- the incarnation of a transfer stands after it
-own_from : (s : State) (job : JobOf) (octets : List ℕ) (o : Option ℕ) → o ≡ catalog_at s job.flight.zone → stands s job.flight.zone job.flight.incarnation ≡ true
+pub own_from : (s : State) (job : JobOf) (octets : List ℕ) (o : Option ℕ) → o ≡ catalog_at s job.flight.zone → stands s job.flight.zone job.flight.incarnation ≡ true
     → stands (step s (entry_for job octets)) job.flight.zone job.flight.incarnation ≡ true
 own_from s job octets None e h = stands_by_fold (step s (entry_for job octets)) s job.flight.zone job.flight.incarnation (fold_of_member s (taken_for job octets) (sym e)) ∙ h
 own_from s job octets (Some number) e h =
     let zero = stands_zero s job.flight.zone job.flight.incarnation number e h in
     subst (λ i. stands (step s (entry_for job octets)) job.flight.zone i ≡ true) zero (stands_catalog s (taken_for job octets) job.flight.zone number e).1
 
-values_same : (s t : State) (values : List ValuesOf) (a : Aftermath) → unwrap_or (values_for s values t a) values ≡ values_after s values a t.fold.members
+pub values_same : (s t : State) (values : List ValuesOf) (a : Aftermath) → unwrap_or (values_for s values t a) values ≡ values_after s values a t.fold.members
 values_same s t values Member = refl
 values_same s t values (Broken reason) = refl
 values_same s t values (Changes cs) = refl

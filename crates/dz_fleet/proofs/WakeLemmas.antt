@@ -17,7 +17,7 @@ use Rattle.dz_fleet.specs.Core.{after_notify}
 use Rattle.dz_fleet.specs.inner.Kept.{core_in, IsKept}
 use Rattle.dz_fleet.proofs.KeptLemmas.{kept_changed}
 
-same_busy : (t : Timing) (b : Bool) → t.busy ≡ b → (timer.notified t).busy ≡ t.busy
+pub same_busy : (t : Timing) (b : Bool) → t.busy ≡ b → (timer.notified t).busy ≡ t.busy
 same_busy t true e = rw e refl
 same_busy t false e = rw e refl
 

@@ -1,4 +1,6 @@
+pub mod Absence
 pub mod Core
+pub mod Events
 pub mod Quiet
 pub mod Values
 pub mod Weighing

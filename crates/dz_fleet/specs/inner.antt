@@ -2,3 +2,4 @@
 pub mod Flying
 pub mod Kept
 pub mod Renewing
+pub mod Same

@@ -2,21 +2,27 @@
 //! (RFC 9432 section 5, RFC 1995 section 4, RFC 1996 section 3).
 #![tactic(auto)]
 
+mod absent;
 mod carrying;
 mod due;
 mod fleet;
 mod flight;
 mod handing;
+mod laws;
 mod places;
 mod settling;
 #[cfg(test)]
 mod tests;
+#[cfg(test)]
+mod tests_absent;
 mod weighed;
 mod weighing;
 
+pub use absent::Absent;
 pub use due::{Due, Quiet};
 pub use dz_history::{Aftermath, Entry, Taken};
 pub use dz_job::{Failure, Flight, Job, Verdict};
 pub use dz_notify::Heard;
 pub use fleet::Fleet;
+pub use laws::{calls_are_events, core_stays_sound, list_only_grows, list_stays_legal};
 pub use weighed::{Step, Weighed};

@@ -1,0 +1,191 @@
+//! Jobs that are this core's, and those that aren't.
+
+ghost use Rattle.std.specs.Prelude.{◌≡◌, ◌↔◌, ◌==◌, None, true, option_map, IsTrue, IfSome};
+ghost use Rattle.std.specs.List.{list_any};
+ghost use Rattle.dz_history.specs.State.{held_at, stands};
+ghost use Rattle.dz_fleet.specs.Absence.{absent_of};
+ghost use Rattle.dz_fleet.specs.Sound.{IsFlying};
+ghost use Rattle.dz_fleet.specs.inner.Same.{same_ask, same_peer, same_query, same_flight, is_copy};
+
+use crate::fleet::Fleet;
+use crate::flight::Flying;
+use dz_history::Holdings;
+use dz_io::Peer;
+use dz_job::{Flight, Job};
+use dz_record::Rr;
+use dz_take::Ask;
+use dz_zone::Version;
+use std::marker::Model;
+use std::sync::Arc;
+
+/// Why a job isn't a fleet's.
+#[derive(Clone, Copy, Debug)]
+pub struct Absent {
+    count: u64,
+    ticket: u64,
+    differs: bool,
+}
+
+impl Model for Absent {
+    ghost use Rattle.dz_fleet.specs.Absence.{AbsentOf};
+
+    ghost Value = { AbsentOf };
+
+    ghost view = { λ a. record { count = a.count; ticket = a.ticket; differs = a.differs } };
+
+    ghost inverse = { λ a. record { count = a.count; ticket = a.ticket; differs = a.differs } };
+}
+
+impl Absent {
+    /// How many entries the list has.
+    pub fn count(&self) -> u64
+        ensures { result ≡ self.now.count }
+    {
+        self.count
+    }
+
+    /// The number of the job, from 1.
+    pub fn ticket(&self) -> u64
+        ensures { result ≡ self.now.ticket }
+    {
+        self.ticket
+    }
+
+    /// Whether a job in flight has this number, so that the two differ elsewhere.
+    pub fn differs(&self) -> bool
+        ensures { result ≡ self.now.differs }
+    {
+        self.differs
+    }
+}
+
+impl Fleet {
+    /// Whether a job in flight agrees with this one in all that it asks for, and, while its incarnation stands, the version
+    /// that was held as it was handed out is the one that is held. The records are compared one by one.
+    pub fn is_in_flight(&self, job: &Job) -> bool
+        ensures { IsTrue result ↔ IsFlying self.now job.now }
+    {
+        is_among(&self.flying, job.flight()) && is_as_held(&self.holdings, job)
+    }
+
+    /// Why a job isn't this fleet's; none exactly where it is.
+    pub fn absence(&self, job: &Job) -> Option<Absent>
+        ensures none { (result ≡ None) ↔ IsFlying self.now job.now }
+        ensures absent { IfSome result (λ a. a ≡ absent_of self.now job.now) }
+    {
+        if self.is_in_flight(job) {
+            None
+        } else {
+            Some(self.absent(job))
+        }
+    }
+
+    /// Why a job that isn't this fleet's is none.
+    fn absent(&self, job: &Job) -> Absent
+        ensures { result ≡ absent_of self.now job.now }
+    {
+        Absent {
+            count: self.count(),
+            ticket: job.ticket(),
+            differs: has_ticket(&self.flying, job.ticket()),
+        }
+    }
+}
+
+/// Whether one of these jobs has a number.
+fn has_ticket(flying: &[Flying], ticket: u64) -> bool
+    ensures { result ≡ list_any (λ f. f.flight.ticket == ticket) flying.now }
+{
+    flying.iter().any(|f| f.flight.ticket == ticket)
+}
+
+/// Whether one of these jobs asks for the same.
+fn is_among(flying: &[Flying], flight: &Flight) -> bool
+    ensures { result ≡ list_any (λ f. same_flight f.flight flight.now) flying.now }
+{
+    flying.iter().any(|f| same_flight(&f.flight, flight))
+}
+
+/// Whether two jobs have one number, one incarnation of a zone and one query.
+fn same_flight(a: &Flight, b: &Flight) -> bool
+    ensures { result ≡ same_flight a.now b.now }
+{
+    a.ticket == b.ticket && a.zone == b.zone && a.incarnation == b.incarnation && same_query(a, b)
+}
+
+/// Whether two jobs ask the same primary for the same at the same moment.
+fn same_query(a: &Flight, b: &Flight) -> bool
+    ensures { result ≡ same_query a.now b.now }
+{
+    same_ask(a.ask, b.ask)
+        && a.id == b.id
+        && same_peer(&a.primary, &b.primary)
+        && a.moment == b.moment
+}
+
+fn same_ask(a: Ask, b: Ask) -> bool
+    ensures { result ≡ same_ask a b }
+{
+    match (a, b) {
+        (Ask::Axfr, Ask::Axfr) => true,
+        (Ask::Ixfr, Ask::Ixfr) => true,
+        _ => false,
+    }
+}
+
+fn same_peer(a: &Peer, b: &Peer) -> bool
+    ensures { result ≡ same_peer a.now b.now }
+{
+    a.address == b.address && a.port == b.port
+}
+
+/// Whether the version of a job is the one that is held, while its incarnation stands.
+fn is_as_held(holdings: &Holdings, job: &Job) -> bool
+    ensures { let zone = job.now.flight.zone in
+        IsTrue result ↔ (stands holdings.now zone job.now.flight.incarnation ≡ true
+        → job.now.held ≡ held_at holdings.now zone) }
+{
+    !holdings.stands(job.zone(), job.incarnation())
+        || same_held(job.held(), holdings.held(job.zone()))
+}
+
+/// Whether two versions are one, or there is none.
+fn same_held(a: Option<&Arc<Version>>, b: Option<&Arc<Version>>) -> bool
+    ensures { IsTrue result
+        ↔ (option_map (λ r. r.now.value) a.entry ≡ option_map (λ r. r.now.value) b.entry) }
+{
+    match (a, b) {
+        (None, None) => true,
+        (Some(a), Some(b)) => same_version(a, b),
+        _ => false,
+    }
+}
+
+/// Whether two versions have one apex and the same records.
+fn same_version(a: &Version, b: &Version) -> bool
+    ensures { IsTrue result ↔ (a.now ≡ b.now) }
+{
+    a.apex() == b.apex() && same_records(a.records(), b.records())
+}
+
+/// Whether these are the same records, with their TTLs.
+fn same_records(a: &[Rr], b: &[Rr]) -> bool
+    ensures { IsTrue result ↔ (a.now ≡ b.now) }
+{
+    if a.len() != b.len() {
+        return false;
+    }
+    'records: for place in 0..a.len() {
+        if !is_copy(&a[place], &b[place]) {
+            return false;
+        }
+    }
+    true
+}
+
+/// Whether owner, type, TTL and RDATA agree.
+fn is_copy(a: &Rr, b: &Rr) -> bool
+    ensures { result ≡ is_copy a.now b.now }
+{
+    a.same(b) && a.ttl() == b.ttl()
+}
