@@ -1,10 +1,10 @@
 -- What events leave of the jobs in flight, and what they say.
-use Rattle.std.proofs.Common.{◌≡◌, ◌≢◌, ℕ, ◌+◌, ◌<◌, Bool, true, false, List, [], ◌∷◌, ◌++◌, length, take, arith, refl, sym, ◌∙◌, ap, subst, Option, Some, None, IsSome, Result, Ok, Err}
+use Rattle.std.proofs.Common.{◌≡◌, ◌≢◌, ℕ, Bool, true, false, length, take, arith, refl, sym, ◌∙◌, ap, subst, Option, Some, None, IsSome, Result, Ok, Err}
 use Rattle.std.specs.Prelude.{if◌then◌else◌, slice_get, IfOk}
 use Rattle.std.proofs.lemmas.List.{take_all}
 use Rattle.dz_name.specs.Words.{Name, Octets}
 use Rattle.dz_message.specs.Frame.{messages_in}
-use Rattle.dz_take.specs.Outcome.{decided, outcome, octets_used, or_incomplete}
+use Rattle.dz_take.specs.Outcome.{decided, or_incomplete}
 use Rattle.dz_take.specs.Transfer.{Decision, refused}
 use Rattle.dz_take.specs.declared.outcome.TakeFault.TheVariants.{Incomplete}
 use Rattle.dz_job.specs.Job.{JobOf, transfer_for}

@@ -1,6 +1,6 @@
 -- The moment of an event is below its limit.
-use Rattle.std.proofs.Common.{◌≡◌, ℕ, ◌+◌, ◌-◌, ◌^◌, ◌<◌, ◌≤◌, Bool, true, false, List, [], ◌∷◌, refl, sym, ◌∙◌, ap, arith, inl, inr, Option, Some, None}
-use Rattle.std.specs.Prelude.{◌&&◌, nat_le, codes, option_map, if◌then◌else◌}
+use Rattle.std.proofs.Common.{◌≡◌, ℕ, ◌-◌, ◌^◌, ◌<◌, ◌≤◌, List, [], ◌∷◌, refl, arith, inl, inr, Option, Some, None}
+use Rattle.std.specs.Prelude.{nat_le, codes, option_map}
 use Rattle.std.specs.Str.{bytes_eq}
 use Rattle.std.proofs.lemmas.Bool.{cases_Bool}
 use Rattle.std.proofs.lemmas.Bool.Decides.{nat_tests}
@@ -11,7 +11,7 @@ use Rattle.dz_member.specs.declared.config.GroupSettings.{GroupSettings}
 use Rattle.dz_script.specs.Event.{event_of}
 use Rattle.dz_script.specs.Fields.{fields_of}
 use Rattle.dz_script.specs.Settings.{catalog_of, group_of}
-use Rattle.dz_script.specs.Line.{is_skipped, moment_of, event_at, event_line, line_in, line_of}
+use Rattle.dz_script.specs.Line.{is_skipped, moment_of, event_at, line_in, line_of}
 use Rattle.dz_script.specs.declared.line.Event.{Event}
 use Rattle.catzd.specs.Phase.{IsTimed}
 use Rattle.dz_script.specs.declared.line.Line.{Line}

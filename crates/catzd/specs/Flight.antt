@@ -1,9 +1,6 @@
 -- Meaning: the jobs in flight, by their places and by their tickets.
-use Rattle.std.specs.Prelude.{ℕ, ◌==◌, List, Option, slice_index_or}
+use Rattle.std.specs.Prelude.{ℕ, ◌==◌, List, Option}
 use Rattle.std.specs.List.{find, position}
-use Rattle.dz_name.specs.Words.{Octets}
-use Rattle.dz_io.specs.declared.peer.Peer.{Peer}
-use Rattle.dz_take.specs.declared.ask.Ask.TheVariants.{Axfr}
 use Rattle.dz_job.specs.Job.{JobOf}
 
 -- the place of the job of a ticket, and the job

@@ -1,5 +1,5 @@
 -- Meaning: what `replay` writes: a configuration is read, and then each event at its moment makes a step of the core.
-use Rattle.std.specs.Prelude.{ℕ, zero, suc, ◌==◌, Bool, true, false, List, [], ◌∷◌, ◌++◌, codes, Option, Some, None, option_map, if◌then◌else◌}
+use Rattle.std.specs.Prelude.{ℕ, zero, suc, Bool, true, false, List, [], ◌∷◌, ◌++◌, codes, Option, Some, None, option_map, if◌then◌else◌}
 use Rattle.std.specs.List.{position}
 use Rattle.hex.specs.Hex.{encode_lower}
 use Rattle.dz_io.specs.Script.{Turn, goes_on, ends, Said, Rules}

@@ -1,4 +1,4 @@
-use Rattle.std.proofs.Common.{◌∙◌, ap, sym, set}
+use Rattle.std.proofs.Common.{◌∙◌, ap, set}
 use Rattle.dz_member.specs.declared.config.CatalogSettings.{CatalogSettings}
 use Rattle.catzd.specs.Replaying.{with_group}
 use Rattle.catzd.proofs.OpeningLemmas.{placed}

@@ -1,4 +1,4 @@
-use Rattle.std.proofs.Common.{◌≡◌, ◌<◌, sym, ◌∙◌, ap, length, Some}
+use Rattle.std.proofs.Common.{◌≡◌, sym, ◌∙◌, ap, Some}
 use Rattle.std.specs.Prelude.{slice_get}
 use Rattle.dz_job.specs.Job.{JobOf}
 use Rattle.dz_fleet.specs.Core.{Core, failed_core, failure_of, ended_of}

@@ -1,6 +1,5 @@
-use Rattle.std.proofs.Common.{◌≡◌, sym, ◌∙◌, ap, Option, Some, None}
+use Rattle.std.proofs.Common.{◌≡◌, sym, ◌∙◌, ap, Some}
 use Rattle.dz_io.specs.Script.{ends}
-use Rattle.dz_fleet.specs.Core.{Core}
 use Rattle.catzd.specs.Answering.{bad}
 use Rattle.catzd.specs.Phase.{state_in}
 use Rattle.catzd.specs.Replaying.{State, running, event_turn, event_line}
