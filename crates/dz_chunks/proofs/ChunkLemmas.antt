@@ -1,6 +1,6 @@
 -- Which chunk a key belongs to, and that a change of that chunk is a change of the whole.
 use Rattle.std.proofs.Common.{◌≡◌, ℕ, zero, suc, ◌+◌, ◌<◌, ◌≤◌, Bool, true, false, List, [], ◌∷◌, ◌++◌, length, take, drop, get_or, None, append_assoc, refl, sym, ◌∙◌, ap, arith, inl, inr}
-use Rattle.std.specs.Prelude.{T, map, not, cond}
+use Rattle.std.specs.Prelude.{T, not, cond}
 use Rattle.std.specs.Option.{is_some}
 use Rattle.std.specs.Ordering.{is_lt, is_gt, ordering_reverse, eq_by_cmp}
 use Rattle.std.specs.Cmp.{IsTotalOrder}
@@ -10,7 +10,7 @@ use Rattle.std.specs.List.Sorted.{IsPartitionedBy}
 use Rattle.std.specs.declared.cmp.Ordering.{Ordering}
 use Rattle.std.specs.declared.cmp.Ordering.TheVariants.{Less, Equal, Greater}
 use Rattle.std.proofs.lemmas.Bool.{false≢true, cases_Bool}
-use Rattle.std.proofs.lemmas.List.{take_all, get_or-map, length-map}
+use Rattle.std.proofs.lemmas.List.{take_all}
 use Rattle.std.proofs.lemmas.List.Elements.{filter-append}
 use Rattle.dz_chunks.specs.Map.{without_key}
 use Rattle.dz_chunks.specs.inner.Chunked.{flat, AllBefore, AllBehind, ends_before, AreChunks, IsChunked}
@@ -185,48 +185,37 @@ module _ {K X : Type 0} (R : K → K → Ordering) (o : IsTotalOrder R) where
       let e : suc i + 1 ≡ suc (i + 1) = omega arith in
       rw (e, flat_at cs i d (omega arith)) (sym (append_assoc c (flat (take i cs)) (get_or cs i d ++ flat (drop (i + 1) cs))))
 
-  -- .. of chunks that are seen through a function
-  module _ {A : Type 0} (f : A → List (K × X)) (k : K) where
-    pub seen_partitioned : (xs : List A) → IsChunked R (map f xs) → IsPartitionedBy (λ a. ends_before R k (f a)) xs
-    seen_partitioned xs is i j d le lt h =
-        let q : ends_before R k (get_or (map f xs) j (f d)) ≡ true = rw (get_or-map f xs j d (f d) lt) h in
-        let r : ends_before R k (get_or (map f xs) i (f d)) ≡ true = chunks_partitioned k (map f xs) is.sorted is.sized i j (f d) le (omega (arith, length-map xs f)) q in
-        rw (get_or-map f xs i d (f d) (omega arith)) at r
+  -- .. at a place of the chunks of a map
+  module _ (k : K) where
+    pub seen_partitioned : (cs : List (List (K × X))) → IsChunked R cs → IsPartitionedBy (ends_before R k) cs
+    seen_partitioned cs is = chunks_partitioned k cs is.sorted is.sized
 
-    seen_each : (b : Bool) (xs : List A) (low high : ℕ) → high ≤ length xs → ((j : ℕ) (d : A) → low ≤ j → j < high → ends_before R k (f (get_or xs j d)) ≡ b)
-        → (j : ℕ) (e : List (K × X)) → low ≤ j → j < high → ends_before R k (get_or (map f xs) j e) ≡ b
-    seen_each b [] low high le h j e a c = absurd (omega arith)
-    seen_each b (x ∷ xs) low high le h j e a c = rw (get_or-map f (x ∷ xs) j x e (omega arith)) (h j x a c)
+    pub point_before : (cs : List (List (K × X))) (i : ℕ) → IsChunked R cs → i ≤ length cs → ((j : ℕ) (d : List (K × X)) → 0 ≤ j → j < i → ends_before R k (get_or cs j d) ≡ true) → AllBefore R k (flat (take i cs))
+    point_before cs i is le h = chunks_before k cs i is.sorted le h
 
-    pub point_before : (xs : List A) (i : ℕ) → IsChunked R (map f xs) → i ≤ length xs → ((j : ℕ) (d : A) → 0 ≤ j → j < i → ends_before R k (f (get_or xs j d)) ≡ true) → AllBefore R k (flat (take i (map f xs)))
-    point_before xs i is le h = chunks_before k (map f xs) i is.sorted (omega (arith, length-map xs f)) (seen_each true xs 0 i le h)
+    pub point_behind : (cs : List (List (K × X))) (i : ℕ) → IsChunked R cs → ((j : ℕ) (d : List (K × X)) → i ≤ j → j < length cs → ends_before R k (get_or cs j d) ≡ false) → AllBehind R k (flat (drop (i + 1) cs))
+    point_behind cs i is h = chunks_behind k cs i is.sorted is.sized h
 
-    pub point_behind : (xs : List A) (i : ℕ) → IsChunked R (map f xs) → ((j : ℕ) (d : A) → i ≤ j → j < length xs → ends_before R k (f (get_or xs j d)) ≡ false) → AllBehind R k (flat (drop (i + 1) (map f xs)))
-    point_behind xs i is h = chunks_behind k (map f xs) i is.sorted is.sized (λ j d low lt. seen_each false xs i (length xs) (omega arith) h j d low (omega (arith, length-map xs f)))
+    pub seen_sorted : (cs : List (List (K × X))) (i : ℕ) (d : List (K × X)) → IsChunked R cs → i < length cs → T (is_sorted R (get_or cs i d))
+    seen_sorted cs i d is lt = sorted_at cs i d lt is.sorted
 
-    pub seen_sorted : (xs : List A) (i : ℕ) (d : A) → IsChunked R (map f xs) → i < length xs → T (is_sorted R (f (get_or xs i d)))
-    seen_sorted xs i d is lt = let s = sorted_at (map f xs) i (f d) (omega (arith, length-map xs f)) is.sorted in rw (get_or-map f xs i d (f d) lt) at s
+    pub seen_find : (cs : List (List (K × X))) (i : ℕ) (d : List (K × X)) → i < length cs → AllBefore R k (flat (take i cs)) → AllBehind R k (flat (drop (i + 1) cs)) → find R k (get_or cs i d) ≡ find R k (flat cs)
+    seen_find cs i d lt a b = find_in k (flat (take i cs)) (get_or cs i d) (flat (drop (i + 1) cs)) a b ∙ ap (find R k) (sym (flat_at cs i d lt))
 
-    seen_flat : (xs : List A) (i : ℕ) (d : A) → i < length xs → flat (map f xs) ≡ flat (take i (map f xs)) ++ (f (get_or xs i d) ++ flat (drop (i + 1) (map f xs)))
-    seen_flat xs i d lt = let e = flat_at (map f xs) i (f d) (omega (arith, length-map xs f)) in rw (get_or-map f xs i d (f d) lt) at e
+    pub seen_past : (cs : List (List (K × X))) (i : ℕ) → length cs ≤ i → AllBefore R k (flat (take i cs)) → None ≡ find R k (flat cs)
+    seen_past cs i h a = find_past k cs i h a
 
-    pub seen_find : (xs : List A) (i : ℕ) (d : A) → i < length xs → AllBefore R k (flat (take i (map f xs))) → AllBehind R k (flat (drop (i + 1) (map f xs))) → find R k (f (get_or xs i d)) ≡ find R k (flat (map f xs))
-    seen_find xs i d lt a b = find_in k (flat (take i (map f xs))) (f (get_or xs i d)) (flat (drop (i + 1) (map f xs))) a b ∙ ap (find R k) (sym (seen_flat xs i d lt))
+    pub seen_put : (v : X) (cs new : List (List (K × X))) (i : ℕ) (d es : List (K × X)) → i < length cs → AllBefore R k (flat (take i cs)) → AllBehind R k (flat (drop (i + 1) cs))
+        → es ≡ put R k v (get_or cs i d) → flat new ≡ flat (take i cs) ++ (es ++ flat (drop (i + 1) cs)) → flat new ≡ put R k v (flat cs)
+    seen_put v cs new i d es lt a b e n =
+        n ∙ (ap (λ l. flat (take i cs) ++ (l ++ flat (drop (i + 1) cs))) e
+        ∙ (put_in k v (flat (take i cs)) (get_or cs i d) (flat (drop (i + 1) cs)) a b ∙ ap (put R k v) (sym (flat_at cs i d lt))))
 
-    pub seen_past : (xs : List A) (i : ℕ) → length xs ≤ i → AllBefore R k (flat (take i (map f xs))) → None ≡ find R k (flat (map f xs))
-    seen_past xs i h a = find_past k (map f xs) i (omega (arith, length-map xs f)) a
-
-    pub seen_put : (v : X) (xs : List A) (new : List (List (K × X))) (i : ℕ) (d : A) (es : List (K × X)) → i < length xs → AllBefore R k (flat (take i (map f xs))) → AllBehind R k (flat (drop (i + 1) (map f xs)))
-        → es ≡ put R k v (f (get_or xs i d)) → flat new ≡ flat (take i (map f xs)) ++ (es ++ flat (drop (i + 1) (map f xs))) → flat new ≡ put R k v (flat (map f xs))
-    seen_put v xs new i d es lt a b e n =
-        n ∙ (ap (λ l. flat (take i (map f xs)) ++ (l ++ flat (drop (i + 1) (map f xs)))) e
-        ∙ (put_in k v (flat (take i (map f xs))) (f (get_or xs i d)) (flat (drop (i + 1) (map f xs))) a b ∙ ap (put R k v) (sym (seen_flat xs i d lt))))
-
-    pub seen_without : (xs : List A) (new : List (List (K × X))) (i : ℕ) (d : A) (es : List (K × X)) → i < length xs → AllBefore R k (flat (take i (map f xs))) → AllBehind R k (flat (drop (i + 1) (map f xs)))
-        → es ≡ without_key R k (f (get_or xs i d)) → flat new ≡ flat (take i (map f xs)) ++ (es ++ flat (drop (i + 1) (map f xs))) → flat new ≡ without_key R k (flat (map f xs))
-    seen_without xs new i d es lt a b e n =
-        n ∙ (ap (λ l. flat (take i (map f xs)) ++ (l ++ flat (drop (i + 1) (map f xs)))) e
-        ∙ (without_in k (flat (take i (map f xs))) (f (get_or xs i d)) (flat (drop (i + 1) (map f xs))) a b ∙ ap (without_key R k) (sym (seen_flat xs i d lt))))
+    pub seen_without : (cs new : List (List (K × X))) (i : ℕ) (d es : List (K × X)) → i < length cs → AllBefore R k (flat (take i cs)) → AllBehind R k (flat (drop (i + 1) cs))
+        → es ≡ without_key R k (get_or cs i d) → flat new ≡ flat (take i cs) ++ (es ++ flat (drop (i + 1) cs)) → flat new ≡ without_key R k (flat cs)
+    seen_without cs new i d es lt a b e n =
+        n ∙ (ap (λ l. flat (take i cs) ++ (l ++ flat (drop (i + 1) cs))) e
+        ∙ (without_in k (flat (take i cs)) (get_or cs i d) (flat (drop (i + 1) cs)) a b ∙ ap (without_key R k) (sym (flat_at cs i d lt))))
 
   -- the chunks of a map that was changed
   pub chunked_put : (k : K) (v : X) (cs new : List (List (K × X))) → IsChunked R cs → AreChunks new → flat new ≡ put R k v (flat cs) → IsChunked R new

@@ -1,8 +1,8 @@
 -- Chunks of 1 to 128 entries, two neighbours of which have at least 128 together: how many there are, and what stands in
 -- place of one of them.
 use Rattle.std.proofs.Common.{◌≡◌, ℕ, zero, suc, ◌+◌, ◌-◌, ◌*◌, ◌<◌, ◌≤◌, List, [], ◌∷◌, ◌++◌, length, take, drop, get_or, append_assoc, length-append, refl, sym, ◌∙◌, ap, arith}
-use Rattle.std.specs.Prelude.{◌/◌, map}
-use Rattle.std.proofs.lemmas.List.{append-nil, map-append, take-append-drop, take-map, drop-map, take_rest, take_more, get_or-map, length-map}
+use Rattle.std.specs.Prelude.{◌/◌}
+use Rattle.std.proofs.lemmas.List.{append-nil, take-append-drop, take_rest, take_more}
 use Rattle.dz_chunks.specs.inner.Chunked.{flat, Joined, AreChunks, length_at, length_before}
 use Rattle.dz_chunks.proofs.ChunkLemmas.{drop_none}
 
@@ -139,51 +139,51 @@ module _ {A : Type 0} where
       ∙ (ap (λ l. l ++ (y ++ back)) a ∙ (append_assoc taken first (y ++ back) ∙ ap (λ l. taken ++ l) (ap (λ l. first ++ l) b ∙ (sym (append_assoc first second left) ∙ ap (λ l. l ++ left) c))))
 
 -- references copied in front of some chunks and behind them
-pub copied_around : {A B : Type 0} (f : A → List B) (xs new0 new1 new2 new3 : List A) (i j : ℕ) (ps : List (List B)) → new0 ≡ [] → map f new1 ≡ map f new0 ++ map f (take i xs) → map f new2 ≡ map f new1 ++ ps
-    → map f new3 ≡ map f new2 ++ map f (take (length xs - j) (drop j xs)) → map f new3 ≡ take i (map f xs) ++ (ps ++ drop j (map f xs))
-copied_around f xs new0 new1 new2 new3 i j ps a b c d =
-    let b2 : map f new1 ≡ map f (take i xs) = rw a at b in
-    rw (take_rest xs j) at d ∙ (rw (c, b2, take-map f i xs, drop-map f j xs) (append_assoc (map f (take i xs)) ps (map f (drop j xs))))
+pub copied_around : {A : Type 0} (cs new0 new1 new2 new3 : List A) (i j : ℕ) (ps : List A) → new0 ≡ [] → new1 ≡ new0 ++ take i cs → new2 ≡ new1 ++ ps
+    → new3 ≡ new2 ++ take (length cs - j) (drop j cs) → new3 ≡ take i cs ++ (ps ++ drop j cs)
+copied_around cs new0 new1 new2 new3 i j ps a b c d =
+    let b2 : new1 ≡ take i cs = rw a at b in
+    rw (take_rest cs j) at d ∙ (rw (c, b2) (append_assoc (take i cs) ps (drop j cs)))
 
--- the chunk at a place, seen through a function
-module _ {A B : Type 0} (f : A → List B) where
-  pub seen_length : (xs : List A) (i : ℕ) (d : A) → i < length xs → length_at (map f xs) i ≡ length (f (get_or xs i d))
-  seen_length xs i d lt = length_at_is (map f xs) i (f d) (omega (arith, length-map xs f)) ∙ ap length (get_or-map f xs i d (f d) lt)
+-- the chunk at a place
+module _ {B : Type 0} where
+  pub seen_length : (cs : List (List B)) (i : ℕ) (d : List B) → i < length cs → length_at cs i ≡ length (get_or cs i d)
+  seen_length cs i d lt = length_at_is cs i d lt
 
-  pub within_of : (xs : List A) (i : ℕ) → length_at (map f xs) i < 128 → i < length xs
+  pub within_of : (cs : List (List B)) (i : ℕ) → length_at cs i < 128 → i < length cs
   within_of [] i h = absurd (omega arith)
-  within_of (x ∷ xs) zero h = omega arith
-  within_of (x ∷ xs) (suc i) h = omega (arith, within_of xs i h)
+  within_of (c ∷ cs) zero h = omega arith
+  within_of (c ∷ cs) (suc i) h = omega (arith, within_of cs i h)
 
   -- where the chunk before a place, or the one there, has fewer than 128 entries, there is one
-  pub before_length : (xs : List A) (i : ℕ) (d : A) (n : ℕ) (part : List B) → i ≤ length xs → n ≡ length_before (map f xs) i → n < 128 → part ≡ f (get_or xs (i - 1) d) → AreChunks (map f xs)
-      → (0 < i) × (length part ≡ n) × (128 ≤ length_before (map f xs) (i - 1) + n)
-  before_length xs zero d n part le e lt p z = absurd (omega arith)
-  before_length xs (suc i) d n part le e lt p z =
+  pub before_length : (cs : List (List B)) (i : ℕ) (d : List B) (n : ℕ) (part : List B) → i ≤ length cs → n ≡ length_before cs i → n < 128 → part ≡ get_or cs (i - 1) d → AreChunks cs
+      → (0 < i) × (length part ≡ n) × (128 ≤ length_before cs (i - 1) + n)
+  before_length cs zero d n part le e lt p z = absurd (omega arith)
+  before_length cs (suc i) d n part le e lt p z =
       let s : suc i - 1 ≡ i = omega arith in
-      let q : part ≡ f (get_or xs i d) = rw s at p in
-      let a : length part ≡ n = ap length q ∙ (sym (seen_length xs i d (omega arith)) ∙ sym e) in
-      let b : 128 ≤ length_before (map f xs) i + n = omega (arith, with_before (map f xs) i z, e) in
+      let q : part ≡ get_or cs i d = rw s at p in
+      let a : length part ≡ n = ap length q ∙ (sym (seen_length cs i d (omega arith)) ∙ sym e) in
+      let b : 128 ≤ length_before cs i + n = omega (arith, with_before cs i z, e) in
       rw s (omega arith, a, b)
 
-  pub behind_length : (xs : List A) (i : ℕ) (d : A) (n : ℕ) (part : List B) → n ≡ length_at (map f xs) i → n < 128 → part ≡ f (get_or xs i d) → AreChunks (map f xs)
-      → (length part ≡ n) × (128 ≤ n + length_at (map f xs) (i + 1))
-  behind_length xs i d n part e lt p z =
-      let h = within_of xs i (omega arith) in
-      (ap length p ∙ (sym (seen_length xs i d h) ∙ sym e), omega (arith, with_next (map f xs) i z, e))
+  pub behind_length : (cs : List (List B)) (i : ℕ) (d : List B) (n : ℕ) (part : List B) → n ≡ length_at cs i → n < 128 → part ≡ get_or cs i d → AreChunks cs
+      → (length part ≡ n) × (128 ≤ n + length_at cs (i + 1))
+  behind_length cs i d n part e lt p z =
+      let h = within_of cs i (omega arith) in
+      (ap length p ∙ (sym (seen_length cs i d h) ∙ sym e), omega (arith, with_next cs i z, e))
 
-  pub before_flat : (xs : List A) (i : ℕ) (d : A) (part es new : List B) → 0 < i → i ≤ length xs → part ≡ f (get_or xs (i - 1) d) → new ≡ part ++ es → flat (take (i - 1) (map f xs)) ++ new ≡ flat (take i (map f xs)) ++ es
-  before_flat xs zero d part es new some le p n = absurd (omega arith)
-  before_flat xs (suc i) d part es new some le p n =
+  pub before_flat : (cs : List (List B)) (i : ℕ) (d : List B) (part es new : List B) → 0 < i → i ≤ length cs → part ≡ get_or cs (i - 1) d → new ≡ part ++ es → flat (take (i - 1) cs) ++ new ≡ flat (take i cs) ++ es
+  before_flat cs zero d part es new some le p n = absurd (omega arith)
+  before_flat cs (suc i) d part es new some le p n =
       let s : suc i - 1 ≡ i = omega arith in
       let e : suc i ≡ i + 1 = omega arith in
-      let lt : i < length xs = omega arith in
-      let q : part ≡ f (get_or xs i d) = rw s at p in
-      rw (s, e, flat_take_more (map f xs) i (f d) (omega (arith, length-map xs f)), get_or-map f xs i d (f d) lt, n, q) (sym (append_assoc (flat (take i (map f xs))) (f (get_or xs i d)) es))
+      let lt : i < length cs = omega arith in
+      let q : part ≡ get_or cs i d = rw s at p in
+      rw (s, e, flat_take_more cs i d lt, n, q) (sym (append_assoc (flat (take i cs)) (get_or cs i d) es))
 
-  pub behind_flat : (xs : List A) (i : ℕ) (d : A) (part es new : List B) → i < length xs → part ≡ f (get_or xs i d) → new ≡ es ++ part → new ++ flat (drop (i + 1) (map f xs)) ≡ es ++ flat (drop i (map f xs))
-  behind_flat xs i d part es new lt p n =
-      rw (flat_drop_more (map f xs) i (f d) (omega (arith, length-map xs f)), get_or-map f xs i d (f d) lt, n, p) (append_assoc es (f (get_or xs i d)) (flat (drop (i + 1) (map f xs))))
+  pub behind_flat : (cs : List (List B)) (i : ℕ) (d : List B) (part es new : List B) → i < length cs → part ≡ get_or cs i d → new ≡ es ++ part → new ++ flat (drop (i + 1) cs) ≡ es ++ flat (drop i cs)
+  behind_flat cs i d part es new lt p n =
+      rw (flat_drop_more cs i d lt, n, p) (append_assoc es (get_or cs i d) (flat (drop (i + 1) cs)))
 
 pub pushed_both : {A : Type 0} (old one two : List A) (x y : A) → one ≡ old ++ x ∷ [] → two ≡ one ++ y ∷ [] → two ≡ old ++ x ∷ y ∷ []
 pushed_both old one two x y a b = b ∙ (ap (λ l. l ++ y ∷ []) a ∙ append_assoc old (x ∷ []) (y ∷ []))
@@ -192,6 +192,5 @@ pub halves_join : {A : Type 0} (es first second : List A) → first ≡ take 64 
 halves_join es first second a b = rw (a, b) (take-append-drop 64 es)
 
 -- how many entries the first chunks and one more have
-pub taken_length : {A B : Type 0} (f : A → List B) (xs : List A) (i : ℕ) (d : A) → i < length xs → length (flat (map f (take (i + 1) xs))) ≡ length (flat (map f (take i xs))) + length (f (get_or xs i d))
-taken_length f xs i d lt =
-    rw (take_more xs i d lt, map-append f (take i xs) (get_or xs i d ∷ []), flat-append (map f (take i xs)) (f (get_or xs i d) ∷ []), append-nil (f (get_or xs i d))) (length-append (flat (map f (take i xs))) (f (get_or xs i d)))
+pub taken_length : {B : Type 0} (cs : List (List B)) (i : ℕ) (d : List B) → i < length cs → length (flat (take (i + 1) cs)) ≡ length (flat (take i cs)) + length (get_or cs i d)
+taken_length cs i d lt = ap length (flat_take_more cs i d lt) ∙ length-append (flat (take i cs)) (get_or cs i d)

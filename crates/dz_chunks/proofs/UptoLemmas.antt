@@ -1,6 +1,6 @@
 -- The last entry up to a key, among entries and among chunks.
 use Rattle.std.proofs.Common.{◌≡◌, ℕ, zero, suc, ◌+◌, ◌<◌, ◌≤◌, Bool, true, false, List, [], ◌∷◌, ◌++◌, length, get_or, Option, Some, None, refl, sym, ◌∙◌, ap, arith, inl, inr}
-use Rattle.std.specs.Prelude.{T, map, not, filter}
+use Rattle.std.specs.Prelude.{T, not, filter}
 use Rattle.std.specs.List.{last_or}
 use Rattle.std.specs.Ordering.{is_lt, is_gt}
 use Rattle.std.specs.Cmp.{IsTotalOrder}
@@ -11,7 +11,6 @@ use Rattle.std.specs.declared.cmp.Ordering.{Ordering}
 use Rattle.std.specs.declared.cmp.Ordering.TheVariants.{Less, Equal, Greater}
 use Rattle.std.proofs.lemmas.Bool.{false≢true, cases_Bool}
 use Rattle.std.proofs.lemmas.Cmp.{alike_right}
-use Rattle.std.proofs.lemmas.List.{get_or-map, length-map}
 use Rattle.std.proofs.lemmas.List.Elements.{filter-append}
 use Rattle.dz_chunks.specs.Map.{is_upto, last_upto}
 use Rattle.dz_chunks.specs.inner.Chunked.{flat, begins_upto, AreChunks, IsChunked}
@@ -110,28 +109,14 @@ module _ {K X : Type 0} (R : K → K → Ordering) (o : IsTotalOrder R) where
       last_chunk k cs n d (last_or a (filter (is_upto R k) c)) (sorted_back R c (flat cs) s) z.3 (omega arith) t (λ j e low l. h (suc j) e (omega arith) (omega arith))
       ∙ (sym (last_append a (filter (is_upto R k) c) (filter (is_upto R k) (flat cs))) ∙ ap (last_or a) (sym (filter-append (is_upto R k) c (flat cs))))
 
-  -- .. of chunks that are seen through a function
-  module _ {A : Type 0} (f : A → List (K × X)) (k : K) where
-    pub seen_begins : (xs : List A) → IsChunked R (map f xs) → IsPartitionedBy (λ a. begins_upto R k (f a)) xs
-    seen_begins xs is i j d le lt h =
-        let q : begins_upto R k (get_or (map f xs) j (f d)) ≡ true = rw (get_or-map f xs j d (f d) lt) h in
-        let r : begins_upto R k (get_or (map f xs) i (f d)) ≡ true = begins_partitioned k (map f xs) is.sorted is.sized i j (f d) le (omega (arith, length-map xs f)) q in
-        rw (get_or-map f xs i d (f d) (omega arith)) at r
+  -- .. of the chunks of a map
+  module _ (k : K) where
+    pub seen_begins : (cs : List (List (K × X))) → IsChunked R cs → IsPartitionedBy (begins_upto R k) cs
+    seen_begins cs is = begins_partitioned k cs is.sorted is.sized
 
-    seen_after : (xs : List A) (low : ℕ) → ((j : ℕ) (d : A) → low ≤ j → j < length xs → begins_upto R k (f (get_or xs j d)) ≡ false)
-        → (j : ℕ) (e : List (K × X)) → low ≤ j → j < length (map f xs) → begins_upto R k (get_or (map f xs) j e) ≡ false
-    seen_after [] low h j e a c = absurd (omega arith)
-    seen_after (x ∷ xs) low h j e a c =
-        let lt : j < length (x ∷ xs) = omega (arith, length-map (x ∷ xs) f) in
-        rw (get_or-map f (x ∷ xs) j x e lt) (h j x a lt)
+    pub seen_none : (cs : List (List (K × X))) → IsChunked R cs → ((j : ℕ) (d : List (K × X)) → 0 ≤ j → j < length cs → begins_upto R k (get_or cs j d) ≡ false) → None ≡ last_upto R k (flat cs)
+    seen_none cs is h = sym (none_begins k cs None is.sorted is.sized h)
 
-    pub seen_none : (xs : List A) → IsChunked R (map f xs) → ((j : ℕ) (d : A) → 0 ≤ j → j < length xs → begins_upto R k (f (get_or xs j d)) ≡ false) → None ≡ last_upto R k (flat (map f xs))
-    seen_none xs is h = sym (none_begins k (map f xs) None is.sorted is.sized (seen_after xs 0 h))
-
-    pub seen_last : (xs : List A) (n : ℕ) (d : A) → IsChunked R (map f xs) → n < length xs → begins_upto R k (f (get_or xs n d)) ≡ true
-        → ((j : ℕ) (e : A) → n + 1 ≤ j → j < length xs → begins_upto R k (f (get_or xs j e)) ≡ false) → last_upto R k (f (get_or xs n d)) ≡ last_upto R k (flat (map f xs))
-    seen_last xs n d is lt t h =
-        let there = get_or-map f xs n d (f d) lt in
-        let q : begins_upto R k (get_or (map f xs) n (f d)) ≡ true = rw there t in
-        let r = last_chunk k (map f xs) n (f d) None is.sorted is.sized (omega (arith, length-map xs f)) q (λ j e low l. seen_after xs (n + 1) h j e (omega arith) l) in
-        rw there at r
+    pub seen_last : (cs : List (List (K × X))) (n : ℕ) (d : List (K × X)) → IsChunked R cs → n < length cs → begins_upto R k (get_or cs n d) ≡ true
+        → ((j : ℕ) (e : List (K × X)) → n + 1 ≤ j → j < length cs → begins_upto R k (get_or cs j e) ≡ false) → last_upto R k (get_or cs n d) ≡ last_upto R k (flat cs)
+    seen_last cs n d is lt t h = last_chunk k cs n d None is.sorted is.sized lt t (λ j e low l. h j e (omega arith) l)

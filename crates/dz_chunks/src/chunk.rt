@@ -1,17 +1,18 @@
 //! Chunks: where a key belongs among them, and copies of references to them.
 
-ghost use Rattle.std.specs.Prelude.{◌≡◌, ℕ, ◌+◌, ◌-◌, ◌^◌, ◌<◌, ◌≤◌, List, [], ◌∷◌, ◌++◌, length, take, drop, map, min, OnOk};
+ghost use Rattle.std.specs.Prelude.{◌≡◌, ℕ, ◌+◌, ◌-◌, ◌^◌, ◌<◌, ◌≤◌, List, [], ◌∷◌, ◌++◌, length, take, drop, min, IfOk, OnOk};
 ghost use Rattle.std.specs.FinMap.{find};
 ghost use Rattle.std.specs.Option.{option_map};
-ghost use Rattle.std.specs.Arc.{arc_value};
 ghost use Rattle.dz_chunks.specs.Map.{last_upto};
 ghost use Rattle.dz_chunks.specs.inner.Chunked.{flat, AllBefore, AllBehind, ends_before, begins_upto, length_at, length_before, IsChunked};
 
 use crate::entries::{last_of, value_of};
 use crate::entry::Entry;
 use crate::lead::Lead;
+use crate::share::Share;
 use dz_steps::Steps;
 use std::alloc::{AllocError, Global};
+use std::cmp::Ordering;
 use std::marker::Model;
 use std::sync::Arc;
 use std::sync::ledger::Ledger;
@@ -19,21 +20,40 @@ use std::sync::ledger::Ledger;
 /// The most entries of a chunk, and the fewest of two neighbours.
 pub(crate) const CHUNK: usize = 128;
 
-/// Entries that stand together.
+/// Entries that stand together, at least one, which maps share. The first octets of the first key stand beside the
+/// reference to them, so that a search among chunks reads few of them.
 #[derive(Drop)]
 pub(crate) struct Chunk<K: Lead, V> {
-    entries: Vec<Entry<K, V>>,
+    lead: [u8; 16],
+    entries: Arc<Vec<Entry<K, V>>>,
 }
 
 impl<K: Lead, V> Model for Chunk<K, V> {
     ghost use Rattle.std.specs.Prelude.{List};
+    ghost use Rattle.std.specs.Arc.{arc_value};
+    ghost use Rattle.dz_chunks.specs.inner.Chunked.{IsLedBy};
 
     ghost Value = { List (K × V) };
 
-    ghost view = { λ c. c.entries.items };
+    ghost view = { λ c. (arc_value c.entries).items };
+
+    ghost invariant = { λ c. IsLedBy K.lead c.lead (arc_value c.entries).items };
 }
 
 impl<K: Lead + Copy, V> Chunk<K, V> {
+    /// The chunk of these entries. The error is want of memory.
+    pub(crate) fn new(alloc: Global, entries: Vec<Entry<K, V>>) -> Result<Chunk<K, V>, AllocError>
+    where
+        V: Drop,
+        requires { 1 ≤ length entries.items }
+        ensures { IfOk result (λ chunk. chunk ≡ entries.items) }
+    {
+        Ok(Chunk {
+            lead: entries[0].key().lead(),
+            entries: Arc::new(alloc, entries)?,
+        })
+    }
+
     pub(crate) fn entries(&self) -> &[Entry<K, V>]
         ensures { result.now ≡ self.now }
     {
@@ -49,8 +69,18 @@ impl<K: Lead + Copy, V> Chunk<K, V> {
         0 < len && entries[len - 1].compare(key).is_lt()
     }
 
-    /// Whether the first key doesn't come after a key.
+    /// Whether the first key doesn't come after a key. The entries are read only where the first octets are alike.
     fn begins_upto(&self, key: &K) -> bool
+        ensures { result ≡ begins_upto K.cmp key.now self.now }
+    {
+        match self.lead[..].cmp(&key.lead()[..]) {
+            Ordering::Equal => self.first_is_upto(key),
+            order => !order.is_gt(),
+        }
+    }
+
+    /// The same by the first key.
+    fn first_is_upto(&self, key: &K) -> bool
         ensures { result ≡ begins_upto K.cmp key.now self.now }
     {
         let entries = self.entries();
@@ -58,9 +88,19 @@ impl<K: Lead + Copy, V> Chunk<K, V> {
     }
 }
 
+impl<K: Lead, V> Share for Chunk<K, V> {
+    /// One more reference to the entries.
+    fn share(&self) -> Result<Chunk<K, V>, AllocError> {
+        Ok(Chunk {
+            lead: self.lead,
+            entries: Arc::try_clone(&self.entries)?,
+        })
+    }
+}
+
 /// How many entries the chunk at a place has. Where there is none it is as if one were full.
-pub(crate) fn length_at<K: Lead + Copy, V>(chunks: &[Arc<Chunk<K, V>>], at: usize) -> usize
-    ensures { result ≡ length_at (map arc_value chunks.now) at }
+pub(crate) fn length_at<K: Lead + Copy, V>(chunks: &[Chunk<K, V>], at: usize) -> usize
+    ensures { result ≡ length_at chunks.now at }
 {
     if at < chunks.len() {
         chunks[at].entries().len()
@@ -70,8 +110,8 @@ pub(crate) fn length_at<K: Lead + Copy, V>(chunks: &[Arc<Chunk<K, V>>], at: usiz
 }
 
 /// How many entries the chunk before a place has.
-pub(crate) fn length_before<K: Lead + Copy, V>(chunks: &[Arc<Chunk<K, V>>], at: usize) -> usize
-    ensures { result ≡ length_before (map arc_value chunks.now) at }
+pub(crate) fn length_before<K: Lead + Copy, V>(chunks: &[Chunk<K, V>], at: usize) -> usize
+    ensures { result ≡ length_before chunks.now at }
 {
     if at == 0 {
         CHUNK
@@ -81,8 +121,8 @@ pub(crate) fn length_before<K: Lead + Copy, V>(chunks: &[Arc<Chunk<K, V>>], at: 
 }
 
 /// How many entries chunks have, at most as many as `usize` can tell.
-pub(crate) fn count_entries<K: Lead + Copy, V>(chunks: &[Arc<Chunk<K, V>>]) -> usize
-    ensures { result ≡ min (length (flat (map arc_value chunks.now))) (2 ^ 64 - 1) }
+pub(crate) fn count_entries<K: Lead + Copy, V>(chunks: &[Chunk<K, V>]) -> usize
+    ensures { result ≡ min (length (flat chunks.now)) (2 ^ 64 - 1) }
 {
     let mut count: usize = 0;
     for chunk in chunks {
@@ -92,23 +132,23 @@ pub(crate) fn count_entries<K: Lead + Copy, V>(chunks: &[Arc<Chunk<K, V>>]) -> u
 }
 
 /// How many chunks end before a key.
-fn count_before<K: Lead + Copy, V>(chunks: &[Arc<Chunk<K, V>>], key: &K) -> usize
-    requires { IsChunked K.cmp (map arc_value chunks.now) }
+fn count_before<K: Lead + Copy, V>(chunks: &[Chunk<K, V>], key: &K) -> usize
+    requires { IsChunked K.cmp chunks.now }
     ensures within { result ≤ length chunks.now }
-    ensures before { AllBefore K.cmp key.now (flat (take result (map arc_value chunks.now))) }
-    ensures behind { AllBehind K.cmp key.now (flat (drop (result + 1) (map arc_value chunks.now))) }
+    ensures before { AllBefore K.cmp key.now (flat (take result chunks.now)) }
+    ensures behind { AllBehind K.cmp key.now (flat (drop (result + 1) chunks.now)) }
 {
     chunks.partition_point(|chunk| chunk.ends_before(key))
 }
 
 /// The value at a key among chunks.
 pub(crate) fn value_among<'a, K: Lead + Copy, V>(
-    chunks: &'a [Arc<Chunk<K, V>>],
+    chunks: &'a [Chunk<K, V>],
     key: &K,
 ) -> Option<&'a V>
-    requires { IsChunked K.cmp (map arc_value chunks.now) }
+    requires { IsChunked K.cmp chunks.now }
     ensures { option_map (λ value. value.now) result
-        ≡ find K.cmp key.now (flat (map arc_value chunks.now)) }
+        ≡ find K.cmp key.now (flat chunks.now) }
 {
     let at = count_before(chunks, key);
     if at < chunks.len() {
@@ -120,12 +160,12 @@ pub(crate) fn value_among<'a, K: Lead + Copy, V>(
 
 /// The last entry among chunks whose key doesn't come after a key.
 pub(crate) fn last_among<'a, K: Lead + Copy, V>(
-    chunks: &'a [Arc<Chunk<K, V>>],
+    chunks: &'a [Chunk<K, V>],
     key: &K,
 ) -> Option<(&'a K, &'a V)>
-    requires { IsChunked K.cmp (map arc_value chunks.now) }
+    requires { IsChunked K.cmp chunks.now }
     ensures { option_map (λ entry. (entry.0.now, entry.1.now)) result
-        ≡ last_upto K.cmp key.now (flat (map arc_value chunks.now)) }
+        ≡ last_upto K.cmp key.now (flat chunks.now) }
 {
     let count = chunks.partition_point(|chunk| chunk.begins_upto(key));
     if count == 0 {
@@ -136,12 +176,12 @@ pub(crate) fn last_among<'a, K: Lead + Copy, V>(
 }
 
 /// The place of the chunk that a key belongs to: the first that doesn't end before it, or the last.
-pub(crate) fn chunk_for<K: Lead + Copy, V>(chunks: &[Arc<Chunk<K, V>>], key: &K) -> usize
-    requires chunked { IsChunked K.cmp (map arc_value chunks.now) }
+pub(crate) fn chunk_for<K: Lead + Copy, V>(chunks: &[Chunk<K, V>], key: &K) -> usize
+    requires chunked { IsChunked K.cmp chunks.now }
     requires some { 0 < length chunks.now }
     ensures within { result < length chunks.now }
-    ensures before { AllBefore K.cmp key.now (flat (take result (map arc_value chunks.now))) }
-    ensures behind { AllBehind K.cmp key.now (flat (drop (result + 1) (map arc_value chunks.now))) }
+    ensures before { AllBefore K.cmp key.now (flat (take result chunks.now)) }
+    ensures behind { AllBehind K.cmp key.now (flat (drop (result + 1) chunks.now)) }
 {
     let at = count_before(chunks, key);
     if at < chunks.len() {
@@ -153,18 +193,18 @@ pub(crate) fn chunk_for<K: Lead + Copy, V>(chunks: &[Arc<Chunk<K, V>>], key: &K)
 
 /// Copies references behind others. All references are copied here, and each is counted.
 pub(crate) fn copy_chunks<K: Lead + Copy, V: Drop, L: Ledger>(
-    copies: &mut Vec<Arc<Chunk<K, V>>>,
-    chunks: &[Arc<Chunk<K, V>>],
+    copies: &mut Vec<Chunk<K, V>>,
+    chunks: &[Chunk<K, V>],
     steps: &mut Steps<L>,
 ) -> Result<(), AllocError>
-    ensures copied { OnOk result (map arc_value copies.new.items
-        ≡ map arc_value copies.old.items ++ map arc_value chunks.now) }
+    ensures copied { OnOk result (copies.new.items
+        ≡ copies.old.items ++ chunks.now) }
     ensures counted { OnOk result (steps.new ≡ steps.old + length chunks.now) }
     ensures cost { steps.new ≤ steps.old + length chunks.now }
 {
     for chunk in chunks {
         steps.tick();
-        copies.push(Arc::try_clone(chunk)?)?;
+        copies.push(chunk.share()?)?;
     }
     Ok(())
 }
@@ -172,12 +212,13 @@ pub(crate) fn copy_chunks<K: Lead + Copy, V: Drop, L: Ledger>(
 /// One more chunk of these entries.
 pub(crate) fn push_chunk<K: Lead + Copy, V: Drop>(
     alloc: Global,
-    chunks: &mut Vec<Arc<Chunk<K, V>>>,
+    chunks: &mut Vec<Chunk<K, V>>,
     entries: Vec<Entry<K, V>>,
 ) -> Result<(), AllocError>
-    ensures { OnOk result (map arc_value chunks.new.items
-        ≡ map arc_value chunks.old.items ++ entries.items ∷ []) }
+    requires { 1 ≤ length entries.items }
+    ensures { OnOk result (chunks.new.items
+        ≡ chunks.old.items ++ entries.items ∷ []) }
 {
-    chunks.push(Arc::new(alloc, Chunk { entries })?)?;
+    chunks.push(Chunk::new(alloc, entries)?)?;
     Ok(())
 }

@@ -3,7 +3,6 @@
 ghost use Rattle.std.specs.Prelude.{◌≡◌, ℕ, ◌+◌, ◌-◌, ◌*◌, ◌/◌, ◌^◌, ◌<◌, ◌≤◌, List, [], ◌∷◌, ◌++◌, length, map, T, IfOk, min, IsTrue};
 ghost use Rattle.std.specs.FinMap.{is_sorted, find, put};
 ghost use Rattle.std.specs.Option.{option_map};
-ghost use Rattle.std.specs.Arc.{arc_value};
 ghost use Rattle.dz_chunks.specs.Map.{last_upto, without_key};
 ghost use Rattle.dz_chunks.specs.inner.Chunked.{flat, IsChunked};
 
@@ -25,8 +24,8 @@ fn first_chunk<K: Lead + Copy, V: Drop>(
     alloc: Global,
     key: K,
     value: V,
-) -> Result<Vec<Arc<Chunk<K, V>>>, AllocError>
-    ensures { IfOk result (λ v. map arc_value v.items ≡ ((key, value) ∷ []) ∷ []) }
+) -> Result<Vec<Chunk<K, V>>, AllocError>
+    ensures { IfOk result (λ v. v.items ≡ ((key, value) ∷ []) ∷ []) }
 {
     let mut entries = Vec::new(alloc);
     entries.push(Entry::new(alloc, (key, value))?)?;
@@ -38,15 +37,15 @@ fn first_chunk<K: Lead + Copy, V: Drop>(
 /// The chunks with a value at a key.
 fn chunks_with<K: Lead + Copy, V: Drop, L: Ledger>(
     alloc: Global,
-    chunks: &[Arc<Chunk<K, V>>],
+    chunks: &[Chunk<K, V>],
     key: K,
     value: V,
     steps: &mut Steps<L>,
-) -> Result<Vec<Arc<Chunk<K, V>>>, AllocError>
-    requires { IsChunked K.cmp (map arc_value chunks.now) }
+) -> Result<Vec<Chunk<K, V>>, AllocError>
+    requires { IsChunked K.cmp chunks.now }
     ensures map { IfOk result (λ v.
-        flat (map arc_value v.items) ≡ put K.cmp key value (flat (map arc_value chunks.now))) }
-    ensures chunked { IfOk result (λ v. IsChunked K.cmp (map arc_value v.items)) }
+        flat v.items ≡ put K.cmp key value (flat chunks.now)) }
+    ensures chunked { IfOk result (λ v. IsChunked K.cmp v.items) }
     ensures cost { steps.new ≤ steps.old + (256 + length chunks.now) }
 {
     if chunks.is_empty() {
@@ -60,15 +59,15 @@ fn chunks_with<K: Lead + Copy, V: Drop, L: Ledger>(
 /// The chunks but the entry at a key.
 fn chunks_without<K: Lead + Copy, V: Drop, L: Ledger>(
     alloc: Global,
-    chunks: &[Arc<Chunk<K, V>>],
+    chunks: &[Chunk<K, V>],
     key: &K,
     steps: &mut Steps<L>,
-) -> Result<Vec<Arc<Chunk<K, V>>>, AllocError>
-    requires { IsChunked K.cmp (map arc_value chunks.now) }
+) -> Result<Vec<Chunk<K, V>>, AllocError>
+    requires { IsChunked K.cmp chunks.now }
     ensures map { IfOk result (λ v.
-        flat (map arc_value v.items)
-        ≡ without_key K.cmp key.now (flat (map arc_value chunks.now))) }
-    ensures chunked { IfOk result (λ v. IsChunked K.cmp (map arc_value v.items)) }
+        flat v.items
+        ≡ without_key K.cmp key.now (flat chunks.now)) }
+    ensures chunked { IfOk result (λ v. IsChunked K.cmp v.items) }
     ensures cost { steps.new ≤ steps.old + (256 + length chunks.now) }
 {
     if chunks.is_empty() {
@@ -83,19 +82,18 @@ fn chunks_without<K: Lead + Copy, V: Drop, L: Ledger>(
 /// change touches; the old one stays as it was. Contracts see its entries in ascending order of their keys.
 #[derive(Drop)]
 pub struct Chunks<K: Lead, V> {
-    chunks: Vec<Arc<Chunk<K, V>>>,
+    chunks: Vec<Chunk<K, V>>,
 }
 
 impl<K: Lead, V> Model for Chunks<K, V> {
     ghost use Rattle.std.specs.Prelude.{List, map};
-    ghost use Rattle.std.specs.Arc.{arc_value};
     ghost use Rattle.dz_chunks.specs.inner.Chunked.{flat, IsChunked};
 
     ghost Value = { List (K × V) };
 
-    ghost view = { λ s. flat (map arc_value s.chunks.items) };
+    ghost view = { λ s. flat s.chunks.items };
 
-    ghost invariant = { λ s. IsChunked K.cmp (map arc_value s.chunks.items) };
+    ghost invariant = { λ s. IsChunked K.cmp s.chunks.items };
 }
 
 impl<K: Lead + Copy, V> Chunks<K, V> {

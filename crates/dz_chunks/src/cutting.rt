@@ -1,7 +1,6 @@
 //! Chunks of many entries at once.
 
 ghost use Rattle.std.specs.Prelude.{◌≡◌, ◌≤◌, [], ◌++◌, length, map, reverse, OnOk, IfOk};
-ghost use Rattle.std.specs.Arc.{arc_value};
 ghost use Rattle.dz_chunks.specs.inner.Chunked.{flat, AreChunks, AreFull};
 
 use crate::chunk::{CHUNK, Chunk, push_chunk};
@@ -28,9 +27,9 @@ pub(crate) fn entries_of<K: Lead + Copy, V: Drop>(
 pub(crate) fn cut<K: Lead + Copy, V: Drop>(
     alloc: Global,
     entries: Vec<Entry<K, V>>,
-) -> Result<Vec<Arc<Chunk<K, V>>>, AllocError>
-    ensures entries { IfOk result (λ v. flat (map arc_value v.items) ≡ entries.items) }
-    ensures sized { IfOk result (λ v. AreChunks (map arc_value v.items)) }
+) -> Result<Vec<Chunk<K, V>>, AllocError>
+    ensures entries { IfOk result (λ v. flat v.items ≡ entries.items) }
+    ensures sized { IfOk result (λ v. AreChunks v.items) }
 {
     let mut chunks = Vec::new(alloc);
     let mut rest = entries;
@@ -44,12 +43,12 @@ pub(crate) fn cut<K: Lead + Copy, V: Drop>(
 fn cut_full<K: Lead + Copy, V: Drop>(
     alloc: Global,
     rest: &mut Vec<Entry<K, V>>,
-    chunks: &mut Vec<Arc<Chunk<K, V>>>,
+    chunks: &mut Vec<Chunk<K, V>>,
 ) -> Result<(), AllocError>
     requires none { chunks.old.items ≡ [] }
-    ensures entries { OnOk result (rest.new.items ++ flat (reverse (map arc_value chunks.new.items))
+    ensures entries { OnOk result (rest.new.items ++ flat (reverse chunks.new.items)
         ≡ rest.old.items) }
-    ensures full { OnOk result (AreFull (reverse (map arc_value chunks.new.items))) }
+    ensures full { OnOk result (AreFull (reverse chunks.new.items)) }
     ensures few { OnOk result (length rest.new.items ≤ 128) }
 {
     'chunks: while CHUNK < rest.len() {
@@ -63,13 +62,13 @@ fn cut_full<K: Lead + Copy, V: Drop>(
 fn push_first<K: Lead + Copy, V: Drop>(
     alloc: Global,
     mut first: Vec<Entry<K, V>>,
-    chunks: &mut Vec<Arc<Chunk<K, V>>>,
+    chunks: &mut Vec<Chunk<K, V>>,
 ) -> Result<(), AllocError>
     requires few { length first.items ≤ 128 }
-    requires full { AreFull (reverse (map arc_value chunks.old.items)) }
-    ensures entries { OnOk result (flat (reverse (map arc_value chunks.new.items))
-        ≡ first.items ++ flat (reverse (map arc_value chunks.old.items))) }
-    ensures sized { OnOk result (AreChunks (reverse (map arc_value chunks.new.items))) }
+    requires full { AreFull (reverse chunks.old.items) }
+    ensures entries { OnOk result (flat (reverse chunks.new.items)
+        ≡ first.items ++ flat (reverse chunks.old.items)) }
+    ensures sized { OnOk result (AreChunks (reverse chunks.new.items)) }
 {
     if first.is_empty() {
         return Ok(());

@@ -1,7 +1,6 @@
 //! Chunks with other entries in place of one: split where they are too many, joined with a neighbour where they are few.
 
 ghost use Rattle.std.specs.Prelude.{◌≡◌, ℕ, ◌+◌, ◌-◌, ◌<◌, ◌≤◌, List, [], ◌∷◌, ◌++◌, length, take, drop, map, OnOk, IfOk};
-ghost use Rattle.std.specs.Arc.{arc_value};
 ghost use Rattle.dz_chunks.specs.inner.Chunked.{flat, length_at, length_before, AreChunks};
 
 use crate::chunk::{CHUNK, Chunk, copy_chunks, length_at, length_before, push_chunk};
@@ -43,22 +42,22 @@ fn prepended<K: Lead + Copy, V: Drop, L: Ledger>(
 /// Entries together with the chunk before a place, if they are fewer than 128 together.
 fn joined_before<K: Lead + Copy, V: Drop, L: Ledger>(
     alloc: Global,
-    chunks: &[Arc<Chunk<K, V>>],
+    chunks: &[Chunk<K, V>],
     at: usize,
     entries: Vec<Entry<K, V>>,
     steps: &mut Steps<L>,
 ) -> Result<Part<K, V>, AllocError>
     requires within { at ≤ length chunks.now }
     requires short { length entries.items ≤ 128 }
-    requires sized { AreChunks (map arc_value chunks.now) }
+    requires sized { AreChunks chunks.now }
     ensures within { IfOk result (λ part. part.place ≤ at) }
     ensures entries { IfOk result (λ part.
-        flat (take part.place (map arc_value chunks.now)) ++ part.entries.items
-        ≡ flat (take at (map arc_value chunks.now)) ++ entries.items) }
+        flat (take part.place chunks.now) ++ part.entries.items
+        ≡ flat (take at chunks.now) ++ entries.items) }
     ensures short { IfOk result (λ part. length part.entries.items ≤ 128) }
     ensures longer { IfOk result (λ part. length entries.items ≤ length part.entries.items) }
     ensures joined { IfOk result (λ part.
-        128 ≤ length_before (map arc_value chunks.now) part.place + length part.entries.items) }
+        128 ≤ length_before chunks.now part.place + length part.entries.items) }
     ensures counted { IfOk result (λ part.
         steps.new + length entries.items ≡ steps.old + length part.entries.items) }
     ensures cost { steps.new + length entries.items ≤ steps.old + 128 }
@@ -76,23 +75,23 @@ fn joined_before<K: Lead + Copy, V: Drop, L: Ledger>(
 
 /// Entries together with the chunk at a place behind them, if they are fewer than 128 together.
 fn joined_behind<K: Lead + Copy, V: Drop, L: Ledger>(
-    chunks: &[Arc<Chunk<K, V>>],
+    chunks: &[Chunk<K, V>],
     at: usize,
     mut entries: Vec<Entry<K, V>>,
     steps: &mut Steps<L>,
 ) -> Result<Part<K, V>, AllocError>
     requires within { at ≤ length chunks.now }
     requires short { length entries.items ≤ 128 }
-    requires sized { AreChunks (map arc_value chunks.now) }
+    requires sized { AreChunks chunks.now }
     ensures within { IfOk result (λ part. part.place ≤ length chunks.now) }
     ensures later { IfOk result (λ part. at ≤ part.place) }
     ensures entries { IfOk result (λ part.
-        part.entries.items ++ flat (drop part.place (map arc_value chunks.now))
-        ≡ entries.items ++ flat (drop at (map arc_value chunks.now))) }
+        part.entries.items ++ flat (drop part.place chunks.now)
+        ≡ entries.items ++ flat (drop at chunks.now)) }
     ensures short { IfOk result (λ part. length part.entries.items ≤ 128) }
     ensures longer { IfOk result (λ part. length entries.items ≤ length part.entries.items) }
     ensures joined { IfOk result (λ part.
-        128 ≤ length part.entries.items + length_at (map arc_value chunks.now) part.place) }
+        128 ≤ length part.entries.items + length_at chunks.now part.place) }
     ensures counted { IfOk result (λ part.
         steps.new + length entries.items ≡ steps.old + length part.entries.items) }
     ensures cost { steps.new + length entries.items ≤ steps.old + 128 }
@@ -111,18 +110,18 @@ fn joined_behind<K: Lead + Copy, V: Drop, L: Ledger>(
 /// The chunks but the one at a place.
 fn without_chunk<K: Lead + Copy, V: Drop, L: Ledger>(
     alloc: Global,
-    chunks: &[Arc<Chunk<K, V>>],
+    chunks: &[Chunk<K, V>],
     at: usize,
     steps: &mut Steps<L>,
-) -> Result<Vec<Arc<Chunk<K, V>>>, AllocError>
+) -> Result<Vec<Chunk<K, V>>, AllocError>
     requires within { at < length chunks.now }
-    requires sized { AreChunks (map arc_value chunks.now) }
-    requires last { length_at (map arc_value chunks.now) at ≤ 1 }
+    requires sized { AreChunks chunks.now }
+    requires last { length_at chunks.now at ≤ 1 }
     ensures entries { IfOk result (λ v.
-        flat (map arc_value v.items)
-        ≡ flat (take at (map arc_value chunks.now))
-        ++ flat (drop (at + 1) (map arc_value chunks.now))) }
-    ensures sized { IfOk result (λ v. AreChunks (map arc_value v.items)) }
+        flat v.items
+        ≡ flat (take at chunks.now)
+        ++ flat (drop (at + 1) chunks.now)) }
+    ensures sized { IfOk result (λ v. AreChunks v.items) }
     ensures cost { steps.new ≤ steps.old + length chunks.now }
 {
     let mut copies = Vec::with_capacity(alloc, chunks.len())?;
@@ -134,20 +133,20 @@ fn without_chunk<K: Lead + Copy, V: Drop, L: Ledger>(
 /// The chunks with these entries in place of one, joined with its neighbours where they are few.
 fn with_chunk<K: Lead + Copy, V: Drop, L: Ledger>(
     alloc: Global,
-    chunks: &[Arc<Chunk<K, V>>],
+    chunks: &[Chunk<K, V>],
     at: usize,
     entries: Vec<Entry<K, V>>,
     steps: &mut Steps<L>,
-) -> Result<Vec<Arc<Chunk<K, V>>>, AllocError>
+) -> Result<Vec<Chunk<K, V>>, AllocError>
     requires within { at < length chunks.now }
-    requires sized { AreChunks (map arc_value chunks.now) }
+    requires sized { AreChunks chunks.now }
     requires some { 1 ≤ length entries.items }
     requires short { length entries.items ≤ 128 }
     ensures entries { IfOk result (λ v.
-        flat (map arc_value v.items)
-        ≡ flat (take at (map arc_value chunks.now)) ++ (entries.items
-        ++ flat (drop (at + 1) (map arc_value chunks.now)))) }
-    ensures sized { IfOk result (λ v. AreChunks (map arc_value v.items)) }
+        flat v.items
+        ≡ flat (take at chunks.now) ++ (entries.items
+        ++ flat (drop (at + 1) chunks.now))) }
+    ensures sized { IfOk result (λ v. AreChunks v.items) }
     ensures cost { steps.new ≤ steps.old + (128 + length chunks.now) }
 {
     let before = joined_before(alloc, chunks, at, entries, steps)?;
@@ -163,19 +162,19 @@ fn with_chunk<K: Lead + Copy, V: Drop, L: Ledger>(
 /// they are few.
 fn with_split<K: Lead + Copy, V: Drop, L: Ledger>(
     alloc: Global,
-    chunks: &[Arc<Chunk<K, V>>],
+    chunks: &[Chunk<K, V>],
     at: usize,
     entries: Vec<Entry<K, V>>,
     steps: &mut Steps<L>,
-) -> Result<Vec<Arc<Chunk<K, V>>>, AllocError>
+) -> Result<Vec<Chunk<K, V>>, AllocError>
     requires within { at < length chunks.now }
-    requires sized { AreChunks (map arc_value chunks.now) }
+    requires sized { AreChunks chunks.now }
     requires full { length entries.items ≡ 129 }
     ensures entries { IfOk result (λ v.
-        flat (map arc_value v.items)
-        ≡ flat (take at (map arc_value chunks.now)) ++ (entries.items
-        ++ flat (drop (at + 1) (map arc_value chunks.now)))) }
-    ensures sized { IfOk result (λ v. AreChunks (map arc_value v.items)) }
+        flat v.items
+        ≡ flat (take at chunks.now) ++ (entries.items
+        ++ flat (drop (at + 1) chunks.now))) }
+    ensures sized { IfOk result (λ v. AreChunks v.items) }
     ensures cost { steps.new ≤ steps.old + (128 + length chunks.now) }
 {
     let (first, second) = halves(entries)?;
@@ -206,20 +205,20 @@ fn halves<K: Lead + Copy, V: Drop>(
 /// The chunks with these entries in place of those of one. A step is an entry or a reference copied.
 pub(crate) fn rebuilt<K: Lead + Copy, V: Drop, L: Ledger>(
     alloc: Global,
-    chunks: &[Arc<Chunk<K, V>>],
+    chunks: &[Chunk<K, V>],
     at: usize,
     entries: Vec<Entry<K, V>>,
     steps: &mut Steps<L>,
-) -> Result<Vec<Arc<Chunk<K, V>>>, AllocError>
+) -> Result<Vec<Chunk<K, V>>, AllocError>
     requires within { at < length chunks.now }
-    requires sized { AreChunks (map arc_value chunks.now) }
+    requires sized { AreChunks chunks.now }
     requires short { length entries.items ≤ 129 }
-    requires near { length_at (map arc_value chunks.now) at ≤ length entries.items + 1 }
+    requires near { length_at chunks.now at ≤ length entries.items + 1 }
     ensures entries { IfOk result (λ v.
-        flat (map arc_value v.items)
-        ≡ flat (take at (map arc_value chunks.now)) ++ (entries.items
-        ++ flat (drop (at + 1) (map arc_value chunks.now)))) }
-    ensures sized { IfOk result (λ v. AreChunks (map arc_value v.items)) }
+        flat v.items
+        ≡ flat (take at chunks.now) ++ (entries.items
+        ++ flat (drop (at + 1) chunks.now))) }
+    ensures sized { IfOk result (λ v. AreChunks v.items) }
     ensures cost { steps.new ≤ steps.old + (128 + length chunks.now) }
 {
     if entries.is_empty() {

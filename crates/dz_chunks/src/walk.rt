@@ -1,7 +1,6 @@
 //! The entries of a map one by one.
 
 ghost use Rattle.std.specs.Prelude.{◌≡◌, List, map};
-ghost use Rattle.std.specs.Arc.{arc_value};
 ghost use Rattle.std.specs.Iterator.{YieldsFirstBy, item_count};
 ghost use Rattle.dz_chunks.specs.inner.Chunked.{flat, AreChunks};
 
@@ -16,26 +15,25 @@ use std::sync::Arc;
 #[derive(Drop)]
 pub struct Walk<'a, K: Lead, V> {
     entries: &'a [Entry<K, V>],
-    chunks: &'a [Arc<Chunk<K, V>>],
+    chunks: &'a [Chunk<K, V>],
 }
 
 impl<'a, K: Lead, V> Model for Walk<'a, K, V> {
     ghost use Rattle.std.specs.Prelude.{List, map, ◌++◌};
-    ghost use Rattle.std.specs.Arc.{arc_value};
     ghost use Rattle.dz_chunks.specs.inner.Chunked.{flat, AreChunks};
 
     ghost Value = { List (K × V) };
 
-    ghost view = { λ w. w.entries.now ++ flat (map arc_value w.chunks.now) };
+    ghost view = { λ w. w.entries.now ++ flat w.chunks.now };
 
-    ghost invariant = { λ w. AreChunks (map arc_value w.chunks.now) };
+    ghost invariant = { λ w. AreChunks w.chunks.now };
 }
 
 impl<'a, K: Lead + Copy, V> Walk<'a, K, V> {
     /// All entries of chunks.
-    pub(crate) fn over(chunks: &'a [Arc<Chunk<K, V>>]) -> Walk<'a, K, V>
-        requires { AreChunks (map arc_value chunks.now) }
-        ensures { result ≡ flat (map arc_value chunks.now) }
+    pub(crate) fn over(chunks: &'a [Chunk<K, V>]) -> Walk<'a, K, V>
+        requires { AreChunks chunks.now }
+        ensures { result ≡ flat chunks.now }
     {
         Walk {
             entries: &[],

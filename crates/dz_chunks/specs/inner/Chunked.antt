@@ -25,6 +25,11 @@ abbrev pub AreFull : {A : Type 0} → List (List A) → Type 0
 AreFull [] = Unit {0}
 AreFull (c ∷ cs) = (length c ≡ 128) × AreFull cs
 
+-- there is a first entry, and these are the first octets of its key
+abbrev pub IsLedBy : {K X : Type 0} → (K → List ℕ) → List ℕ → List (K × X) → Type 0
+IsLedBy lead octets [] = ⊥
+IsLedBy lead octets (e ∷ es) = octets ≡ lead e.0
+
 -- how many entries the chunk at a place has, and the one before it. Where there is none, 128: nothing is joined with it
 abbrev pub length_at : {A : Type 0} → List (List A) → ℕ → ℕ
 length_at [] at = 128

@@ -1,7 +1,6 @@
 use Rattle.std.proofs.Common.{◌∙◌, ◌-◌, rules, arith, sym, ap, subst}
 use Rattle.std.specs.Prelude.{T}
 use Rattle.std.specs.FinMap.{is_sorted}
-use Rattle.std.specs.Arc.{arc_value}
 use Rattle.std.proofs.lemmas.Fn.{always_returns_same}
 use Rattle.dz_chunks.specs.Map.{last_upto}
 use Rattle.dz_chunks.specs.inner.Chunked.{begins_upto}
@@ -11,18 +10,18 @@ use Rattle.dz_chunks.proofs.chunk.last_among.Goals as goal
 
 pub last_of-requires : goal.last_of-requires
 last_of-requires g c =
-    subst (λ es. T (is_sorted g.K.Ord.cmp es)) (sym (c.entries.ensures ∙ (c.deref.ensures ∙ ap arc_value c.index-chunks-count.is)))
-    (seen_sorted g.K.Ord.cmp g.met.K.Ord.total arc_value c.args.key.now c.args.chunks.now (c.partition_point-count.result - 1) c.index-chunks-count.result c.requires (omega (arith, c.if-count-eq0.false, c.partition_point-count.ensures.bound)))
+    subst (λ es. T (is_sorted g.K.Ord.cmp es)) (sym (c.entries.ensures ∙ c.index-chunks-count.is))
+    (seen_sorted g.K.Ord.cmp g.met.K.Ord.total c.args.key.now c.args.chunks.now (c.partition_point-count.result - 1) c.index-chunks-count.result c.requires (omega (arith, c.if-count-eq0.false, c.partition_point-count.ensures.bound)))
 
 pub returns-then-count-eq0 : goal.returns-then-count-eq0
 returns-then-count-eq0 g c =
-    let point = c.partition_point-count.ensures.partitioned (λ a. begins_upto g.K.Ord.cmp c.args.key.now (arc_value a)) (always_returns_same _ _ _ (λ a r f h. search rules)) (seen_begins g.K.Ord.cmp g.met.K.Ord.total arc_value c.args.key.now c.args.chunks.now c.requires) in
-    seen_none g.K.Ord.cmp g.met.K.Ord.total arc_value c.args.key.now c.args.chunks.now c.requires (λ j d low lt. point.1 j d (omega (arith, c.if-count-eq0.true)) lt)
+    let point = c.partition_point-count.ensures.partitioned (λ a. begins_upto g.K.Ord.cmp c.args.key.now a) (always_returns_same _ _ _ (λ a r f h. search rules)) (seen_begins g.K.Ord.cmp g.met.K.Ord.total c.args.key.now c.args.chunks.now c.requires) in
+    seen_none g.K.Ord.cmp g.met.K.Ord.total c.args.key.now c.args.chunks.now c.requires (λ j d low lt. point.1 j d (omega (arith, c.if-count-eq0.true)) lt)
 
 pub returns-else-count-eq0 : goal.returns-else-count-eq0
 returns-else-count-eq0 g c =
-    let point = c.partition_point-count.ensures.partitioned (λ a. begins_upto g.K.Ord.cmp c.args.key.now (arc_value a)) (always_returns_same _ _ _ (λ a r f h. search rules)) (seen_begins g.K.Ord.cmp g.met.K.Ord.total arc_value c.args.key.now c.args.chunks.now c.requires) in
-    c.last_of.ensures ∙ (ap (last_upto g.K.Ord.cmp c.args.key.now) (c.entries.ensures ∙ (c.deref.ensures ∙ ap arc_value c.index-chunks-count.is))
-    ∙ seen_last g.K.Ord.cmp g.met.K.Ord.total arc_value c.args.key.now c.args.chunks.now (c.partition_point-count.result - 1) c.index-chunks-count.result c.requires (omega (arith, c.if-count-eq0.false, c.partition_point-count.ensures.bound))
+    let point = c.partition_point-count.ensures.partitioned (λ a. begins_upto g.K.Ord.cmp c.args.key.now a) (always_returns_same _ _ _ (λ a r f h. search rules)) (seen_begins g.K.Ord.cmp g.met.K.Ord.total c.args.key.now c.args.chunks.now c.requires) in
+    c.last_of.ensures ∙ (ap (last_upto g.K.Ord.cmp c.args.key.now) (c.entries.ensures ∙ c.index-chunks-count.is)
+    ∙ seen_last g.K.Ord.cmp g.met.K.Ord.total c.args.key.now c.args.chunks.now (c.partition_point-count.result - 1) c.index-chunks-count.result c.requires (omega (arith, c.if-count-eq0.false, c.partition_point-count.ensures.bound))
     (point.0 (c.partition_point-count.result - 1) c.index-chunks-count.result (omega arith) (omega (arith, c.if-count-eq0.false)))
     (λ j e low lt. point.1 j e (omega (arith, c.if-count-eq0.false)) lt))

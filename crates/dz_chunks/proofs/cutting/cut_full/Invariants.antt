@@ -1,12 +1,11 @@
-use Rattle.std.proofs.Common.{◌≡◌, ◌++◌, map, reverse, length}
-use Rattle.std.specs.Arc.{arc_value}
+use Rattle.std.proofs.Common.{◌≡◌, ◌++◌, reverse, length}
 use Rattle.dz_chunks.specs.inner.Chunked.{flat, AreFull}
 use Rattle.dz_chunks.proofs.cutting.cut_full.Given as goal
 
 abbrev pub invariant-chunks : goal.invariant-chunks
 invariant-chunks g l = record {
-  entries : l.rest.items ++ flat (reverse (map arc_value l.chunks.items)) ≡ l.fn.rest.items;
-  full : AreFull (reverse (map arc_value l.chunks.items));
+  entries : l.rest.items ++ flat (reverse l.chunks.items) ≡ l.fn.rest.items;
+  full : AreFull (reverse l.chunks.items);
 }
 
 abbrev pub decreases-chunks : goal.decreases-chunks

@@ -1,20 +1,18 @@
 use Rattle.std.proofs.Common.{◌∙◌, ◌+◌, [], ap, subst, sym, arith, take, drop}
-use Rattle.std.specs.Prelude.{map}
-use Rattle.std.specs.Arc.{arc_value}
-use Rattle.std.proofs.lemmas.List.{length-map, append-nil}
+use Rattle.std.proofs.lemmas.List.{append-nil}
 use Rattle.dz_chunks.specs.inner.Chunked.{flat, AreChunks}
 use Rattle.dz_chunks.proofs.JoinLemmas.{copied_around, flat-append, none_between}
 use Rattle.dz_chunks.proofs.joins.without_chunk.Goals as goal
 
 pub returns-clause-entries : goal.returns-clause-entries
 returns-clause-entries g c =
-    let cs = map arc_value c.args.chunks.now in
-    let made = copied_around arc_value c.args.chunks.now c.in_ok-copies.copies.items c.copy_chunks.new.copies.items c.copy_chunks.new.copies.items c.copy_chunks-2.new.copies.items c.args.at (c.args.at + 1) [] c.in_ok-copies.ensures.items
-    c.in_ok-copy_chunks.ensures.copied (sym (append-nil (map arc_value c.copy_chunks.new.copies.items))) c.in_ok-copy_chunks-2.ensures.copied in
+    let cs = c.args.chunks.now in
+    let made = copied_around c.args.chunks.now c.in_ok-copies.copies.items c.copy_chunks.new.copies.items c.copy_chunks.new.copies.items c.copy_chunks-2.new.copies.items c.args.at (c.args.at + 1) [] c.in_ok-copies.ensures.items
+    c.in_ok-copy_chunks.ensures.copied (sym (append-nil c.copy_chunks.new.copies.items)) c.in_ok-copy_chunks-2.ensures.copied in
     ap flat made ∙ flat-append (take c.args.at cs) (drop (c.args.at + 1) cs)
 
 pub returns-clause-sized : goal.returns-clause-sized
 returns-clause-sized g c =
-    let made = copied_around arc_value c.args.chunks.now c.in_ok-copies.copies.items c.copy_chunks.new.copies.items c.copy_chunks.new.copies.items c.copy_chunks-2.new.copies.items c.args.at (c.args.at + 1) [] c.in_ok-copies.ensures.items
-    c.in_ok-copy_chunks.ensures.copied (sym (append-nil (map arc_value c.copy_chunks.new.copies.items))) c.in_ok-copy_chunks-2.ensures.copied in
-    subst AreChunks (sym made) (none_between (map arc_value c.args.chunks.now) c.args.at (omega (arith, length-map c.args.chunks.now arc_value, c.requires.within)) c.requires.last c.requires.sized)
+    let made = copied_around c.args.chunks.now c.in_ok-copies.copies.items c.copy_chunks.new.copies.items c.copy_chunks.new.copies.items c.copy_chunks-2.new.copies.items c.args.at (c.args.at + 1) [] c.in_ok-copies.ensures.items
+    c.in_ok-copy_chunks.ensures.copied (sym (append-nil c.copy_chunks.new.copies.items)) c.in_ok-copy_chunks-2.ensures.copied in
+    subst AreChunks (sym made) (none_between c.args.chunks.now c.args.at (omega (arith, c.requires.within)) c.requires.last c.requires.sized)
