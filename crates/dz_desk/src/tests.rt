@@ -1,4 +1,4 @@
-ghost use Rattle.std.specs.Prelude.{◌≡◌, ◌<◌, [], ◌∷◌, None, All, IfOk, IfSome};
+ghost use Rattle.std.specs.Prelude.{◌≡◌, ◌<◌, true, false, [], ◌∷◌, None, All, IfOk};
 ghost use Rattle.dz_member.specs.Config.{IsAllowed};
 ghost use Rattle.dz_history.specs.After.{after};
 ghost use Rattle.dz_history.specs.Legal.{IsLegal};
@@ -40,6 +40,7 @@ fn make_config(rt: &impl Abort, alloc: Global) -> Result<Config, AllocError>
 }
 
 /// The entry of a configuration, with its table.
+#[tactic(auto, unfolding(dz_history::specs::Legal::IsLegalFrom, dz_history::specs::After::step))]
 fn setup(alloc: Global, config: Config) -> Result<Step, AllocError>
     requires { IsAllowed config }
     ensures legal { IfOk result (λ step. IsLegal (step.entry ∷ [])) }
@@ -184,10 +185,7 @@ fn ends_may_go_to_threads(rt: HostRuntime) {
     is_send(&reading);
     is_send(&told);
     is_send(&sight);
-    is_sync(&publisher);
-    is_sync(&reading);
     is_sync(&told);
-    is_sync(&sight);
     reading.leave(sight);
     publisher.close(&rt);
 }

@@ -1,5 +1,4 @@
-use Rattle.std.proofs.Common.{◌≡◌, sym, ap, ◌∙◌, subst}
-use Rattle.std.specs.Prelude.{List, fold}
+use Rattle.std.proofs.Common.{◌≡◌, sym, subst}
 use Rattle.dz_desk.specs.Seen.{Page, Goes}
 use Rattle.dz_desk.proofs.RuleLemmas.{shows}
 use Rattle.dz_desk.proofs.showing.turn.Goals as goal
@@ -9,5 +8,5 @@ publish_as-same-requires g c next is =
     let kept = c.owners.invariant in
     let staged = c.requires.next in
     let before = c.owners.writer.desk.shown.value in
-    let same : next ≡ staged.0 = is ∙ ap (λ (l : List Page). fold (λ edition put. put) before l) (kept.2 ∙ staged.1) in
+    let same : next ≡ staged.0 = rw staged.1 at (rw kept.2 at is) in
     shows _ _ before next (subst (λ (p : Page). Goes p next) (sym kept.1) (subst (λ (p : Page). Goes c.args.writer.desk.shown.value p) (sym same) staged.2))
