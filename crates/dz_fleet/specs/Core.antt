@@ -2,8 +2,6 @@
 -- each event makes of them (RFC 9432 section 5, RFC 1995 section 4, RFC 1996 section 3, RFC 8976 section 4).
 use Rattle.std.specs.Prelude.{◌≡◌, ℕ, ◌+◌, ◌-◌, ◌^◌, ◌%◌, ◌==◌, ◌||◌, Bool, true, false, not, nat_le, nat_lt, List, [], ◌∷◌, ◌++◌, length, filter, take, slice_index_or, replicate, position, Option, Some, None, if◌then◌else◌}
 use Rattle.std.specs.Option.{option_map, option_map_or}
-use Rattle.std.specs.List.{list_any}
-use Rattle.std.specs.Str.{bytes_eq}
 use Rattle.dz_name.specs.Words.{Name, Octets}
 use Rattle.dz_io.specs.declared.peer.Peer.{Peer}
 use Rattle.dz_zone.specs.Version.{Zone}
@@ -29,6 +27,7 @@ use Rattle.dz_history.specs.declared.entry.Entry.TheVariants.{Setup, Transfer}
 use Rattle.dz_history.specs.State.{State, held_at, policy_at, primaries_at}
 use Rattle.dz_history.specs.After.{after, step, aftermath_of}
 use Rattle.dz_history.specs.Ended.{ended}
+pub use Rattle.dz_history.specs.Heard.{heard_from}
 use Rattle.dz_history.specs.Places.{Seat, seats, place_at}
 use Rattle.dz_job.specs.declared.flight.Flight.{Flight}
 use Rattle.dz_fleet.specs.declared.due.Due.{Due}
@@ -233,10 +232,6 @@ IsOffered c job octets now OutOfMemory d = d ≡ failed_core c job now
 IsOffered c job octets now verdict d = (verdict ≡ verdict_of c job octets) × (d ≡ settled c job octets now)
 
 -- ---- a NOTIFY comes (RFC 1996 section 3.11)
-abbrev pub heard_from : Peer → Option (List Peer) → Heard
-heard_from peer None = heard.NotOurs
-heard_from peer (Some peers) = if list_any (λ p. bytes_eq p.address peer.address) peers then heard.Taken else heard.Stranger
-
 abbrev pub heard_of : Core → Peer → Name → Heard
 heard_of c peer zone = heard_from peer (primaries_at (state_of c) zone)
 

@@ -20,9 +20,9 @@ mod weighing;
 
 pub use absent::Absent;
 pub use due::{Due, Quiet};
-pub use dz_history::{Aftermath, Entry, Taken};
+pub use dz_history::{Aftermath, Entry, Step, Taken};
 pub use dz_job::{Failure, Flight, Job, Verdict};
 pub use dz_notify::Heard;
 pub use fleet::Fleet;
 pub use laws::{calls_are_events, core_stays_sound, list_only_grows, list_stays_legal};
-pub use weighed::{Step, Weighed};
+pub use weighed::Weighed;

@@ -5,7 +5,7 @@ ghost use Rattle.std.specs.Arc.{arc_value};
 ghost use Rattle.dz_fleet.specs.Weighing.{Weighing};
 ghost use Rattle.dz_fleet.specs.inner.Renewing.{renewed_by, IsStep};
 
-use dz_history::{Entry, Holdings};
+use dz_history::{Entry, Holdings, Step};
 use dz_job::Verdict;
 use dz_schedule::Schedule;
 use dz_table::Table;
@@ -13,13 +13,6 @@ use std::alloc::AllocError;
 use std::marker::Model;
 use std::snapshot::Snapshot;
 use std::sync::Arc;
-
-/// One more entry of the list, and the table that answers after it.
-#[derive(Drop)]
-pub struct Step {
-    pub entry: Entry,
-    pub table: Arc<Table>,
-}
 
 /// What stands afterwards, made whole when the transfer was weighed: the same; other holdings; or other holdings and what
 /// each of their zones waits for.

@@ -1,6 +1,7 @@
 pub mod After
 pub mod Ended
 pub mod Examples
+pub mod Heard
 pub mod Laws
 pub mod Legal
 pub mod Life

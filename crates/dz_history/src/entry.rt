@@ -2,7 +2,9 @@
 
 use dz_member::Config;
 use dz_name::{Name, Octets};
+use dz_table::Table;
 use dz_take::Ask;
+use std::sync::Arc;
 
 /// A transfer that was taken.
 #[derive(Debug, Drop)]
@@ -24,4 +26,11 @@ pub struct Taken {
 pub enum Entry {
     Setup(Config),
     Transfer(Taken),
+}
+
+/// One more entry of the list, and the table that answers after it.
+#[derive(Drop)]
+pub struct Step {
+    pub entry: Entry,
+    pub table: Arc<Table>,
 }

@@ -16,7 +16,7 @@ mod taking;
 mod tests;
 
 pub use aftermath::Aftermath;
-pub use entry::{Entry, Taken};
+pub use entry::{Entry, Step, Taken};
 pub use history::History;
 pub use holdings::Holdings;
 pub use laws::{begins_empty, broken_keeps, records_are_own, refused_keeps};

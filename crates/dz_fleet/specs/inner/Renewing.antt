@@ -2,7 +2,7 @@
 use Rattle.std.specs.Prelude.{◌≡◌, ⊤, Option, Some, None}
 use Rattle.std.specs.Arc.{arc_value}
 use Rattle.dz_history.specs.declared.entry.Entry.{Entry}
-use Rattle.dz_fleet.specs.declared.weighed.Step.{Step}
+use Rattle.dz_history.specs.declared.entry.Step.{Step}
 use Rattle.dz_fleet.specs.declared.weighed.Renewal.{Renewal}
 use Rattle.dz_fleet.specs.declared.weighed.Renewal.TheVariants.{Same, Taken, Relisted}
 use Rattle.dz_fleet.specs.Weighing.{Renewed}

@@ -1,0 +1,3 @@
+pub mod LedgerLemmas
+pub mod PrefixLemmas
+pub mod RuleLemmas

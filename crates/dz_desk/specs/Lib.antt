@@ -1,0 +1,5 @@
+pub mod Hearing
+pub mod Rule
+pub mod Seen
+pub mod Steps
+pub mod inner

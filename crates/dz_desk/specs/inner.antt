@@ -1,0 +1,2 @@
+-- Inner: how the code keeps the published list.
+pub mod Ledger

@@ -1,0 +1,83 @@
+//! What is published.
+
+ghost use Rattle.std.specs.Prelude.{◌≡◌, IfOk};
+ghost use Rattle.dz_history.specs.After.{after};
+
+use crate::told::Told;
+use dz_table::Table;
+use left_right::Absorb;
+use std::alloc::AllocError;
+use std::marker::Model;
+use std::sync::Arc;
+
+/// A table, and the list that it is the table of. Contracts see the list, and the book that it is in.
+#[derive(Drop)]
+pub(crate) struct Edition {
+    table: Arc<Table>,
+    told: Told,
+}
+
+impl Model for Edition {
+    ghost use Rattle.std.specs.Prelude.{◌≡◌};
+    ghost use Rattle.dz_history.specs.After.{after};
+    ghost use Rattle.dz_desk.specs.Seen.{Page};
+
+    ghost Value = { Page };
+
+    ghost view = { λ e. e.told };
+
+    ghost invariant = { λ e. e.table.value ≡ (after e.told.list).table };
+}
+
+impl Edition {
+    /// The edition of a list.
+    pub(crate) fn new(table: Arc<Table>, told: Told) -> Edition
+        requires { table.value ≡ (after told.list).table }
+        ensures { result ≡ told }
+    {
+        Edition { table, told }
+    }
+
+    /// The same once more. It shares the table.
+    pub(crate) fn share(&self) -> Result<Edition, AllocError>
+        ensures { IfOk result (λ edition. edition ≡ self.now) }
+    {
+        Ok(Edition {
+            table: Arc::try_clone(&self.table)?,
+            told: self.told.again(),
+        })
+    }
+
+    /// The table of the list.
+    pub(crate) fn table(&self) -> &Table
+        ensures { result.now ≡ (after self.now.list).table }
+    {
+        &self.table
+    }
+
+    /// A note of the list.
+    pub(crate) fn told(&self) -> &Told
+        ensures { result.now ≡ self.now }
+    {
+        &self.told
+    }
+}
+
+/// What is put behind an edition is the edition that comes next.
+impl Absorb<Edition> for Edition {
+    type State = Edition;
+
+    ghost state = { λ edition. edition };
+
+    ghost applied = { λ edition next. next };
+
+    fn absorb_first(&mut self, operation: &Edition, _other: &Edition) -> Result<(), AllocError> {
+        *self = operation.share()?;
+        Ok(())
+    }
+
+    fn absorb_second(&mut self, operation: Edition, _other: &Edition) -> Result<(), Edition> {
+        *self = operation;
+        Ok(())
+    }
+}

@@ -1,0 +1,112 @@
+//! The end that publishes.
+
+ghost use Rattle.std.specs.Prelude.{◌≡◌, ◌+◌, ◌-◌, ◌^◌, ◌<◌, [], ◌∷◌, ◌++◌, length, Some, None, IsSome, IfOk, MatchResult};
+ghost use mathlib.Core.List.{IsPrefix};
+ghost use Rattle.dz_history.specs.After.{after};
+ghost use Rattle.dz_history.specs.Legal.{IsLegal};
+ghost use Rattle.dz_desk.specs.Seen.{page, IsFresh};
+
+use crate::board::Note;
+use crate::edition::Edition;
+use crate::ledger::Length;
+use crate::reading::Reading;
+use crate::showing::{Showing, show};
+use crate::told::Told;
+use dz_history::Step;
+use std::alloc::AllocError;
+use std::marker::Model;
+use std::sync::Wait;
+
+/// The one end of a desk that publishes. Contracts see the published list, the list that is staged to be published next, and
+/// its book. It can't be dropped: `close` ends it.
+pub struct Publisher {
+    pub(crate) writer: Showing,
+    pub(crate) word: Length,
+    pub(crate) staged: Option<Edition>,
+}
+
+impl Model for Publisher {
+    ghost use Rattle.std.specs.Prelude.{◌≡◌, [], drop, Some, IfSome, option_map};
+    ghost use Rattle.left_right.specs.Sides.{view as last_seen};
+    ghost use Rattle.dz_desk.specs.Seen.{Published, Goes};
+    ghost use Rattle.dz_desk.specs.inner.Ledger.{length_of};
+
+    ghost Value = { Published };
+
+    ghost view = { λ p. record { list = p.writer.desk.shown.value.list; staged = option_map (λ next. next.list) p.staged; book = p.writer.desk.shown.value.book } };
+
+    ghost invariant = { λ p. (last_seen p.writer.desk.place ≡ Some p.writer.desk.shown.value) × (drop p.writer.behind p.writer.log.items ≡ []) × (p.word ≡ length_of p.writer.desk.shown.value.book) × IfSome p.staged (λ next. Goes p.writer.desk.shown.value next) };
+}
+
+impl Publisher {
+    /// A new reading of this publisher.
+    pub(crate) fn reading(&mut self) -> Result<Reading, AllocError>
+        requires { self.old.list ≡ [] }
+        ensures same { self.new ≡ self.old }
+        ensures fresh { IfOk result (IsFresh self.old.book) }
+    {
+        let mut reader = self.writer.factory().reader()?;
+        reader.learn::<Note>(self.writer.tell::<Note>());
+        Ok(Reading::new(reader, self.writer.published().told().again()))
+    }
+
+    /// The number of entries of the published list.
+    pub fn count(&self) -> u64
+        ensures count { result ≡ length self.now.list }
+        ensures legal { IsLegal self.now.list }
+    {
+        self.writer.published().told().count()
+    }
+
+    /// Puts a step in place, to be published next. The step comes back, and nothing has changed, where the list isn't as long as
+    /// this publisher left it, which can't come about at run time.
+    pub fn stage(&mut self, step: Step) -> Result<(), Step>
+        requires free { self.old.staged ≡ None }
+        requires room { length self.old.list < 2 ^ 64 - 1 }
+        requires legal { IsLegal (self.old.list ++ step.entry ∷ []) }
+        requires table { step.table.value ≡ (after (self.old.list ++ step.entry ∷ [])).table }
+        ensures { MatchResult result (λ _. self.new ≡ record self.old { staged = Some (self.old.list ++ step.entry ∷ []) }) (λ back. (back ≡ step) × (self.new ≡ self.old)) }
+    {
+        let told = self.writer.published().told();
+        let Some(next) = told.and(&self.word, &step.entry) else {
+            return Err(step);
+        };
+        let Step { entry, table } = step;
+        drop(entry);
+        self.staged = Some(Edition::new(table, next));
+        Ok(())
+    }
+
+    /// Publishes the step that is staged, and gives a note of the list. It waits for readings that look at the list before the
+    /// last one, and for memory.
+    pub fn publish<R: Wait>(&mut self, rt: &R) -> Told
+        requires { IsSome self.old.staged }
+        ensures list { self.old.staged ≡ Some self.new.list }
+        ensures grows { IsPrefix self.old.list self.new.list }
+        ensures rest { self.new ≡ record self.old { list = self.new.list; staged = None } }
+        ensures told { result ≡ page self.new.list self.new.book }
+    {
+        let Some(next) = self.staged.take() else {
+            unreachable!()
+        };
+        show(rt, &mut self.writer, next);
+        self.tell()
+    }
+
+    /// A note of the published list.
+    pub fn tell(&self) -> Told
+        ensures { result ≡ page self.now.list self.now.book }
+    {
+        self.writer.published().told().again()
+    }
+
+    /// Ends the desk: from now on each look is refused. A step that is staged goes. It waits for readings that look.
+    pub fn close<R: Wait>(self, rt: &R) {
+        let Publisher {
+            writer,
+            word: _word,
+            staged: _staged,
+        } = self;
+        drop(writer.take(rt));
+    }
+}

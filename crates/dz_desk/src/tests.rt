@@ -1,0 +1,191 @@
+ghost use Rattle.std.specs.Prelude.{◌≡◌, ◌<◌, true, false, [], ◌∷◌, None, All, IfOk};
+ghost use Rattle.dz_member.specs.Config.{IsAllowed};
+ghost use Rattle.dz_history.specs.After.{after};
+ghost use Rattle.dz_history.specs.Legal.{IsLegal};
+ghost use Rattle.dz_desk.specs.Seen.{IsFresh};
+
+use crate::{Desk, Publisher, Reading, Sight, Told, open_desk};
+use dz_history::{Entry, Step};
+use dz_io::Peer;
+use dz_member::{CatalogSettings, Config, Groups, Peers, Policy};
+use dz_name::Name;
+use dz_table::Table;
+use std::alloc::{AllocError, Global};
+use std::process::Abort;
+use std::sync::{Arc, Wait};
+use std::test::*;
+
+/// One catalog, cat1.example., with one primary.
+fn make_config(rt: &impl Abort, alloc: Global) -> Result<Config, AllocError>
+    ensures { IfOk result (λ config. IsAllowed config) }
+{
+    let name = match Name::parse(b"cat1.example.") {
+        Ok(name) => name,
+        Err(error) => panic!(rt; "{error:?}"),
+    };
+    let host = Peer {
+        address: [192, 0, 2, 1],
+        port: 53,
+    };
+    let config = Config::from_vec(vec![in alloc;
+        CatalogSettings {
+            name,
+            policy: Policy::Off,
+            primaries: Peers::from_vec(vec![in alloc; host]?),
+            groups: Groups::from_vec(Vec::new(alloc)),
+        },
+    ]?);
+    assert!(rt; config.is_allowed());
+    Ok(config)
+}
+
+/// The entry of a configuration, with its table.
+#[tactic(auto, unfolding(dz_history::specs::Legal::IsLegalFrom, dz_history::specs::After::step))]
+fn setup(alloc: Global, config: Config) -> Result<Step, AllocError>
+    requires { IsAllowed config }
+    ensures legal { IfOk result (λ step. IsLegal (step.entry ∷ [])) }
+    ensures table { IfOk result (λ step. step.table.value ≡ (after (step.entry ∷ [])).table) }
+{
+    Ok(Step {
+        table: Arc::new(alloc, Table::empty(alloc))?,
+        entry: Entry::Setup(config),
+    })
+}
+
+/// The first step of a list.
+fn first_step(rt: &impl Abort, alloc: Global) -> Step
+    ensures legal { IsLegal (result.entry ∷ []) }
+    ensures table { result.table.value ≡ (after (result.entry ∷ [])).table }
+{
+    let made = match make_config(rt, alloc) {
+        Ok(config) => setup(alloc, config),
+        Err(error) => Err(error),
+    };
+    match made {
+        Ok(step) => step,
+        Err(_) => panic!(rt; "out of memory"),
+    }
+}
+
+/// A desk with so many readings.
+fn open<R: Abort + Wait>(rt: &R, alloc: Global, readers: u8) -> Desk
+    requires { 0 < readers }
+    ensures list { (result.publisher.list ≡ []) × (result.publisher.staged ≡ None) }
+    ensures fresh { All (IsFresh result.publisher.book) result.readings.items }
+{
+    match open_desk(rt, alloc, readers) {
+        Ok(desk) => desk,
+        Err(error) => panic!(rt; "{error}"),
+    }
+}
+
+/// The last of the readings.
+fn take(rt: &impl Abort, readings: &mut Vec<Reading>, publisher: &Publisher) -> Reading
+    requires { All (IsFresh publisher.now.book) readings.old.items }
+    ensures rest { All (IsFresh publisher.now.book) readings.new.items }
+    ensures last { IsFresh publisher.now.book result }
+{
+    match readings.pop() {
+        Some(reading) => reading,
+        None => panic!(rt; "no reading"),
+    }
+}
+
+/// Publishes the first entry.
+fn publish<R: Abort + Wait>(rt: &R, alloc: Global, publisher: &mut Publisher) -> Told
+    requires { (publisher.old.list ≡ []) × (publisher.old.staged ≡ None) }
+    ensures { (publisher.new.book ≡ publisher.old.book) × (result.book ≡ publisher.old.book) × (result.list ≡ publisher.new.list) }
+{
+    match publisher.stage(first_step(rt, alloc)) {
+        Ok(()) => publisher.publish(rt),
+        Err(_) => panic!(rt; "the step came back"),
+    }
+}
+
+/// A look that shows a sight.
+fn look(rt: &impl Abort, reading: &mut Reading) -> Sight
+    requires { reading.old.is_out ≡ false }
+    ensures out { reading.new.is_out ≡ true }
+    ensures own { (result.list ≡ reading.new.list) × (result.book ≡ reading.new.book) }
+    ensures book { reading.new.book ≡ reading.old.book }
+{
+    match reading.see() {
+        Some(sight) => sight,
+        None => panic!(rt; "a look was refused"),
+    }
+}
+
+#[test]
+fn an_untold_reading_comes_to_what_is_published(rt: HostRuntime) {
+    let Desk {
+        mut publisher,
+        mut readings,
+    } = open(&rt, rt.alloc(), 1);
+    let mut reading = take(&rt, &mut readings, &publisher);
+    let opening = look(&rt, &mut reading);
+    reading.leave(opening);
+    assert_eq!(rt; reading.count(), 0);
+    drop(publish(&rt, rt.alloc(), &mut publisher));
+    assert_eq!(rt; (reading.count(), publisher.count()), (0, 1));
+    let sight = look(&rt, &mut reading);
+    assert!(rt; sight.table().walk().next().is_none());
+    reading.leave(sight);
+    assert_eq!(rt;
+        (reading.count(), reading.sights(), reading.refusals()),
+        (1, 2, 0)
+    );
+    publisher.close(&rt);
+}
+
+#[test]
+fn what_is_told_is_learned(rt: HostRuntime) {
+    let Desk {
+        mut publisher,
+        mut readings,
+    } = open(&rt, rt.alloc(), 6);
+    let mut one = take(&rt, &mut readings, &publisher);
+    let two = take(&rt, &mut readings, &publisher);
+    let before = publisher.tell();
+    let told = publish(&rt, rt.alloc(), &mut publisher);
+    assert!(rt; one.is_within(&before) && one.is_within(&told));
+    one.learn(&rt, told);
+    assert_eq!(rt; (one.count(), one.sights(), two.count()), (1, 0, 0));
+    assert!(rt; !one.is_within(&before) && two.is_within(&before));
+    publisher.close(&rt);
+}
+
+#[test]
+fn looks_are_refused_after_the_end(rt: HostRuntime) {
+    let Desk {
+        publisher,
+        mut readings,
+    } = open(&rt, rt.alloc(), 1);
+    let mut reading = take(&rt, &mut readings, &publisher);
+    publisher.close(&rt);
+    match reading.see() {
+        Some(_) => panic!(rt; "a sight"),
+        None => assert_eq!(rt; (reading.sights(), reading.refusals()), (0, 1)),
+    }
+}
+
+fn is_send<T: Send>(_x: &T) {}
+
+fn is_sync<T: Sync>(_x: &T) {}
+
+#[test]
+fn ends_may_go_to_threads(rt: HostRuntime) {
+    let Desk {
+        mut publisher,
+        mut readings,
+    } = open(&rt, rt.alloc(), 1);
+    let mut reading = take(&rt, &mut readings, &publisher);
+    let told = publisher.tell();
+    let sight = look(&rt, &mut reading);
+    is_send(&publisher);
+    is_send(&reading);
+    is_send(&told);
+    is_send(&sight);
+    is_sync(&told);
+    reading.leave(sight);
+    publisher.close(&rt);
+}
