@@ -2,5 +2,6 @@ pub mod BelowLemmas
 pub mod ListingLemmas
 pub mod NameLemmas
 pub mod OrderLemmas
+pub mod TargetLemmas
 pub mod TwinLemmas
 pub mod VersionLemmas

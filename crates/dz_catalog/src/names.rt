@@ -3,9 +3,12 @@
 ghost use Rattle.std.specs.Prelude.{◌≡◌, ◌∷◌, ◌&&◌, ◌<◌, codes, length, MatchBool};
 ghost use Rattle.std.specs.Option.{option_map};
 ghost use Rattle.dz_name.specs.Name.{same_name, is_within, first_label, parent_of};
+ghost use Rattle.dz_record.specs.Record.{has_target, target_of};
 ghost use Rattle.dz_catalog.specs.Member.{begins_with, is_node, is_coo};
 
+use dz_name::dns::{TYPE_CNAME, TYPE_DNAME, TYPE_NS, TYPE_PTR};
 use dz_name::{Label, Name, NameRef};
+use dz_record::Rr;
 
 /// Whether it is the root, whose wire form alone is one octet.
 fn is_root(name: &NameRef) -> bool
@@ -96,4 +99,22 @@ pub(crate) fn is_coo(apex: &Name, name: &NameRef) -> bool
         None => false,
         Some(node) => begins_with(b"coo", name) && is_node(apex, &node),
     }
+}
+
+/// The name that an NS, CNAME, PTR or DNAME leads to, where it lies; none for every other type.
+pub(crate) fn target_of(found: &Rr) -> Option<NameRef<'_>>
+    ensures { result ≡ target_of found.now }
+{
+    if has_target(found.kind()) {
+        Some(NameRef::of_wire(found.rdata()))
+    } else {
+        None
+    }
+}
+
+/// Whether records of the type lead to a name, which is their whole RDATA.
+fn has_target(kind: u16) -> bool
+    ensures { result ≡ has_target kind }
+{
+    matches!(kind, TYPE_NS | TYPE_CNAME | TYPE_PTR | TYPE_DNAME)
 }

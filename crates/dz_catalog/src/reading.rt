@@ -1,6 +1,6 @@
 //! The member nodes, from records in canonical order.
 
-ghost use Rattle.std.specs.Prelude.{◌≡◌, ◌∷◌, ◌+◌, ◌<◌, ◌++◌, length, drop, not, IfOk, OnOk, find, position};
+ghost use Rattle.std.specs.Prelude.{◌≡◌, ◌==◌, ◌∷◌, ◌+◌, ◌<◌, ◌++◌, length, drop, not, count_by, IfOk, OnOk, find, position};
 ghost use Rattle.std.specs.List.{filter_map};
 ghost use Rattle.std.specs.List.Sorted.{IsStrictlySortedBy};
 ghost use Rattle.std.specs.Option.{option_map, option_to_list};
@@ -10,8 +10,8 @@ ghost use Rattle.dz_catalog.specs.Member.{node_of, coo_name};
 ghost use Rattle.dz_catalog.specs.inner.Below.{below, is_at, coo_among, groups_among, node_among, node_behind};
 
 use crate::judging::is_member;
-use crate::names::{first_of, is_below, is_child};
-use dz_member::{Node, Texts};
+use crate::names::{first_of, is_below, is_child, target_of};
+use dz_member::{KeptName, Node, Texts};
 use dz_name::dns::{TYPE_PTR, TYPE_TXT};
 use dz_name::{Label, Name, NameRef, Octets};
 use dz_record::Rr;
@@ -59,10 +59,11 @@ fn add(
         return Ok(());
     }
     let owner = found.owner_ref();
-    match (first_of(&owner), found.target()) {
-        (Some(label), Some(zone)) => {
+    match (first_of(&owner), target_of(found)) {
+        (Some(label), Some(target)) => {
             let records = below(&owner, behind);
-            let coo = coo_among(&owner, records);
+            let zone = KeptName::of(alloc, &target)?;
+            let coo = coo_among(alloc, &owner, records)?;
             let groups = groups_among(alloc, &owner, records)?;
             nodes.push(Node {
                 label,
@@ -108,21 +109,38 @@ fn first_coo<'a>(node: &NameRef, records: &'a [Rr]) -> Option<&'a Rr>
     records.iter().find(|r| is_at(TYPE_PTR, b"coo", node, r))
 }
 
-/// The catalog that a node's change of ownership names.
-fn coo_among(node: &NameRef, records: &[Rr]) -> Option<Name>
+/// The catalog that a node's change of ownership names, in octets of its own.
+fn coo_among(alloc: Global, node: &NameRef, records: &[Rr]) -> Result<Option<KeptName>, AllocError>
+    ensures { IfOk result (λ coo. coo ≡ coo_among node.now records.now) }
+{
+    match first_target(node, records) {
+        None => Ok(None),
+        Some(catalog) => Ok(Some(KeptName::of(alloc, &catalog)?)),
+    }
+}
+
+/// The same, where it lies.
+fn first_target<'a>(node: &NameRef, records: &'a [Rr]) -> Option<NameRef<'a>>
     ensures { result ≡ coo_among node.now records.now }
 {
     match first_coo(node, records) {
         None => None,
-        Some(coo) => coo.target(),
+        Some(coo) => target_of(coo),
     }
+}
+
+/// How many TXT records there are.
+fn text_count(records: &[Rr]) -> usize
+    ensures { result ≡ count_by (λ r. r.kind == TYPE_TXT) records.now }
+{
+    records.iter().filter(|r| r.kind() == TYPE_TXT).count()
 }
 
 /// A node's groups.
 fn groups_among(alloc: Global, node: &NameRef, records: &[Rr]) -> Result<Texts, AllocError>
     ensures { IfOk result (λ groups. groups ≡ groups_among node.now records.now) }
 {
-    let mut groups = Vec::new(alloc);
+    let mut groups = Vec::with_capacity(alloc, text_count(records))?;
     'records: for found in records {
         if is_at(TYPE_TXT, b"group", node, found) {
             groups.push(Octets::from_vec(Vec::from_slice(alloc, found.rdata())?))?;

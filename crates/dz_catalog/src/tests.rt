@@ -84,10 +84,10 @@ fn catalog(
 fn is_node(rt: &impl Abort, node: &Node, wanted: &Wanted) {
     let (label, zone, coo, groups) = *wanted;
     assert_eq!(rt; node.label.octets(), label);
-    assert!(rt; node.zone.same(&named(rt, zone)));
+    assert!(rt; node.zone.as_ref().same(&named(rt, zone).as_ref()));
     match &node.coo {
         None => assert!(rt; coo.is_empty()),
-        Some(name) => assert!(rt; !coo.is_empty() && name.same(&named(rt, coo))),
+        Some(name) => assert!(rt; !coo.is_empty() && name.as_ref().same(&named(rt, coo).as_ref())),
     }
     assert_eq!(rt; node.groups.as_slice().len(), groups.len());
     for (group, wanted) in node.groups.as_slice().iter().zip(groups) {

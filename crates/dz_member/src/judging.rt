@@ -18,7 +18,7 @@ use crate::fold::Fold;
 use crate::groups::group_of;
 use crate::listing::{Listing, Node};
 use crate::membership::Membership;
-use dz_name::{Label, Name};
+use dz_name::{Label, Name, NameRef};
 
 /// What stands at a zone afterwards, and what happened to it.
 #[derive(Clone, Copy)]
@@ -49,7 +49,7 @@ fn enter(fold: &Fold, number: u8, position: u64, node: &Node) -> Membership
     ensures numbered { IsNumbered fold.now.config result }
 {
     Membership {
-        zone: node.zone,
+        zone: node.zone.as_ref().to_name(),
         label: node.label,
         incarnation: position,
         catalog: number,
@@ -83,7 +83,7 @@ fn names(node: &Node, catalog: &Name) -> bool
 {
     match &node.coo {
         None => false,
-        Some(coo) => coo.same(catalog),
+        Some(coo) => coo.as_ref().same(&catalog.as_ref()),
     }
 }
 
@@ -293,12 +293,12 @@ fn listed(fold: &Fold, number: u8, position: u64, held: Option<&Membership>, nod
 }
 
 /// Whether a zone is a configured catalog.
-fn is_catalog(fold: &Fold, zone: &Name) -> bool
+fn is_catalog(fold: &Fold, zone: &NameRef) -> bool
     ensures { result ≡ is_catalog fold.now zone.now }
 {
     fold.catalogs()
         .iter()
-        .any(|catalog| catalog.name.same(zone))
+        .any(|catalog| catalog.name.as_ref().same(zone))
 }
 
 /// What a listing changes at one zone: the first case that fits.
@@ -327,7 +327,7 @@ pub(crate) fn judge(
             Some(member) => unlisted(fold, number, member),
         },
         Some(node) => {
-            if is_catalog(fold, &node.zone) {
+            if is_catalog(fold, &node.zone.as_ref()) {
                 Judged {
                     stands: held.copied(),
                     change: Some(What::Clash(None)),

@@ -6,7 +6,8 @@ ghost use Rattle.dz_member.specs.Listing.{IsListing};
 ghost use Rattle.dz_member.specs.Process.{in_zone_order};
 ghost use Rattle.dz_member.specs.inner.Places.{ArePlaces};
 
-use dz_name::{Label, Name, Octets};
+use crate::kept_name::KeptName;
+use dz_name::{Label, Octets};
 use std::alloc::Global;
 use std::marker::Model;
 
@@ -52,12 +53,14 @@ impl Texts {
 pub struct Node {
     pub label: Label,
     /// The member zone, the target of the PTR.
-    pub zone: Name,
+    pub zone: KeptName,
     /// The catalog that may take the zone over (RFC 9432 section 4.3.1).
-    pub coo: Option<Name>,
+    pub coo: Option<KeptName>,
     /// The RDATA of the group's TXT records, in the order of their octets (RFC 9432 section 4.3.2).
     pub groups: Texts,
 }
+
+const _: () = prove!(size_of::<Node>() == 192);
 
 /// The member nodes of a catalog: at most 65,536, in the order of their labels, no label and no zone twice. Beside each
 /// it keeps four octets, which tell the order of the zones.

@@ -74,15 +74,22 @@ fn make_fold(rt: &impl Abort, alloc: Global, names: &[&str]) -> Result<Fold, All
     Fold::start(alloc, config)
 }
 
+fn keep_name(rt: &impl Abort, alloc: Global, text: &str) -> KeptName {
+    match KeptName::of(alloc, &make_name(rt, text).as_ref()) {
+        Ok(name) => name,
+        Err(error) => panic!(rt; "{error:?} of {text}"),
+    }
+}
+
 /// A node without groups.
 fn make_node(rt: &impl Abort, alloc: Global, label: &[u8], zone: &str, coo: Option<&str>) -> Node {
     let coo = match coo {
         None => None,
-        Some(text) => Some(make_name(rt, text)),
+        Some(text) => Some(keep_name(rt, alloc, text)),
     };
     Node {
         label: make_label(rt, label),
-        zone: make_name(rt, zone),
+        zone: keep_name(rt, alloc, zone),
         coo,
         groups: Texts::from_vec(Vec::new(alloc)),
     }

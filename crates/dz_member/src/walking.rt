@@ -15,7 +15,7 @@ use crate::fold::Fold;
 use crate::judging::{Judged, judge};
 use crate::listing::{Listing, Node};
 use crate::membership::Membership;
-use dz_name::Name;
+use dz_name::NameRef;
 use std::alloc::{AllocError, Global};
 use std::cmp::Ordering;
 
@@ -27,9 +27,9 @@ pub(crate) struct Processed {
 }
 
 /// The first zone of two lists in zone order, its membership, its node, and the memberships behind.
-#[derive(Clone, Copy)]
+#[derive(Drop)]
 struct Pair<'a> {
-    zone: &'a Name,
+    zone: NameRef<'a>,
     member: Option<&'a Membership>,
     node: Option<&'a Node>,
     held: &'a [Membership],
@@ -43,7 +43,7 @@ fn first_pair<'a>(held: &'a [Membership], node: Option<&'a Node>) -> Option<Pair
         None => match node {
             None => None,
             Some(n) => Some(Pair {
-                zone: &n.zone,
+                zone: n.zone.as_ref(),
                 member: None,
                 node: Some(n),
                 held,
@@ -51,26 +51,26 @@ fn first_pair<'a>(held: &'a [Membership], node: Option<&'a Node>) -> Option<Pair
         },
         Some((m, members)) => match node {
             None => Some(Pair {
-                zone: &m.zone,
+                zone: m.zone.as_ref(),
                 member: Some(m),
                 node: None,
                 held: members,
             }),
-            Some(n) => Some(match m.zone.canonical_cmp(&n.zone) {
+            Some(n) => Some(match m.zone.as_ref().canonical_cmp(&n.zone.as_ref()) {
                 Ordering::Less => Pair {
-                    zone: &m.zone,
+                    zone: m.zone.as_ref(),
                     member: Some(m),
                     node: None,
                     held: members,
                 },
                 Ordering::Equal => Pair {
-                    zone: &m.zone,
+                    zone: m.zone.as_ref(),
                     member: Some(m),
                     node: Some(n),
                     held: members,
                 },
                 Ordering::Greater => Pair {
-                    zone: &n.zone,
+                    zone: n.zone.as_ref(),
                     member: None,
                     node: Some(n),
                     held,
@@ -94,7 +94,7 @@ fn behind(listing: &Listing, at: usize, taken: bool) -> usize
 
 impl Processed {
     /// Adds what was judged of a zone.
-    fn add(&mut self, zone: &Name, judged: &Judged) -> Result<(), AllocError>
+    fn add(&mut self, zone: &NameRef, judged: &Judged) -> Result<(), AllocError>
         ensures members { OnOk result (self.new.members.items
             ≡ self.old.members.items ++ option_to_list judged.now.stands) }
         ensures changes { OnOk result (self.new.changes.items
@@ -105,7 +105,10 @@ impl Processed {
             self.members.push(member)?;
         }
         if let Some(what) = judged.change {
-            self.changes.push(Change { zone: *zone, what })?;
+            self.changes.push(Change {
+                zone: zone.to_name(),
+                what,
+            })?;
         }
         Ok(())
     }
@@ -140,7 +143,7 @@ pub(crate) fn walk(
     let mut at = 0;
     'zones: while let Some(pair) = first_pair(held, listing.node_by_zone(at)) {
         processed.add(
-            pair.zone,
+            &pair.zone,
             &judge(fold, number, position, pair.member, pair.node),
         )?;
         held = pair.held;

@@ -61,7 +61,7 @@ first_pair (m ∷ ms) (Some n) = Some (pair_by (canonical_order m.zone n.zone) m
 -- a pair by what it refers to
 abbrev pub pair_of : Lent → Pair
 pair_of p = record {
-  zone = p.zone.now;
+  zone = p.zone;
   member = option_map (λ r. r.now) p.member;
   node = option_map (λ r. r.now) p.node;
   held = p.held.now;
