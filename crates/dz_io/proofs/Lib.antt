@@ -3,3 +3,4 @@ pub mod LineLemmas
 pub mod SplitLemmas
 pub mod ScriptLemmas
 pub mod RunLemmas
+pub mod ClockLemmas

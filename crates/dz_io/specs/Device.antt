@@ -1,5 +1,5 @@
--- Meaning: what a read or a write does to a device's octets, and how its count of faults tells of a failed call.
--- A device that doesn't tell its octets has None.
+-- Meaning: what a call does to what a device tells, its octets or its packets and links, and how its count of faults
+-- tells of a failed call. A device that doesn't tell them has None.
 use Rattle.std.specs.Prelude.{◌≡◌, ◌≤◌, ℕ, List, [], ◌++◌, length, take, Option, option_map, IfSome, Result, OnOk, IsErr, IsErrOf}
 use Rattle.dz_io.specs.Counts.{HasRisen}
 
@@ -7,13 +7,17 @@ use Rattle.dz_io.specs.Counts.{HasRisen}
 abbrev pub Gives : List ℕ → Option (List ℕ) → Option (List ℕ) → Type 0
 Gives octets before after = before ≡ option_map (λ rest. octets ++ rest) after
 
--- these octets were appended to what was held
-abbrev pub Gains : List ℕ → Option (List ℕ) → Option (List ℕ) → Type 0
+-- these octets were appended to what was held; so of packets, links and moments
+abbrev pub Gains : {A : Type 0} → List A → Option (List A) → Option (List A) → Type 0
 Gains octets before after = after ≡ option_map (λ held. held ++ octets) before
 
 -- a prefix of these octets was appended to what was held
 abbrev pub GainsPrefix : List ℕ → Option (List ℕ) → Option (List ℕ) → Type 0
 GainsPrefix octets before after = (n : ℕ) × (n ≤ length octets) × Gains (take n octets) before after
+
+-- where it is told, it is this
+abbrev pub Tells : {A : Type 0} → A → Option A → Type 0
+Tells what told = IfSome told (λ held. held ≡ what)
 
 -- nothing is left
 abbrev pub IsAtEnd : Option (List ℕ) → Type 0

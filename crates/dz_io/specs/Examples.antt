@@ -1,5 +1,5 @@
 -- Judge: rows that the checker computes.
-use Rattle.std.specs.Prelude.{◌≡◌, List, [], ◌∷◌, refl}
+use Rattle.std.specs.Prelude.{◌≡◌, [], ◌∷◌, refl}
 use Rattle.dz_io.specs.Lines.{onto_first, lines_of, content}
 
 -- `a`, a newline, a newline, `b`: two lines with their newlines, and a last one without

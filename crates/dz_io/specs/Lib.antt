@@ -1,6 +1,11 @@
 pub mod Device
 pub mod Counts
 pub mod Memory
+pub mod Packets
+pub mod Links
+pub mod Ports
+pub mod Clocks
+pub mod MemoryDevices
 pub mod Lines
 pub mod Script
 pub mod Run

@@ -158,6 +158,13 @@ impl MemoryLink {
     {
         &self.sent
     }
+
+    /// How often a call failed.
+    pub fn faults(&self) -> u64
+        ensures { result ≡ self.now.calls.faults }
+    {
+        self.plan.faults()
+    }
 }
 
 impl Source for MemoryLink {

@@ -1,8 +1,9 @@
 //! Which calls of a device in memory fail.
 ghost use Rattle.std.specs.Prelude.{◌≡◌, ◌≤◌, is_err};
-ghost use Rattle.dz_io.specs.Counts.{HasRisen};
+ghost use Rattle.dz_io.specs.Counts.{Covers, HasRisen};
 ghost use Rattle.dz_io.specs.Device.{HasCause};
 ghost use Rattle.dz_io.specs.Memory.{is_to_fail, one_more, after_call, no_calls};
+ghost use Rattle.dz_io.specs.MemoryDevices.{covering};
 
 use crate::Failed;
 use std::marker::Model;
@@ -57,5 +58,20 @@ impl Plan {
     {
         self.faults = self.faults.saturating_add(1);
         Failed
+    }
+
+    // How many calls failed.
+    pub(crate) fn faults(&self) -> u64
+        ensures { result ≡ self.now.faults }
+    {
+        self.faults
+    }
+
+    // Counts the faults of what came back.
+    pub(crate) fn cover(&mut self, brought: u64)
+        ensures calls { self.new ≡ covering brought self.old }
+        ensures covers { Covers brought self.old.faults self.new.faults }
+    {
+        self.faults = self.faults.saturating_add(brought);
     }
 }

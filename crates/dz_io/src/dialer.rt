@@ -1,0 +1,45 @@
+//! What dials peers.
+ghost use Rattle.std.specs.Prelude.{◌≡◌, List, [], ◌∷◌, Option, None, Some, IsSome, IfSome, IfOk, OnOk, OnErr};
+ghost use Rattle.dz_io.specs.Counts.{Covers};
+ghost use Rattle.dz_io.specs.Device.{Gains, HasCause};
+ghost use Rattle.dz_io.specs.Links.{dialled, IsFreshLink};
+
+use crate::{Failed, Link, Peer};
+
+/// What makes links to peers, one at a time: each is given back before the next.
+pub trait Dialer {
+    ghost use Rattle.std.specs.Prelude.{ℕ};
+    ghost use Rattle.dz_io.specs.Links.{Dialled};
+    ghost use Rattle.dz_io.specs.declared.peer.Peer.{Peer};
+
+    /// The links that it gives.
+    type L: Link + Send;
+
+    /// The links that were given back, in their order, where the dialer tells them.
+    ghost links: { Self → Option (List Dialled) };
+
+    /// The peer of the link that is out: it was given and not given back.
+    ghost out: { Self → Option Peer };
+
+    /// How often the dialer or a link that was given back has failed. The count never falls, and at 2^64 - 1 it says
+    /// nothing more.
+    ghost faults: { Self → ℕ };
+
+    /// Makes a link to a peer, of which nothing was read and to which nothing was written.
+    fn dial(&mut self, peer: &Peer) -> Result<Self::L, Failed>
+        requires { out self.old ≡ None }
+        ensures out { OnOk result (out self.new ≡ Some peer.now) }
+        ensures fresh { IfOk result (λ link.
+            IsFreshLink (Self.L.given link) (Self.L.held link) (Self.L.Source.faults link)) }
+        ensures err { OnErr result (out self.new ≡ None) }
+        ensures links { links self.new ≡ links self.old }
+        ensures cause { HasCause (faults self.old) (faults self.new) result };
+
+    /// Takes the link back that is out. The dialer's count of faults covers that of the link.
+    fn done(&mut self, link: Self::L)
+        requires { IsSome (out self.old) }
+        ensures out { out self.new ≡ None }
+        ensures links { IfSome (out self.old) (λ peer. Gains (dialled peer (Self.L.given link) (Self.L.left link)
+            (Self.L.held link) (Self.L.Source.faults link) ∷ []) (links self.old) (links self.new)) }
+        ensures covers { Covers (Self.L.Source.faults link) (faults self.old) (faults self.new) };
+}
