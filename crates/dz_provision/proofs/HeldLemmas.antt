@@ -1,0 +1,191 @@
+-- What a call makes of what stands under the lock, by what its write leaves.
+use Rattle.std.proofs.Common.{◌≡◌, ◌⊎◌, ℕ, ◌+◌, ◌-◌, ◌<◌, ◌≤◌, ◌^◌, Bool, true, false, List, [], ◌∷◌, ◌++◌, length, arith, Option, None, Some, Result, Ok, Err, refl, sym, ap, subst, ◌∙◌, inl, inr}
+use Rattle.std.specs.Prelude.{MatchBool, IsErr}
+use Rattle.std.proofs.lemmas.List.{append-nil}
+use Rattle.dz_io.specs.Counts.{HasRisen}
+use Rattle.dz_io.specs.Device.{Gains}
+use Rattle.dz_io.specs.declared.peer.Peer.{Peer}
+use Rattle.dz_name.specs.Words.{Name, Octets}
+use Rattle.dz_notify.specs.declared.notify.Heard.{Heard}
+use Rattle.dz_history.specs.declared.entry.Entry.{Entry}
+use Rattle.dz_job.specs.Job.{JobOf}
+use Rattle.dz_job.specs.declared.verdict.Verdict.{Verdict}
+use Rattle.dz_job.specs.declared.verdict.Failure.{Failure}
+use Rattle.dz_fleet.specs.declared.due.Due.{Due}
+use Rattle.dz_fleet.specs.Core.{Core, IsDue, IsOffered, failed_core, failure_of, ended_of, heard_of, after_notify}
+use Rattle.dz_fleet.specs.Sound.{IsSound, IsAmong, IsFlying}
+use Rattle.dz_job.specs.declared.flight.Flight.{Flight}
+use Rattle.dz_fleet.specs.Absence.{AbsentOf, absent_of}
+use Rattle.dz_history.specs.Heard.{heard_at}
+use Rattle.dz_desk.specs.Seen.{Book, Page}
+use Rattle.dz_report.specs.Lines.{failure_line, notify_line}
+use Rattle.dz_provision.specs.Log.{IsLogged, due_lines, settled_lines}
+use Rattle.dz_provision.specs.Held.{Held, Logs, Breaks, Stays, IsNone, IsHandedOut, IsSettled, IsFailed, IsHeard, IsSaid, Notes}
+use Rattle.dz_provision.specs.inner.Writing.{Log, IsWritten, answered, ended}
+use Rattle.dz_provision.specs.inner.Ready.{IsStarved}
+use Rattle.dz_provision.specs.declared.provisioner.LogFault.{LogFault}
+use Rattle.dz_provision.specs.declared.provisioner.Unmade.TheVariants as unmade
+use Rattle.dz_provision.proofs.LogLemmas.{Joins, logged_on, logged_off, risen}
+
+abbrev pub in_log : Held → Log
+in_log h = record { written = h.written; faults = h.faults; failed = h.failed }
+
+-- ---- the facts of the lock
+pub record Agrees (list : List Entry) (b : Log) : Type 0 where
+  pub logged : IsLogged list b.written b.failed
+  pub cause : MatchBool b.failed (HasRisen 0 b.faults) (b.faults ≡ 0)
+
+pub agrees : (list later : List Entry) (lines : Octets) (r : Result (Unit {0}) LogFault) (a b : Log) → a.failed ≡ false → Agrees list a → Joins list lines later → IsWritten lines r a b → Agrees later b
+unfolding IsWritten
+agrees list later lines (Ok done) a b before ok joins w =
+    let failed : b.failed ≡ false = w.1.1 ∙ before in
+    let log : IsLogged list a.written false = subst (IsLogged list a.written) before ok.logged in
+    let none : a.faults ≡ 0 = let c = ok.cause in rw before at c in
+    record {
+      logged = subst (IsLogged later b.written) (sym failed) (logged_on list later lines a.written b.written joins log w.0);
+      cause = subst (λ x. MatchBool x (HasRisen 0 b.faults) (b.faults ≡ 0)) (sym failed) (w.1.0 ∙ none);
+    }
+agrees list later lines (Err fault) a b before ok joins w =
+    let log : IsLogged list a.written false = subst (IsLogged list a.written) before ok.logged in
+    let none : a.faults ≡ 0 = let c = ok.cause in rw before at c in
+    record {
+      logged = subst (IsLogged later b.written) (sym w.1.1) (logged_off list later lines a.written b.written joins log w.0);
+      cause = subst (λ x. MatchBool x (HasRisen 0 b.faults) (b.faults ≡ 0)) (sym w.1.1) (risen a.faults b.faults none w.1.0);
+    }
+
+-- ---- the calls
+module _ (h k : Held) (before : h.failed ≡ false) where
+  logs : (next : Core) (lines : Octets) (done : Unit {0}) → k.core ≡ next → IsWritten lines (Ok done) (in_log h) (in_log k) → Logs h next lines k
+  unfolding IsWritten
+  logs next lines done is w = record { core = is; written = w.0; faults = w.1.0; before = before; failed = w.1.1 ∙ before }
+
+  breaks : (next : Core) (lines : Octets) (fault : LogFault) → k.core ≡ next → IsWritten lines (Err fault) (in_log h) (in_log k) → Breaks h next lines k
+  unfolding IsWritten
+  breaks next lines fault is w = record { core = is; written = w.0; faults = w.1.0; before = before; failed = w.1.1 }
+
+  pub handed_so : (now : ℕ) (answer : Due) (r : Result (Unit {0}) LogFault) → IsDue h.core now answer k.core → IsWritten (due_lines answer) r (in_log h) (in_log k) → IsHandedOut h now (answered r answer) k
+  unfolding IsHandedOut
+  handed_so now answer (Ok done) due w = (due, logs k.core (due_lines answer) done refl w)
+  handed_so now answer (Err fault) due w = inr (answer, due, breaks k.core (due_lines answer) fault refl w)
+
+  pub heard_so : (peer : Peer) (zone : Name) (how : Heard) (told : Page) (r : Result (Unit {0}) LogFault) → how ≡ heard_of h.core peer zone → k.core ≡ after_notify h.core zone how → IsWritten (notify_line zone how) r (in_log h) (in_log k)
+      → IsHeard h peer zone (answered r (how, told)) k
+  unfolding IsHeard
+  heard_so peer zone how told (Ok done) is core w = (is, logs (after_notify h.core zone how) (notify_line zone how) done core w)
+  heard_so peer zone how told (Err fault) is core w = inr (subst (λ x. Breaks h (after_notify h.core zone x) (notify_line zone x) k) is (breaks (after_notify h.core zone how) (notify_line zone how) fault core w))
+
+  pub failed_so : (job : JobOf) (now : ℕ) (failure : Failure) (told : Page) (r : Result (Unit {0}) LogFault) → IsFlying h.core job → failure ≡ failure_of (ended_of h.core job) → k.core ≡ failed_core h.core job now
+      → IsWritten (failure_line job.flight.zone failure) r (in_log h) (in_log k) → IsFailed h job now (ended r (failure, told)) k
+  unfolding IsFailed
+  failed_so job now failure told (Ok done) fly is core w = (fly, (is, logs (failed_core h.core job now) (failure_line job.flight.zone failure) done core w))
+  failed_so job now failure told (Err fault) fly is core w =
+      inr (fly, subst (λ x. Breaks h (failed_core h.core job now) (failure_line job.flight.zone x) k) is (breaks (failed_core h.core job now) (failure_line job.flight.zone failure) fault core w))
+
+  pub settled_so : (job : JobOf) (octets : Octets) (now : ℕ) (verdict : Verdict) (told : Page) (r : Result (Unit {0}) LogFault) → IsFlying h.core job → IsOffered h.core job octets now verdict k.core
+      → IsWritten (settled_lines job.flight.zone verdict) r (in_log h) (in_log k) → IsSettled h job octets now (ended r (verdict, told)) k
+  unfolding IsSettled
+  settled_so job octets now verdict told (Ok done) fly is w = (fly, (is, logs k.core (settled_lines job.flight.zone verdict) done refl w))
+  settled_so job octets now verdict told (Err fault) fly is w = inr (verdict, fly, (is, breaks k.core (settled_lines job.flight.zone verdict) fault refl w))
+
+  pub said_so : (line : Octets) (r : Result (Unit {0}) LogFault) → k.core ≡ h.core → IsWritten line r (in_log h) (in_log k) → IsSaid h line r k
+  unfolding IsSaid
+  said_so line (Ok done) is w = logs h.core line done is w
+  said_so line (Err fault) is w = inr (breaks h.core line fault is w)
+
+-- ---- calls that write nothing
+gains_none : (a : Option Octets) → Gains [] a a
+gains_none None = refl
+gains_none (Some text) = ap Some (sym (append-nil text))
+
+pub quiet_so : (h k : Held) (now : ℕ) (answer : Due) → h.failed ≡ false → IsDue h.core now answer k.core → due_lines answer ≡ [] → k ≡ record h { core = k.core } → IsHandedOut h now (Ok answer) k
+unfolding IsHandedOut
+quiet_so h k now answer before due none same = (
+  due,
+  record {
+    core = refl;
+    written = rw (none, ap (λ (x : Held). x.written) same) (gains_none h.written);
+    faults = ap (λ (x : Held). x.faults) same;
+    before = before;
+    failed = ap (λ (x : Held). x.failed) same ∙ before;
+  },
+)
+
+pub starved_so : (h k : Held) (job : JobOf) (octets : Octets) (now : ℕ) (verdict : Verdict) (told : Page) → h.failed ≡ false → IsFlying h.core job → IsStarved h job now verdict k → IsSettled h job octets now (Ok (verdict, told)) k
+unfolding IsSettled
+starved_so h k job octets now verdict told before fly starved =
+    let core : k.core ≡ failed_core h.core job now = ap (λ (x : Held). x.core) starved.rest in
+    rw starved.verdict (
+      fly,
+      (
+        core,
+        record {
+          core = refl;
+          written = rw (ap (λ (x : Held). x.written) starved.rest) (gains_none h.written);
+          faults = ap (λ (x : Held). x.faults) starved.rest;
+          before = before;
+          failed = ap (λ (x : Held). x.failed) starved.rest ∙ before;
+        },
+      ),
+    )
+
+-- ---- calls that make nothing
+module _ (h : Held) (was : h.failed ≡ true) where
+  stays : Stays h h
+  stays = record { same = refl; failed = was }
+
+  pub unhanded : (now : ℕ) (fault : LogFault) → IsHandedOut h now (Err fault) h
+  unfolding IsHandedOut
+  unhanded now fault = inl stays
+
+  pub unheard : (peer : Peer) (zone : Name) (fault : LogFault) → IsHeard h peer zone (Err fault) h
+  unfolding IsHeard
+  unheard peer zone fault = inl stays
+
+  pub unfailed : (job : JobOf) (now : ℕ) → IsFailed h job now (Err unmade.LogFault) h
+  unfolding IsFailed
+  unfailed job now = inl stays
+
+  pub unsettled : (job : JobOf) (octets : Octets) (now : ℕ) → IsSettled h job octets now (Err unmade.LogFault) h
+  unfolding IsSettled
+  unsettled job octets now = inl stays
+
+  pub unsaid : (line : Octets) (fault : LogFault) → IsSaid h line (Err fault) h
+  unfolding IsSaid
+  unsaid line fault = inl stays
+
+module _ (h : Held) (job : JobOf) (now : ℕ) (absent : AbsentOf) (before : h.failed ≡ false) (why : absent ≡ absent_of h.core job) (none : IsFlying h.core job → ⊥) where
+  is_none : IsNone h job absent h
+  is_none = record { same = refl; before = before; why = why; none = none }
+
+  pub failed_none : IsFailed h job now (Err (unmade.NotInFlight absent)) h
+  unfolding IsFailed
+  failed_none = is_none
+
+  pub settled_none : (octets : Octets) → IsSettled h job octets now (Err (unmade.NotInFlight absent)) h
+  unfolding IsSettled
+  settled_none octets = is_none
+
+-- ---- notes
+pub note_so : {T : Type 0} (publisher : Book) (list : List Entry) (r : Result (Unit {0}) LogFault) (how : T) (told : Page) → told.list ≡ list → told.book ≡ publisher → Notes publisher list (ended r (how, told))
+note_so publisher list (Ok done) how told same own = (same, own)
+note_so publisher list (Err fault) how told same own = tt
+
+-- ---- what a reading knows that has seen the list
+pub heard_seen : (h k : Held) (peer : Peer) (zone : Name) (r : Heard × Page) (list : List Entry) → list ≡ h.core.list → IsHeard h peer zone (Ok r) k → r.0 ≡ heard_at list peer zone
+unfolding IsHeard
+heard_seen h k peer zone r list same heard = rw same heard.0
+
+-- ---- a core with a job in flight has room for one more entry
+room_by : (flight : Flight) (jobs : List JobOf) (n : ℕ) → IsAmong flight jobs → n + length jobs ≤ 2 ^ 64 - 1 → n < 2 ^ 64 - 1
+unfolding IsAmong
+room_by flight [] n among h = absurd among
+room_by flight (j ∷ jobs) n among h = omega (arith, h)
+
+pub room : (c : Core) (job : JobOf) → IsSound c → IsAmong job.flight c.flight → length c.list < 2 ^ 64 - 1
+room c job ok among = room_by job.flight c.flight (length c.list) among (omega (arith, ok.drawn, ok.most))
+
+-- an answer that tells of a fault shows that the output has failed
+pub risen_so : {T : Type 0} (lines : Octets) (r : Result (Unit {0}) LogFault) (a b : Log) (how : T) → a.failed ≡ false → MatchBool a.failed (HasRisen 0 a.faults) (a.faults ≡ 0) → IsWritten lines r a b → IsErr (answered r how) → HasRisen 0 b.faults
+unfolding IsWritten
+risen_so lines (Ok done) a b how before cause w err = absurd (cc err)
+risen_so lines (Err fault) a b how before cause w err = risen a.faults b.faults (rw before at cause) w.1.0

@@ -1,0 +1,4 @@
+pub mod HeldLemmas
+pub mod LogLemmas
+pub mod StartLemmas
+pub mod TakenLemmas

@@ -1,0 +1,5 @@
+pub mod Held
+pub mod Journal
+pub mod Log
+pub mod Names
+pub mod inner

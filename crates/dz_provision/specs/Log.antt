@@ -1,0 +1,98 @@
+-- Meaning: the log of a server: the lines of the list of taken transfers, and lines beside them.
+use Rattle.std.specs.Prelude.{⊤, ◌≡◌, ℕ, Bool, List, [], ◌∷◌, ◌++◌, codes, Option, Some, MatchBool}
+use Rattle.std.specs.List.{AllByRecursion}
+use Rattle.hex.specs.Hex.{encode_lower}
+use mathlib.Core.List.{IsPrefix}
+use Rattle.dz_name.specs.Words.{Name, Octets}
+use Rattle.dz_take.specs.declared.outcome.TakeFault.{TakeFault}
+use Rattle.dz_zonemd.specs.declared.acceptance.Standing.{Standing}
+use Rattle.dz_notify.specs.declared.notify.Heard.{Heard}
+use Rattle.dz_history.specs.declared.entry.Entry.{Entry}
+use Rattle.dz_job.specs.Job.{JobOf}
+use Rattle.dz_job.specs.declared.verdict.Verdict.{Verdict}
+use Rattle.dz_job.specs.declared.verdict.Verdict.TheVariants.{Refused, PolicyRefused, Stale, OutOfMemory}
+use Rattle.dz_job.specs.declared.verdict.Failure.{Failure}
+use Rattle.dz_fleet.specs.declared.due.Due.{Due}
+use Rattle.dz_fleet.specs.declared.due.Due.TheVariants as due
+use Rattle.dz_report.specs.Lines.{job_line, failure_line, notify_line, verdict_lines}
+use Rattle.dz_provision.specs.Journal.{journal}
+
+-- what tells of no entry: a job, and that there is none; what ended a job by which nothing was taken; a NOTIFY; a reply to
+-- a query, and that there is none
+pub data Aside : Type 0 where
+  handed : JobOf → Aside
+  idle : Aside
+  full : Aside
+  refused : Name → TakeFault → Aside
+  unapproved : Name → Standing → Aside
+  stale : Name → ℕ → Aside
+  starved : Name → Aside
+  failed : Name → Failure → Aside
+  heard : Name → Heard → Aside
+  replied : Octets → Aside
+  silent : Aside
+
+abbrev pub text_of : Aside → Octets
+text_of (handed job) = job_line job
+text_of idle = codes "job idle\n"
+text_of full = codes "job full\n"
+text_of (refused zone fault) = verdict_lines zone (Refused fault)
+text_of (unapproved zone standing) = verdict_lines zone (PolicyRefused standing)
+text_of (stale zone position) = verdict_lines zone (Stale position)
+text_of (starved zone) = verdict_lines zone OutOfMemory
+text_of (failed zone failure) = failure_line zone failure
+text_of (heard zone how) = notify_line zone how
+text_of (replied octets) = codes "reply " ++ (encode_lower octets ++ (10 ∷ []))
+text_of silent = codes "none\n"
+
+-- the lines of a call that asks for a job, and of one that ends a job: there are none where there is no job, and for want
+-- of memory
+abbrev pub due_lines : Due → Octets
+due_lines (due.Job job) = job_line job
+due_lines (due.Idle quiet) = []
+due_lines (due.Full quiet) = []
+due_lines due.OutOfMemory = []
+
+abbrev pub settled_lines : Name → Verdict → Octets
+settled_lines zone OutOfMemory = []
+settled_lines zone verdict = verdict_lines zone verdict
+
+-- what can be said beside events: that there is no job, a reply or none, and want of memory for a zone's transfer
+abbrev pub IsRemark : Aside → Type 0
+IsRemark idle = ⊤
+IsRemark full = ⊤
+IsRemark (starved zone) = ⊤
+IsRemark (replied octets) = ⊤
+IsRemark silent = ⊤
+IsRemark aside = ⊥
+
+abbrev pub CanBeSaid : Octets → Type 0
+CanBeSaid line = (aside : Aside) × IsRemark aside × (line ≡ text_of aside)
+
+-- a part of the log: lines of the list, or a line beside them
+pub data Part : Type 0 where
+  listed : Octets → Part
+  beside : Aside → Part
+
+-- all parts, and those of the list alone, one behind the other
+abbrev pub written : List Part → Octets
+written [] = []
+written (listed text ∷ parts) = text ++ written parts
+written (beside aside ∷ parts) = text_of aside ++ written parts
+
+abbrev pub told : List Part → Octets
+told [] = []
+told (listed text ∷ parts) = text ++ told parts
+told (beside aside ∷ parts) = told parts
+
+-- a log of a list: once the lines beside are left out, the lines of the list remain
+unfoldable pub IsLog : List Entry → Octets → Type 0
+IsLog list text = (parts : List Part) × (text ≡ written parts) × (told parts ≡ journal list)
+
+-- the beginning of one
+unfoldable pub IsLogFront : List Entry → Octets → Type 0
+IsLogFront list text = (whole : Octets) × IsPrefix text whole × IsLog list whole
+
+-- what an output holds, if it tells: a log of the list, or, after a failed write, the beginning of one
+abbrev pub IsLogged : List Entry → Option Octets → Bool → Type 0
+IsLogged list held broken = (text : Octets) → held ≡ Some text → MatchBool broken (IsLogFront list text) (IsLog list text)

@@ -1,0 +1,191 @@
+//! The core, the publisher and the log.
+
+ghost use Rattle.std.specs.Prelude.{◌≡◌, [], length, None, true, false, IfOk, IfErr, IfSome, MatchBool};
+ghost use Rattle.std.specs.Arc.{arc_value};
+ghost use Rattle.dz_io.specs.Counts.{HasRisen};
+ghost use Rattle.dz_member.specs.Config.{IsAllowed};
+ghost use Rattle.dz_fleet.specs.Core.{opened_core};
+ghost use Rattle.dz_fleet.specs.Sound.{IsSound};
+ghost use Rattle.dz_history.specs.declared.entry.Entry.TheVariants.{Setup};
+ghost use Rattle.dz_desk.specs.Seen.{page};
+ghost use Rattle.dz_provision.specs.Log.{IsLogged};
+
+use crate::copying::copied;
+use crate::naming::Naming;
+use dz_desk::{Publisher, Told};
+use dz_fleet::{Absent, Fleet};
+use dz_history::{Entry, Step};
+use dz_io::Sink;
+use dz_member::Config;
+use dz_table::Table;
+use std::alloc::{AllocError, Global};
+use std::marker::{Model, PhantomData};
+use std::sync::{Arc, Wait};
+
+/// A write to the log has failed.
+#[derive(Clone, Copy, Debug, PartialEq, Eq, Drop)]
+pub struct LogFault;
+
+/// Why a job's end makes no event, or no line.
+#[derive(Debug, Drop)]
+pub enum Unmade {
+    /// A write to the log has failed.
+    LogFault,
+    /// The job isn't the core's.
+    NotInFlight(Absent),
+}
+
+/// The core, the publisher of its list, and the output to which the log is written. `J` names the publisher. It is ended
+/// by [`Provisioner::close`].
+pub struct Provisioner<K: Sink, J: Naming> {
+    pub(crate) fleet: Fleet,
+    pub(crate) publisher: Publisher,
+    pub(crate) output: K,
+    pub(crate) log_failed: bool,
+    of: PhantomData<J>,
+}
+
+impl<K: Sink, J: Naming> Model for Provisioner<K, J> {
+    ghost use Rattle.std.specs.Prelude.{◌≡◌, None, MatchBool};
+    ghost use Rattle.dz_io.specs.Counts.{HasRisen};
+    ghost use Rattle.dz_provision.specs.Held.{Held};
+    ghost use Rattle.dz_provision.specs.Log.{IsLogged};
+
+    ghost Value = { Held };
+
+    ghost view = { λ p. record {
+      core = p.fleet;
+      written = K.held p.output;
+      faults = K.faults p.output;
+      failed = p.log_failed;
+    } };
+
+    ghost invariant = { λ p. (p.fleet.list ≡ p.publisher.list)
+        × (p.publisher.staged ≡ None)
+        × (p.publisher.book ≡ J.publisher)
+        × IsLogged p.fleet.list (K.held p.output) p.log_failed
+        × MatchBool p.log_failed (HasRisen 0 (K.faults p.output)) (K.faults p.output ≡ 0) };
+}
+
+/// What a provisioner was made of, and whether a write to the output has failed.
+pub struct Parts<K> {
+    pub fleet: Fleet,
+    pub publisher: Publisher,
+    pub output: K,
+    pub log_failed: bool,
+}
+
+/// What a provisioner would have been made of. Memory was wanting.
+pub struct Unstarted<K> {
+    pub publisher: Publisher,
+    pub output: K,
+}
+
+impl<K: Sink, J: Naming> Provisioner<K, J> {
+    /// The core of a configuration, which it publishes as the first entry. The output has no lines yet.
+    ///
+    /// # Errors
+    ///
+    /// `Unstarted` where memory is wanting; the publisher and the output are then as they were.
+    pub fn start<R: Wait>(
+        rt: &R,
+        alloc: Global,
+        config: Config,
+        publisher: Publisher,
+        output: K,
+    ) -> Result<Provisioner<K, J>, Unstarted<K>>
+        requires config { IsAllowed config }
+        requires publisher { (publisher.list ≡ []) × (publisher.staged ≡ None) × (publisher.book ≡ J.publisher) }
+        requires output { IfSome (K.held output) (λ text. text ≡ []) × (K.faults output ≡ 0) }
+        ensures ok { IfOk result (λ p. p ≡ record {
+          core = opened_core config;
+          written = K.held output;
+          faults = 0;
+          failed = false;
+        }) }
+        ensures err { IfErr result (λ parts. (parts.publisher ≡ publisher) × (parts.output ≡ output)) }
+    {
+        let mut publisher = publisher;
+        match opened(alloc, config) {
+            Err(_) => Err(Unstarted { publisher, output }),
+            Ok((fleet, step)) => match publisher.stage(step) {
+                Err(step) => {
+                    drop(step);
+                    Err(Unstarted { publisher, output })
+                }
+                Ok(()) => {
+                    drop(publisher.publish(rt));
+                    Ok(Provisioner {
+                        fleet,
+                        publisher,
+                        output,
+                        log_failed: false,
+                        of: PhantomData,
+                    })
+                }
+            },
+        }
+    }
+
+    /// Gives back what it was made of.
+    pub fn close(self) -> Parts<K>
+        ensures fleet { result.fleet ≡ self.core }
+        ensures publisher { (result.publisher.list ≡ self.core.list)
+            × (result.publisher.staged ≡ None)
+            × (result.publisher.book ≡ J.publisher) }
+        ensures output { (K.held result.output ≡ self.written) × (K.faults result.output ≡ self.faults) }
+        ensures failed { result.log_failed ≡ self.failed }
+        ensures logged { IsLogged result.publisher.list (K.held result.output) result.log_failed }
+        ensures cause { MatchBool result.log_failed (HasRisen 0 (K.faults result.output))
+            (K.faults result.output ≡ 0) }
+    {
+        let Provisioner {
+            fleet,
+            publisher,
+            output,
+            log_failed,
+            of: _,
+        } = self;
+        Parts {
+            fleet,
+            publisher,
+            output,
+            log_failed,
+        }
+    }
+
+    /// How many entries the list has.
+    pub fn count(&self) -> u64
+        ensures count { result ≡ length self.now.core.list }
+        ensures sound { IsSound self.now.core }
+    {
+        self.fleet.count()
+    }
+
+    /// Whether a write to the log has failed.
+    pub fn has_failed(&self) -> bool
+        ensures { result ≡ self.now.failed }
+    {
+        self.log_failed
+    }
+
+    /// A note of the list.
+    pub fn tell(&self) -> Told
+        ensures { result ≡ page self.now.core.list J.publisher }
+    {
+        self.publisher.tell()
+    }
+}
+
+/// The core of a configuration, and the step that begins the list.
+fn opened(alloc: Global, config: Config) -> Result<(Fleet, Step), AllocError>
+    requires { IsAllowed config }
+    ensures fleet { IfOk result (λ r. r.0 ≡ opened_core config) }
+    ensures entry { IfOk result (λ r. r.1.entry ≡ Setup config) }
+    ensures table { IfOk result (λ r. arc_value r.1.table ≡ []) }
+{
+    let entry = Entry::Setup(copied(alloc, &config)?);
+    let fleet = Fleet::start(alloc, config)?;
+    let table = Arc::new(alloc, Table::empty(alloc))?;
+    Ok((fleet, Step { entry, table }))
+}
