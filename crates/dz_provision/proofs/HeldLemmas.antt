@@ -49,8 +49,8 @@ agrees list later lines (Err fault) a b before ok joins w =
     let log : IsLogged list a.written false = subst (IsLogged list a.written) before ok.logged in
     let none : a.faults ≡ 0 = let c = ok.cause in rw before at c in
     record {
-      logged = subst (IsLogged later b.written) (sym w.1.1) (logged_off list later lines a.written b.written joins log w.0);
-      cause = subst (λ x. MatchBool x (HasRisen 0 b.faults) (b.faults ≡ 0)) (sym w.1.1) (risen a.faults b.faults none w.1.0);
+      logged = subst (IsLogged later b.written) (sym w.1.1.1) (logged_off list later lines a.written b.written joins log w.0);
+      cause = subst (λ x. MatchBool x (HasRisen 0 b.faults) (b.faults ≡ 0)) (sym w.1.1.1) (risen a.faults b.faults none w.1.1.0);
     }
 
 -- ---- the calls
@@ -61,7 +61,7 @@ module _ (h k : Held) (before : h.failed ≡ false) where
 
   breaks : (next : Core) (lines : Octets) (fault : LogFault) → k.core ≡ next → IsWritten lines (Err fault) (in_log h) (in_log k) → Breaks h next lines k
   unfolding IsWritten
-  breaks next lines fault is w = record { core = is; written = w.0; faults = w.1.0; before = before; failed = w.1.1 }
+  breaks next lines fault is w = record { core = is; written = w.0; later = w.1.0; faults = w.1.1.0; before = before; failed = w.1.1.1 }
 
   pub handed_so : (now : ℕ) (answer : Due) (r : Result (Unit {0}) LogFault) → IsDue h.core now answer k.core → IsWritten (due_lines answer) r (in_log h) (in_log k) → IsHandedOut h now (answered r answer) k
   unfolding IsHandedOut
@@ -188,4 +188,4 @@ room c job ok among = room_by job.flight c.flight (length c.list) among (omega (
 pub risen_so : {T : Type 0} (lines : Octets) (r : Result (Unit {0}) LogFault) (a b : Log) (how : T) → a.failed ≡ false → MatchBool a.failed (HasRisen 0 a.faults) (a.faults ≡ 0) → IsWritten lines r a b → IsErr (answered r how) → HasRisen 0 b.faults
 unfolding IsWritten
 risen_so lines (Ok done) a b how before cause w err = absurd (cc err)
-risen_so lines (Err fault) a b how before cause w err = risen a.faults b.faults (rw before at cause) w.1.0
+risen_so lines (Err fault) a b how before cause w err = risen a.faults b.faults (rw before at cause) w.1.1.0

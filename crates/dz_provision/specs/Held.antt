@@ -1,5 +1,5 @@
 -- Meaning: what stands under the provisioner's lock, and what each call makes of it.
-use Rattle.std.specs.Prelude.{◌≡◌, ◌⊎◌, ℕ, Bool, true, false, List, [], Option, Result, Ok, Err, IfOk}
+use Rattle.std.specs.Prelude.{◌≡◌, ◌≤◌, ◌⊎◌, ℕ, Bool, true, false, List, [], Option, Result, Ok, Err, IfOk}
 use Rattle.dz_io.specs.Counts.{HasRisen}
 use Rattle.dz_io.specs.Device.{Gains, GainsPrefix}
 use Rattle.dz_io.specs.declared.peer.Peer.{Peer}
@@ -39,6 +39,7 @@ pub record Logs (h : Held) (next : Core) (lines : Octets) (k : Held) : Type 0 wh
 pub record Breaks (h : Held) (next : Core) (lines : Octets) (k : Held) : Type 0 where
   pub core : k.core ≡ next
   pub written : GainsPrefix lines h.written k.written
+  pub later : h.faults ≤ k.faults
   pub faults : HasRisen h.faults k.faults
   pub before : h.failed ≡ false
   pub failed : k.failed ≡ true
