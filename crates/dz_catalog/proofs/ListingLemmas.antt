@@ -1,5 +1,5 @@
 -- The nodes of a catalog that isn't broken make a listing.
-use Rattle.std.proofs.Common.{◌≡◌, ℕ, ◌+◌, ◌≤◌, Bool, true, false, cond, List, [], ◌∷◌, ◌++◌, length, map, reverse, refl, sym, ◌∙◌, ap, arith, inl, inr}
+use Rattle.std.proofs.Common.{◌≡◌, ℕ, ◌+◌, ◌<◌, ◌≤◌, Bool, true, false, cond, List, [], ◌∷◌, ◌++◌, length, map, reverse, refl, sym, ◌∙◌, ap, arith, inl, inr}
 use Rattle.std.specs.Prelude.{◌==◌, nat_lt, Option, Some, None, Ok, Err, if◌then◌else◌}
 use Rattle.std.specs.Option.{option_map_or}
 use Rattle.std.specs.List.{AllByRecursion, filter_map, cons_option, list_any, count_by}
@@ -10,13 +10,13 @@ use Rattle.std.specs.Cmp.Lexicographic.{slice_cmp}
 use Rattle.std.specs.FinMap.{slice_cmp-IsAntisymmetric, nat_cmp-IsAntisymmetric}
 use Rattle.std.specs.declared.cmp.Ordering.{Ordering}
 use Rattle.std.specs.declared.cmp.Ordering.TheVariants.{Less, Equal, Greater}
-use Rattle.std.proofs.lemmas.Bool.{cases_Bool, and_parts, or_parts}
+use Rattle.std.proofs.lemmas.Bool.{cases_Bool, and_parts, or_parts, eqb-true}
 use Rattle.std.proofs.lemmas.Bool.Decides.{nat_tests}
 use Rattle.std.proofs.lemmas.Cmp.{nat_list_cmp_total}
 use Rattle.std.proofs.lemmas.List.{reverse-append}
 use Rattle.std.proofs.lemmas.List.Sums.{sum_by-cons}
 use Rattle.std.proofs.lemmas.Map.Keys.{sorted_head, sorted_tail}
-use Rattle.dz_name.specs.Name.{canonical_order, label_order, first_label}
+use Rattle.dz_name.specs.Name.{canonical_order, label_order, first_label, labels_of}
 use Rattle.dz_name.specs.Order.{same_decides}
 use Rattle.dz_record.specs.Record.{Record, record_order, target_of}
 use Rattle.dz_zone.specs.Valid.{some_two, both_are}
@@ -26,6 +26,7 @@ use Rattle.dz_member.specs.declared.listing.Node.{Node}
 use Rattle.dz_member.specs.declared.listing.Broken.{Broken}
 use Rattle.dz_member.specs.declared.listing.Broken.TheVariants.{NoVersion, VersionTwice, OtherVersion, MemberTwice, CooTwice, TooManyMembers, ZoneTwice}
 use Rattle.dz_catalog.specs.Broken.{no_version, version_twice, other_version, twins, member_twice, coo_twice, too_many, zone_twice, broken_records}
+use Rattle.dz_catalog.specs.inner.Count.{by_count}
 use Rattle.dz_catalog.specs.Listing.{listing_of}
 use Rattle.dz_catalog.specs.Member.{is_node, is_member, node_of, nodes_of, zones_of}
 
@@ -128,13 +129,37 @@ one_more : (b : Bool) (n : ℕ) → n ≡ cond b 1 0 → b ≡ true → n ≡ 1
 one_more true n is e = is
 one_more false n is e = absurd (cc)
 
-few_nodes : (apex : List (List ℕ)) (all ss : List Record) → length (filter_map (node_of apex all) ss) ≤ count_by (is_member apex) ss
-few_nodes apex all [] = omega arith
-few_nodes apex all (s ∷ ss) =
-    let ih = few_nodes apex all ss in
+none_here : (b : Bool) (n : ℕ) → n ≡ cond b 1 0 → b ≡ false → n ≡ 0
+none_here true n is e = absurd (cc)
+none_here false n is e = is
+
+-- a member record has a node
+owner_named : (apex : List (List ℕ)) (all : List Record) (r : Record) (owner : List (List ℕ)) → r.owner ≡ owner → is_member apex r ≡ true → node_of apex all r ≡ None → ⊥
+unfolding node_of
+owner_named apex all r [] o m e =
+    let n : is_node apex [] ≡ true = rw o at (and_parts (r.kind == 12) (is_node apex r.owner) m).1 in
+    absurd (cc)
+owner_named apex all r (label ∷ above) o m e =
+    let f : first_label r.owner ≡ Some label = rw o refl in
+    let k : r.kind ≡ 12 = eqb-true r.kind 12 (and_parts (r.kind == 12) (is_node apex r.owner) m).0 in
+    let t : target_of r ≡ Some (labels_of r.rdata) = rw k refl in
+    let g = rw (m, f, t) at e in
+    absurd (cc)
+
+no_member : (apex : List (List ℕ)) (all : List Record) (r : Record) → node_of apex all r ≡ None → is_member apex r ≡ false
+no_member apex all r e =
+    elim (cases_Bool (is_member apex r)) [
+      | inl t ↦ absurd (owner_named apex all r r.owner refl t e)
+      | inr f ↦ f
+    ]
+
+as_many : (apex : List (List ℕ)) (all ss : List Record) → length (filter_map (node_of apex all) ss) ≡ count_by (is_member apex) ss
+as_many apex all [] = refl
+as_many apex all (s ∷ ss) =
+    let ih = as_many apex all ss in
     let step : count_by (is_member apex) (s ∷ ss) ≡ cond (is_member apex s) 1 0 + count_by (is_member apex) ss = sum_by-cons (λ (r : Record). cond (is_member apex r) 1 0) s ss in
-    elim (node_of apex all s) as (λ o. node_of apex all s ≡ o → length (cons_option o (filter_map (node_of apex all) ss)) ≤ count_by (is_member apex) (s ∷ ss)) [
-      | None ↦ λ e. omega arith
+    elim (node_of apex all s) as (λ o. node_of apex all s ≡ o → length (cons_option o (filter_map (node_of apex all) ss)) ≡ count_by (is_member apex) (s ∷ ss)) [
+      | None ↦ λ e. let none = none_here (is_member apex s) (cond (is_member apex s) 1 0) refl (no_member apex all s e) in omega arith
       | Some n ↦ λ e. let one = one_more (is_member apex s) (cond (is_member apex s) 1 0) refl (node_shape apex all s n e).member in omega arith
     ] refl
 
@@ -158,7 +183,7 @@ pub makes_listing : (apex : List (List ℕ)) (rs : List Record) (nodes : List No
     → zone_twice nodes ≡ false → IsListing nodes
 makes_listing apex rs nodes up none is once =
     let s = sound apex rs none in
-    let few = few_nodes apex rs rs in
+    let few = as_many apex rs rs in
     let m : nat_lt 65536 (count_by (is_member apex) rs) ≡ false = s.1 in
     record {
       labels = rw is (labels_rise apex rs rs up s.0);
@@ -194,3 +219,18 @@ reads_none apex rs nodes up none is broken =
       | inl t ↦ reads_twice apex rs nodes up none is t
       | inr f ↦ absurd (broken (makes_listing apex rs nodes up none is f))
     ]
+
+-- the number of nodes tells whether members are too many
+pub reads_many : (apex : List (List ℕ)) (rs : List Record) (nodes : List Node) → nodes ≡ filter_map (node_of apex rs) rs → broken_records apex rs ≡ by_count apex rs → 65536 < length nodes
+    → listing_of apex rs ≡ Err TooManyMembers
+reads_many apex rs nodes is only much =
+    let count : length nodes ≡ count_by (is_member apex) rs = ap length is ∙ as_many apex rs rs in
+    let many : too_many apex rs ≡ true = grind (arith, nat_tests, count, much) in
+    reads_broken apex rs TooManyMembers (rw many at only)
+
+pub unbroken : (apex : List (List ℕ)) (rs : List Record) (nodes : List Node) → nodes ≡ filter_map (node_of apex rs) rs → broken_records apex rs ≡ by_count apex rs → length nodes ≤ 65536
+    → broken_records apex rs ≡ None
+unbroken apex rs nodes is only few =
+    let count : length nodes ≡ count_by (is_member apex) rs = ap length is ∙ as_many apex rs rs in
+    let not_many : too_many apex rs ≡ false = grind (arith, nat_tests, count, few) in
+    rw not_many at only

@@ -1,27 +1,30 @@
 //! Why a catalog's records make no listing. In a version they are in canonical order, so each reason takes one pass.
 
-ghost use Rattle.std.specs.Prelude.{◌≡◌, ◌≤◌, ◌+◌, length, filter, count_by, not, MatchOption};
+ghost use Rattle.std.specs.Prelude.{◌≡◌, ◌≤◌, ◌+◌, ◌==◌, length, filter, count_by, not, Some, MatchOption};
 ghost use Rattle.std.specs.List.{list_any};
 ghost use Rattle.std.specs.List.Sorted.{IsStrictlySortedBy};
 ghost use Rattle.dz_name.specs.Name.{wire_of, same_label};
 ghost use Rattle.dz_record.specs.Record.{record_order};
 ghost use Rattle.dz_zone.specs.Valid.{both_are};
 ghost use Rattle.dz_catalog.specs.Member.{is_node, is_coo, is_member};
+ghost use Rattle.dz_catalog.specs.inner.Count.{by_count};
 ghost use Rattle.dz_catalog.specs.Broken.{is_version, no_version, version_twice, other_version, version_name, version_2, twins, member_twice, coo_twice, broken_records};
 
 use crate::names::{is_coo, is_node};
 use dz_lookup::rrset_of;
-use dz_member::{Broken, Listing};
+use dz_member::Broken;
 use dz_name::dns::{TYPE_PTR, TYPE_TXT};
 use dz_name::{Label, Name};
 use dz_record::Rr;
 use dz_zone::Version;
 
-/// The first reason that holds of the records, of which so many are member records.
+/// The first reason that holds of the records, whatever the number of members is.
 #[tactic(auto, unfolding(crate::specs::Broken::broken_records))]
-pub(crate) fn broken_records(version: &Version, count: usize) -> Option<Broken>
-    requires { count ≡ count_by (is_member version.now.apex) version.now.records }
-    ensures { result ≡ broken_records version.now.apex version.now.records }
+pub(crate) fn broken_records(version: &Version) -> Option<Broken>
+    ensures { MatchOption result
+        (broken_records version.now.apex version.now.records
+        ≡ by_count version.now.apex version.now.records)
+        (λ broken. broken_records version.now.apex version.now.records ≡ Some broken) }
 {
     let apex = version.apex();
     let records = version.records();
@@ -35,8 +38,6 @@ pub(crate) fn broken_records(version: &Version, count: usize) -> Option<Broken>
         Some(Broken::MemberTwice)
     } else if coo_twice(apex, records) {
         Some(Broken::CooTwice)
-    } else if Listing::NODES < count {
-        Some(Broken::TooManyMembers)
     } else {
         None
     }
@@ -142,9 +143,9 @@ fn coo_twice(apex: &Name, records: &[Rr]) -> bool
     !records.is_sorted_by(|a, b| !coos_twin(apex, a, b))
 }
 
-/// How many member records there are.
-pub(crate) fn member_count(apex: &Name, records: &[Rr]) -> usize
-    ensures { result ≡ count_by (is_member apex.now) records.now }
+/// How many PTR records there are.
+pub(crate) fn pointer_count(records: &[Rr]) -> usize
+    ensures { result ≡ count_by (λ r. r.kind == TYPE_PTR) records.now }
 {
-    records.iter().filter(|r| is_member(apex, r)).count()
+    records.iter().filter(|r| r.kind() == TYPE_PTR).count()
 }

@@ -4,10 +4,11 @@ ghost use Rattle.std.specs.Prelude.{◌≡◌};
 ghost use Rattle.std.specs.List.Sorted.{IsStrictlySortedBy};
 ghost use Rattle.dz_record.specs.Record.{record_order};
 ghost use Rattle.dz_catalog.specs.Broken.{broken_records};
+ghost use Rattle.dz_catalog.specs.inner.Count.{by_count};
 ghost use Rattle.dz_catalog.specs.Listing.{Reads, listing_of};
 
 use crate::fault::CatalogError;
-use crate::judging::{broken_records, member_count};
+use crate::judging::broken_records;
 use crate::reading::nodes;
 use dz_member::{Broken, Listing};
 use dz_name::Name;
@@ -20,26 +21,24 @@ use std::alloc::Global;
 pub fn read_listing(alloc: Global, version: &Version) -> Result<Listing, CatalogError>
     ensures { Reads result (listing_of version.now.apex version.now.records) }
 {
-    let count = member_count(version.apex(), version.records());
-    match broken_records(version, count) {
+    match broken_records(version) {
         Some(broken) => Err(CatalogError::Broken(broken)),
-        None => read_nodes(alloc, version.apex(), version.records(), count),
+        None => read_nodes(alloc, version.apex(), version.records()),
     }
 }
 
-/// The listing of records with so many member records that no reason before the last breaks. Their nodes make no
-/// listing only where two name one zone.
-fn read_nodes(
-    alloc: Global,
-    apex: &Name,
-    records: &[Rr],
-    count: usize,
-) -> Result<Listing, CatalogError>
+/// The listing of records that no reason breaks but for the number of members and the zones. Nodes that aren't too many
+/// make no listing only where two name one zone.
+fn read_nodes(alloc: Global, apex: &Name, records: &[Rr]) -> Result<Listing, CatalogError>
     requires sorted { IsStrictlySortedBy record_order records.now }
-    requires unbroken { broken_records apex.now records.now ≡ None }
+    requires unbroken { broken_records apex.now records.now ≡ by_count apex.now records.now }
     ensures { Reads result (listing_of apex.now records.now) }
 {
-    match Listing::try_from_vec(alloc, nodes(alloc, apex, records, count)?)? {
+    let nodes = nodes(alloc, apex, records)?;
+    if Listing::NODES < nodes.len() {
+        return Err(CatalogError::Broken(Broken::TooManyMembers));
+    }
+    match Listing::try_from_vec(alloc, nodes)? {
         None => Err(CatalogError::Broken(Broken::ZoneTwice)),
         Some(listing) => Ok(listing),
     }

@@ -9,7 +9,7 @@ ghost use Rattle.dz_record.specs.Record.{record_order};
 ghost use Rattle.dz_catalog.specs.Member.{node_of, coo_name};
 ghost use Rattle.dz_catalog.specs.inner.Below.{below, is_at, coo_among, groups_among, node_among, node_behind};
 
-use crate::judging::is_member;
+use crate::judging::{is_member, pointer_count};
 use crate::names::{first_of, is_below, is_child, target_of};
 use dz_member::{KeptName, Node, Texts};
 use dz_name::dns::{TYPE_PTR, TYPE_TXT};
@@ -17,18 +17,13 @@ use dz_name::{Label, Name, NameRef, Octets};
 use dz_record::Rr;
 use std::alloc::{AllocError, Global};
 
-/// The member nodes, in the order of their labels, with room for so many at first. Each record is looked at a few times
-/// at most: what belongs to a node stands right behind it.
-pub(crate) fn nodes(
-    alloc: Global,
-    apex: &Name,
-    records: &[Rr],
-    count: usize,
-) -> Result<Vec<Node>, AllocError>
+/// The member nodes, in the order of their labels. Where none has two PTR records each record is looked at a few times at
+/// most: what belongs to a node stands right behind it.
+pub(crate) fn nodes(alloc: Global, apex: &Name, records: &[Rr]) -> Result<Vec<Node>, AllocError>
     requires { IsStrictlySortedBy record_order records.now }
     ensures { IfOk result (λ v. v.items ≡ filter_map (node_of apex.now records.now) records.now) }
 {
-    let mut nodes = Vec::with_capacity(alloc, count)?;
+    let mut nodes = Vec::with_capacity(alloc, pointer_count(records))?;
     'records: for (place, found) in records.iter().enumerate() {
         add(&mut nodes, alloc, apex, found, behind(records, place))?;
     }
