@@ -4,7 +4,7 @@ use mathlib.Core.List.{IsPrefix}
 pub use Rattle.logbook.specs.Pages.{Book}
 use Rattle.dz_history.specs.declared.entry.Entry.{Entry}
 
--- a note or a sight: a list of entries, and the book of the publisher whose list it was; each publisher has a book of its own
+-- a note or a sight: a list of entries, and the book of the publisher whose list it was; each publisher has its own
 pub record Page : Type 0 where
   pub list : List Entry
   pub book : Book

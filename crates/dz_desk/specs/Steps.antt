@@ -1,5 +1,5 @@
 -- Judge: each kind of atomic step keeps the rule.
-use Rattle.std.specs.Prelude.{ℕ, List, [], ◌∷◌, Option, None}
+use Rattle.std.specs.Prelude.{ℕ, [], ◌∷◌, Option, None}
 use Rattle.crossbeam_utils.specs.Register.{Admits, TurnsAt, Turns, Forks, Merges}
 use Rattle.dz_desk.specs.Seen.{Page, Goes}
 use Rattle.dz_desk.specs.Rule.{Keeps, Sees}

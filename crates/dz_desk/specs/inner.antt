@@ -1,2 +1,3 @@
 -- Inner: how the code keeps the published list.
+pub mod Kept
 pub mod Ledger

@@ -1,5 +1,5 @@
-//! The published list as the log of a book, which exists in proofs alone. What threads share of it at run time is one word,
-//! the length of the list.
+//! The published list as the log of a book, which exists in proofs alone. What threads share of it at run time is one
+//! word, the length of the list.
 
 use dz_history::Entry;
 use logbook::{Gain, Plain, Play, Rule, Seen, Word};

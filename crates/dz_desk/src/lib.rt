@@ -1,5 +1,5 @@
-//! Published versions of the list of taken transfers: one publisher, and readings that look without a lock. The list that a
-//! reading has seen begins the published list, and never gets shorter.
+//! Published lists of taken transfers: one publisher, and readings that look without a lock. The list that a reading
+//! has seen begins the published list, and never gets shorter.
 #![tactic(auto)]
 
 mod board;

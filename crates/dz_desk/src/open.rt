@@ -55,8 +55,8 @@ pub fn open_desk<R: Wait>(rt: &R, alloc: Global, readers: u8) -> Result<Desk, De
     }
 }
 
-/// A publisher with room for so many readings. The list without an entry is published once, which makes the room that later
-/// lists want.
+/// A publisher with room for so many readings. The list without an entry is published once, which makes the room that
+/// later lists want.
 fn open_publisher<R: Wait>(rt: &R, alloc: Global, readers: u8) -> Result<Publisher, AllocError>
     requires { 0 < readers }
     ensures { IfOk result (λ p. (p.list ≡ []) × (p.staged ≡ None)) }

@@ -1,6 +1,6 @@
 //! The end that publishes.
 
-ghost use Rattle.std.specs.Prelude.{◌≡◌, ◌+◌, ◌-◌, ◌^◌, ◌<◌, [], ◌∷◌, ◌++◌, length, Some, None, IsSome, IfOk, MatchResult};
+ghost use Rattle.std.specs.Prelude.{◌≡◌, ◌+◌, ◌-◌, ◌^◌, ◌<◌, [], ◌∷◌, ◌++◌, length, Some, None, IsSome, IfOk, IfErr};
 ghost use mathlib.Core.List.{IsPrefix};
 ghost use Rattle.dz_history.specs.After.{after};
 ghost use Rattle.dz_history.specs.Legal.{IsLegal};
@@ -17,8 +17,8 @@ use std::alloc::AllocError;
 use std::marker::Model;
 use std::sync::Wait;
 
-/// The one end of a desk that publishes. Contracts see the published list, the list that is staged to be published next, and
-/// its book. It can't be dropped: `close` ends it.
+/// The one end of a desk that publishes. Contracts see the published list, the list that is staged to be published
+/// next, and its book. It can't be dropped: `close` ends it.
 pub struct Publisher {
     pub(crate) writer: Showing,
     pub(crate) word: Length,
@@ -26,16 +26,16 @@ pub struct Publisher {
 }
 
 impl Model for Publisher {
-    ghost use Rattle.std.specs.Prelude.{◌≡◌, [], drop, Some, IfSome, option_map};
+    ghost use Rattle.std.specs.Prelude.{drop};
     ghost use Rattle.left_right.specs.Sides.{view as last_seen};
-    ghost use Rattle.dz_desk.specs.Seen.{Published, Goes};
-    ghost use Rattle.dz_desk.specs.inner.Ledger.{length_of};
+    ghost use Rattle.dz_desk.specs.Seen.{Published};
+    ghost use Rattle.dz_desk.specs.inner.Kept.{published, IsKept};
 
     ghost Value = { Published };
 
-    ghost view = { λ p. record { list = p.writer.desk.shown.value.list; staged = option_map (λ next. next.list) p.staged; book = p.writer.desk.shown.value.book } };
+    ghost view = { λ p. published p.writer.desk.shown.value p.staged };
 
-    ghost invariant = { λ p. (last_seen p.writer.desk.place ≡ Some p.writer.desk.shown.value) × (drop p.writer.behind p.writer.log.items ≡ []) × (p.word ≡ length_of p.writer.desk.shown.value.book) × IfSome p.staged (λ next. Goes p.writer.desk.shown.value next) };
+    ghost invariant = { λ p. IsKept (last_seen p.writer.desk.place) (drop p.writer.behind p.writer.log.items) p.word p.writer.desk.shown.value p.staged };
 }
 
 impl Publisher {
@@ -58,14 +58,15 @@ impl Publisher {
         self.writer.published().told().count()
     }
 
-    /// Puts a step in place, to be published next. The step comes back, and nothing has changed, where the list isn't as long as
-    /// this publisher left it, which can't come about at run time.
+    /// Puts a step in place, to be published next. The step comes back, and nothing has changed, where the list isn't
+    /// as long as this publisher left it, which can't come about at run time.
     pub fn stage(&mut self, step: Step) -> Result<(), Step>
         requires free { self.old.staged ≡ None }
         requires room { length self.old.list < 2 ^ 64 - 1 }
         requires legal { IsLegal (self.old.list ++ step.entry ∷ []) }
         requires table { step.table.value ≡ (after (self.old.list ++ step.entry ∷ [])).table }
-        ensures { MatchResult result (λ _. self.new ≡ record self.old { staged = Some (self.old.list ++ step.entry ∷ []) }) (λ back. (back ≡ step) × (self.new ≡ self.old)) }
+        ensures staged { IfOk result (λ _. self.new ≡ record self.old { staged = Some (self.old.list ++ step.entry ∷ []) }) }
+        ensures back { IfErr result (λ back. (back ≡ step) × (self.new ≡ self.old)) }
     {
         let told = self.writer.published().told();
         let Some(next) = told.and(&self.word, &step.entry) else {
@@ -77,8 +78,8 @@ impl Publisher {
         Ok(())
     }
 
-    /// Publishes the step that is staged, and gives a note of the list. It waits for readings that look at the list before the
-    /// last one, and for memory.
+    /// Publishes the step that is staged, and gives a note of the list. It waits for readings whose sight is older than
+    /// the last publish, and for memory.
     pub fn publish<R: Wait>(&mut self, rt: &R) -> Told
         requires { IsSome self.old.staged }
         ensures list { self.old.staged ≡ Some self.new.list }

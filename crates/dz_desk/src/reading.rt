@@ -6,6 +6,7 @@ ghost use Rattle.left_right.specs.Sides.{view as last_seen};
 ghost use Rattle.dz_history.specs.After.{after};
 ghost use Rattle.dz_history.specs.Legal.{IsLegal};
 ghost use Rattle.dz_desk.specs.Seen.{Goes, shown, refused};
+ghost use Rattle.dz_desk.specs.inner.Kept.{viewed};
 
 use crate::board::{Board, Last, Look};
 use crate::edition::Edition;
@@ -22,7 +23,7 @@ pub(crate) type Seat = Reader<Edition, Last, Board>;
 /// A seat, while it looks.
 type Looking = reader::Reading<Edition, Last, Board>;
 
-/// A list in sight. Contracts see the list, and the book of its publisher. It can't be dropped: `Reading::leave` ends it.
+/// A list in sight. Contracts see the list, and its publisher's book. It can't be dropped: `Reading::leave` ends it.
 pub struct Sight {
     looking: Looking,
 }
@@ -52,8 +53,8 @@ impl Sight {
     }
 }
 
-/// An end that looks at the published list, without waiting for anybody. Contracts see the list that it has seen, whether a
-/// sight of it is out, its counts of looks, and the book of its publisher.
+/// An end that looks at the published list, without waiting for anybody. Contracts see the list that it has seen,
+/// whether a sight of it is out, its counts of looks, and its publisher's book.
 #[derive(Drop)]
 pub struct Reading {
     seat: Option<Seat>,
@@ -66,10 +67,11 @@ impl Model for Reading {
     ghost use Rattle.std.specs.Prelude.{◌≡◌, is_none, Some, IfSome};
     ghost use Rattle.left_right.specs.Sides.{view as last_seen};
     ghost use Rattle.dz_desk.specs.Seen.{Viewed};
+    ghost use Rattle.dz_desk.specs.inner.Kept.{viewed};
 
     ghost Value = { Viewed };
 
-    ghost view = { λ r. record { list = r.seen.list; is_out = is_none r.seat; sights = r.sights; refusals = r.refusals; book = r.seen.book } };
+    ghost view = { λ r. viewed r.seen (is_none r.seat) r.sights r.refusals };
 
     ghost invariant = { λ r. IfSome r.seat (λ seat. last_seen seat.place ≡ Some r.seen) };
 }
@@ -78,7 +80,7 @@ impl Reading {
     /// A reading that has seen what its seat saw last, and has not looked yet.
     pub(crate) fn new(seat: Seat, seen: Told) -> Reading
         requires { last_seen seat.place ≡ Some seen }
-        ensures { result ≡ record { list = seen.list; is_out = false; sights = 0; refusals = 0; book = seen.book } }
+        ensures { result ≡ viewed seen false 0 0 }
     {
         Reading {
             seat: Some(seat),
@@ -118,12 +120,13 @@ impl Reading {
         told.has(&self.seen)
     }
 
-    /// Looks at the published list, which may be seen as it was at an earlier time, but not before what was seen. None names no
-    /// cause; it comes after the publisher's end.
+    /// Looks at the published list. It may see it as it was at an earlier time, but no shorter than it saw it before.
+    /// None names no cause; it comes after the publisher's end.
     pub fn see(&mut self) -> Option<Sight>
         requires { self.old.is_out ≡ false }
         ensures seen { IsPrefix self.old.list self.new.list }
-        ensures some { IfSome result (λ s. (s.list ≡ self.new.list) × (s.book ≡ self.new.book) × (self.new ≡ shown self.old self.new.list)) }
+        ensures sight { IfSome result (λ s. (s.list ≡ self.new.list) × (s.book ≡ self.new.book)) }
+        ensures some { IfSome result (λ _. self.new ≡ shown self.old self.new.list) }
         ensures none { IfNone result (self.new ≡ refused self.old) }
     {
         let Reading {
@@ -159,7 +162,8 @@ impl Reading {
         self.seat = Some(looking.leave());
     }
 
-    /// Sees all that was told, and waits until it has. Its looks aren't counted. After the publisher's end it may wait for ever.
+    /// Sees all that was told, and waits until it has. Its looks aren't counted. After the publisher's end it may wait
+    /// for ever.
     pub fn learn<R: Wait>(&mut self, rt: &R, told: Told)
         requires out { self.old.is_out ≡ false }
         requires own { told.book ≡ self.old.book }

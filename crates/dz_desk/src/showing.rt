@@ -3,6 +3,7 @@
 ghost use Rattle.std.specs.Prelude.{◌≡◌, [], ◌∷◌, ◌++◌, drop, Some};
 ghost use Rattle.left_right.specs.Sides.{view};
 ghost use Rattle.dz_desk.specs.Seen.{Goes};
+ghost use Rattle.dz_desk.specs.inner.Kept.{HasNext};
 
 use crate::board::{Board, Last, Look};
 use crate::edition::Edition;
@@ -28,7 +29,7 @@ pub(crate) fn show<R: Wait>(rt: &R, writer: &mut Showing, next: Edition)
         rt,
         |writer: Showing, rt: &R| -> (Showing, ())
             requires last { view writer.desk.place ≡ Some writer.desk.shown.value }
-            requires next { (next : _) × (drop writer.behind writer.log.items ≡ next ∷ []) × Goes writer.desk.shown.value next }
+            requires next { HasNext writer.desk.shown.value (drop writer.behind writer.log.items) }
             ensures last { view result.0.desk.place ≡ Some result.0.desk.shown.value }
             ensures shown { drop writer.behind writer.log.items ≡ result.0.desk.shown.value ∷ [] }
             ensures rest { drop result.0.behind result.0.log.items ≡ [] }
@@ -51,11 +52,11 @@ fn put<R: Wait>(rt: &R, writer: &mut Showing, next: Edition)
     unreachable!()
 }
 
-/// Turns to the edition that was put behind the one that is shown; where one more owner of its table can't be counted it tries
-/// again.
+/// Turns to the edition that was put behind the one that is shown; where one more owner of its table can't be counted
+/// it tries again.
 fn turn<R: Wait>(rt: &R, writer: Showing) -> Showing
     requires last { view writer.desk.place ≡ Some writer.desk.shown.value }
-    requires next { (next : _) × (drop writer.behind writer.log.items ≡ next ∷ []) × Goes writer.desk.shown.value next }
+    requires next { HasNext writer.desk.shown.value (drop writer.behind writer.log.items) }
     ensures last { view result.desk.place ≡ Some result.desk.shown.value }
     ensures shown { drop writer.behind writer.log.items ≡ result.desk.shown.value ∷ [] }
     ensures rest { drop result.behind result.log.items ≡ [] }

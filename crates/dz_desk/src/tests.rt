@@ -94,7 +94,8 @@ fn take(rt: &impl Abort, readings: &mut Vec<Reading>, publisher: &Publisher) -> 
 /// Publishes the first entry.
 fn publish<R: Abort + Wait>(rt: &R, alloc: Global, publisher: &mut Publisher) -> Told
     requires { (publisher.old.list ≡ []) × (publisher.old.staged ≡ None) }
-    ensures { (publisher.new.book ≡ publisher.old.book) × (result.book ≡ publisher.old.book) × (result.list ≡ publisher.new.list) }
+    ensures book { publisher.new.book ≡ publisher.old.book }
+    ensures told { (result.list ≡ publisher.new.list) × (result.book ≡ publisher.old.book) }
 {
     match publisher.stage(first_step(rt, alloc)) {
         Ok(()) => publisher.publish(rt),

@@ -12,8 +12,8 @@ use logbook::{Offer, Seen, Start, Word};
 use std::marker::Model;
 use std::mem::size_of;
 
-/// A note of a publisher's list as it was. Contracts see that list, and the publisher's book. It may go to another thread, and
-/// may be dropped.
+/// A note of a publisher's list as it was. Contracts see that list, and the publisher's book. It may go to another
+/// thread, and may be dropped.
 #[derive(Drop)]
 pub struct Told {
     count: u64,
