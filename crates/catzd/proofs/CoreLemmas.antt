@@ -91,7 +91,7 @@ taken_so c d number now octets read job verdict text is so said =
     let lines : verdict_lines job.flight.zone (verdict_of c job octets) ≡ text = ap (verdict_lines job.flight.zone) (sym (verdict_same c job octets read is) ∙ sym so.0) ∙ sym said in
     ap (λ (t : Octets). told t (settled c job octets now)) lines ∙ ap (λ (d : Core). told text d) same
 
-taken_turn : (c d : Core) (number now : ℕ) (octets read : Octets) (job : JobOf) (verdict : Verdict) (text : Octets) → IsReadOf (transfer_for job) octets read → IsOffered c job read now verdict d → verdict ≢ OutOfMemory
+pub taken_turn : (c d : Core) (number now : ℕ) (octets read : Octets) (job : JobOf) (verdict : Verdict) (text : Octets) → IsReadOf (transfer_for job) octets read → IsOffered c job read now verdict d → verdict ≢ OutOfMemory
     → text ≡ verdict_lines job.flight.zone verdict → take_turn c number now octets (Some job) ≡ goes_on text (running d)
 taken_turn c d number now octets read job OutOfMemory text is so room said = absurd (room refl)
 taken_turn c d number now octets read job (Published position serial aftermath) text is so room said = taken_so c d number now octets read job (Published position serial aftermath) text is so said

@@ -77,3 +77,10 @@ done_leaves rules before start input (Ok endings.BadInput) state left held after
 done_leaves rules before start input (Err errors.Read) state left held after run is = cc
 done_leaves rules before start input (Err errors.Write) state left held after run is = cc
 done_leaves rules before start input (Err errors.OutOfMemory) state left held after run is = cc
+
+-- after Done the state is the script's last one
+pub done_state : {S : Type 0} (rules : Rules S End) (start : S) (input : Octets) (result : Result End ScriptError) (state : S) (left held after : Option Octets) → IsRun rules start input result state left held after → status_of result ≡ Done → state ≡ (said_of rules start input).state
+done_state rules start input (Ok ending) state left held after run is = sym run.0.1
+done_state rules start input (Err errors.Read) state left held after run is = absurd (cc is)
+done_state rules start input (Err errors.Write) state left held after run is = absurd (cc is)
+done_state rules start input (Err errors.OutOfMemory) state left held after run is = absurd (cc is)

@@ -2,8 +2,10 @@ pub mod AnswerLemmas
 pub mod CoreLemmas
 pub mod EndLemmas
 pub mod FlightLemmas
+pub mod KeptLemmas
 pub mod MomentLemmas
 pub mod OpeningLemmas
 pub mod PhaseLemmas
 pub mod ReplayLemmas
+pub mod StepLemmas
 pub mod TakingLemmas

@@ -1,8 +1,10 @@
 pub mod Examples
 pub mod Answering
 pub mod Flight
+pub mod Kept
 pub mod Phase
 pub mod Replaying
 pub mod Running
+pub mod Taken
 pub mod Words
 pub mod ZoneLine

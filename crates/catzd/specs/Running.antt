@@ -1,8 +1,12 @@
 -- Meaning: how the program ends.
-use Rattle.std.specs.Prelude.{◌≡◌, ◌≢◌, ◌≤◌, ◌⊎◌, ⊤, ℕ, [], codes, Option, None, Result, Ok, Err}
+use Rattle.std.specs.Prelude.{◌≡◌, ◌≢◌, ◌≤◌, ◌⊎◌, ⊤, ℕ, List, [], length, codes, Option, None, Result, Ok, Err}
 use Rattle.dz_io.specs.Counts.{HasRisen}
 use Rattle.dz_io.specs.Device.{Gains, GainsPrefix}
-use Rattle.dz_io.specs.Run.{IsRun}
+use Rattle.std.specs.List.{All}
+use Rattle.dz_io.specs.Run.{IsRun, said_of}
+use Rattle.dz_history.specs.declared.entry.Entry.{Entry}
+use Rattle.dz_desk.specs.Seen.{Published, Viewed, IsFresh}
+use Rattle.catzd.specs.Kept.{list_in}
 use Rattle.dz_io.specs.declared.run.ScriptError.{ScriptError}
 use Rattle.dz_io.specs.declared.run.ScriptError.TheVariants as errors
 use Rattle.catzd.specs.Answering.{State, answer_rules}
@@ -31,6 +35,17 @@ Answers input status left before after = (result : Result End ScriptError) × (s
 -- the same of `replay`
 abbrev pub Replays : Octets → Status → Option Octets → Option Octets → Option Octets → Type 0
 Replays input status left before after = (result : Result End ScriptError) × (state : replaying.State) × (status ≡ status_of result) × IsRun replay_rules (opening []) input result state left before after
+
+-- the list that the events of a script make
+abbrev pub list_of_script : Octets → List Entry
+list_of_script input = list_in (said_of replay_rules (opening []) input).state
+
+-- a desk of six readings at which nothing was published
+pub record IsNewDesk (end : Published) (readings : List Viewed) : Type 0 where
+  pub list : end.list ≡ []
+  pub staged : end.staged ≡ None
+  pub six : length readings ≡ 6
+  pub fresh : All (IsFresh end.book) readings
 
 -- a text was written and the status is this one, or the write failed behind a prefix of the text
 abbrev pub Says : Octets → Status → Status → Option Octets → Option Octets → Type 0

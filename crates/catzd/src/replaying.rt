@@ -1,118 +1,146 @@
-//! What `replay` does with a line: it reads a configuration, and then takes each event at its moment.
+//! The command `replay`: it reads a configuration, and then takes each event at its moment.
 
-ghost use Rattle.std.specs.Prelude.{◌≡◌, ◌<◌, ◌^◌, Some, None, [], IfOk};
-ghost use Rattle.catzd.specs.Answering.{turn_from};
-ghost use Rattle.catzd.specs.Phase.{HasBegun, IsTimed};
-ghost use Rattle.catzd.specs.Replaying.{opening, bad_line, catalog_line, group_line, event_line, line_turn, replay_turn, has_catalog, is_opening};
+ghost use Rattle.std.specs.Prelude.{◌≡◌, ◌⊎◌, ◌<◌, ◌^◌, ◌∷◌, ℕ, Some, None, [], true, false, IsSome, IfSome, OnOk, OnErr, option_map};
+ghost use Rattle.dz_fleet.specs.Core.{Core};
+ghost use Rattle.catzd.specs.Answering.{bad};
+ghost use Rattle.catzd.specs.Phase.{IsTimed};
+ghost use Rattle.catzd.specs.Replaying.{State, opening, running, replay_rules, replay_turn, catalog_line, group_line, event_line, event_turn, line_turn, bad_line, left};
+ghost use Rattle.catzd.specs.Kept.{IsResting, IsClosed, HasTurned, HasEnded, HasBegun, HasConfig, HasRun, IsRunning};
+ghost use Rattle.catzd.specs.Taken.{CanStart};
 
-use crate::answering::{Saying, say_bad};
-use crate::events::Running;
+use crate::answering::End;
+use crate::ends::Ends;
+use crate::events::{Running, Took};
 use crate::opening::Opening;
+use crate::script::put_bad;
+use dz_fleet::Fleet;
 use dz_header::ReplyBuffer;
+use dz_io::{Script, Sink, TurnError};
 use dz_member::{CatalogSettings, GroupSettings};
 use dz_name::Name;
+use dz_provision::Naming;
 use dz_script::{Event, Line, LineError, read_line};
 use std::alloc::{AllocError, Global};
 use std::marker::Model;
+use std::snapshot::Snapshot;
+use std::sync::Wait;
 
-/// The configuration until the first event, then the core with its jobs in flight; and the room for replies. It is spent by
-/// [`Replaying::close`].
-pub struct Replaying {
+/// The configuration until the first event; then the provisioner; and after a bad line the ends again, beside what contracts
+/// see of the core. It is ended by [`Replaying::close`].
+pub struct Replaying<'a, R, K: Sink, J: Naming> {
+    rt: &'a R,
     opening: Opening,
-    running: Option<Running>,
+    ends: Option<Ends<K>>,
+    running: Option<Running<K, J>>,
+    last: Option<Snapshot<Fleet>>,
+    is_over: bool,
     buffer: ReplyBuffer,
 }
 
-impl Model for Replaying {
-    ghost use Rattle.catzd.specs.Phase.{state_in};
-    ghost use Rattle.catzd.specs.Replaying.{State};
+impl<'a, R, K: Sink, J: Naming> Model for Replaying<'a, R, K, J> {
+    ghost use Rattle.std.specs.Prelude.{option_map};
+    ghost use Rattle.catzd.specs.Kept.{Shown, shown, IsKept};
 
-    ghost Value = { State };
+    ghost Value = { Shown };
 
-    ghost view = { λ r. state_in r.opening r.running };
+    ghost view = { λ r. shown r.opening r.running (option_map (λ s. s.value) r.last)
+        (option_map (λ e. K.held e.output) r.ends) (option_map (λ e. K.faults e.output) r.ends) r.is_over };
+
+    ghost invariant = { λ r. IsKept J.publisher r.running (option_map (λ s. s.value) r.last)
+        (option_map (λ e. e.publisher) r.ends) (option_map (λ e. e.reading) r.ends)
+        (option_map (λ e. K.held e.output) r.ends) (option_map (λ e. K.faults e.output) r.ends) r.is_over };
 }
 
-impl Replaying {
+impl<'a, R: Wait, K: Sink, J: Naming> Replaying<'a, R, K, J> {
     /// Nothing was read.
-    pub fn new(alloc: Global, buffer: ReplyBuffer) -> Replaying
-        ensures { result ≡ opening [] }
+    pub fn new(
+        rt: &'a R,
+        alloc: Global,
+        ends: Ends<K>,
+        buffer: ReplyBuffer,
+    ) -> Replaying<'a, R, K, J>
+        requires { CanStart J.publisher (K.held ends.output) (K.faults ends.output) ends.publisher ends.reading }
+        ensures { result ≡ record {
+          state = opening [];
+          written = K.held ends.output;
+          faults = K.faults ends.output;
+          is_over = false;
+        } }
     {
         Replaying {
+            rt,
             opening: Opening::new(alloc),
+            ends: Some(ends),
             running: None,
+            last: None,
+            is_over: false,
             buffer,
         }
     }
 
-    /// Lets the jobs go that are left.
-    pub fn close(self) {
+    /// Lets the jobs go that are left, and gives back the ends.
+    pub fn close(self) -> Ends<K>
+        ensures written { K.held result.output ≡ self.entry.written }
+        ensures faults { K.faults result.output ≡ self.entry.faults }
+        ensures ends { IsResting J.publisher self.entry.state result.publisher result.reading }
+    {
         let Replaying {
-            opening,
+            ends,
             running,
-            buffer,
+            rt: _,
+            opening: _,
+            last: _,
+            is_over: _,
+            buffer: _,
         } = self;
-        drop(opening);
-        drop(buffer);
-        if let Some(running) = running {
-            running.close();
+        match running {
+            None => some_of(ends),
+            Some(running) => {
+                let (fleet, back) = running.close();
+                drop(fleet);
+                beside_none(ends, back)
+            }
         }
     }
 
-    /// Whether there is a catalog.
-    pub fn has_catalog(&self) -> bool
-        ensures { result ≡ has_catalog self.now }
-    {
-        self.running.is_some() || !self.opening.is_empty()
-    }
-
-    /// Whether no event came yet.
-    fn is_opening(&self) -> bool
-        ensures { result ≡ is_opening self.now }
-    {
-        self.running.is_none()
-    }
-
-    /// Takes a line: what it says, and how it ends the input if it does.
+    /// Takes a line.
     #[tactic(auto, unfolding(crate::specs::Replaying::replay_turn, crate::specs::Replaying::line_turn))]
-    pub fn take_line(
+    fn take_line(
         &mut self,
         alloc: Global,
         number: u64,
         line: &[u8],
-    ) -> Result<Saying, AllocError>
-        ensures { IfOk result (λ s. replay_turn self.old number line.now
-            ≡ turn_from s.text.items s.ending self.new) }
+    ) -> Result<Option<End>, TurnError>
+        requires { self.old.is_over ≡ false }
+        ensures { HasTurned (replay_turn self.old.state number line.now) self.old result self.new }
     {
         match read_line(alloc, line) {
-            Err(LineError::OutOfMemory) => Err(AllocError),
-            Err(LineError::BadLine) => self.end_badly(alloc, number),
+            Err(error) => match error {
+                LineError::OutOfMemory => Err(TurnError::OutOfMemory),
+                LineError::BadLine => self.end_badly(alloc, number),
+            },
             Ok(line) => self.take_read(alloc, number, line),
         }
     }
 
     /// Takes a line that has one of the forms.
     #[tactic(auto, unfolding(crate::specs::Replaying::line_turn))]
-    fn take_read(&mut self, alloc: Global, number: u64, line: Line) -> Result<Saying, AllocError>
-        requires { IsTimed line }
-        ensures { IfOk result (λ s. line_turn self.old number (Some line)
-            ≡ turn_from s.text.items s.ending self.new) }
+    fn take_read(
+        &mut self,
+        alloc: Global,
+        number: u64,
+        line: Line,
+    ) -> Result<Option<End>, TurnError>
+        requires timed { IsTimed line }
+        requires goes { self.old.is_over ≡ false }
+        ensures { HasTurned (line_turn self.old.state number (Some line)) self.old result self.new }
     {
         match line {
-            Line::Skip => Ok(nothing(alloc)),
+            Line::Skip => Ok(None),
             Line::Catalog(settings) => self.take_catalog(alloc, number, settings),
             Line::Group(name, group) => self.take_group(alloc, number, name, group),
             Line::Event { moment, event } => self.take_event(alloc, number, moment, event),
         }
-    }
-
-    /// A bad line.
-    fn end_badly(&mut self, alloc: Global, number: u64) -> Result<Saying, AllocError>
-        ensures { IfOk result (λ s. bad_line self.old number ≡ turn_from s.text.items s.ending self.new) }
-    {
-        if self.is_opening() {
-            self.opening = Opening::new(alloc);
-        }
-        say_bad(alloc, number)
     }
 
     /// A line of a catalog.
@@ -121,17 +149,17 @@ impl Replaying {
         alloc: Global,
         number: u64,
         settings: CatalogSettings,
-    ) -> Result<Saying, AllocError>
-        ensures { IfOk result (λ s. catalog_line self.old number settings
-            ≡ turn_from s.text.items s.ending self.new) }
+    ) -> Result<Option<End>, TurnError>
+        requires { self.old.is_over ≡ false }
+        ensures { HasTurned (catalog_line self.old.state number settings) self.old result self.new }
     {
-        if !self.is_opening() {
-            return say_bad(alloc, number);
+        if self.running.is_some() {
+            return self.end_badly(alloc, number);
         }
-        if self.opening.add_catalog(alloc, settings)? {
-            Ok(nothing(alloc))
-        } else {
-            say_bad(alloc, number)
+        match self.opening.add_catalog(alloc, settings) {
+            Err(_) => Err(TurnError::OutOfMemory),
+            Ok(true) => Ok(None),
+            Ok(false) => self.end_badly(alloc, number),
         }
     }
 
@@ -142,17 +170,17 @@ impl Replaying {
         number: u64,
         name: Name,
         group: GroupSettings,
-    ) -> Result<Saying, AllocError>
-        ensures { IfOk result (λ s. group_line self.old number name group
-            ≡ turn_from s.text.items s.ending self.new) }
+    ) -> Result<Option<End>, TurnError>
+        requires { self.old.is_over ≡ false }
+        ensures { HasTurned (group_line self.old.state number name group) self.old result self.new }
     {
-        if !self.is_opening() {
-            return say_bad(alloc, number);
+        if self.running.is_some() {
+            return self.end_badly(alloc, number);
         }
-        if self.opening.add_group(alloc, &name, group)? {
-            Ok(nothing(alloc))
-        } else {
-            say_bad(alloc, number)
+        match self.opening.add_group(alloc, &name, group) {
+            Err(_) => Err(TurnError::OutOfMemory),
+            Ok(true) => Ok(None),
+            Ok(false) => self.end_badly(alloc, number),
         }
     }
 
@@ -163,44 +191,222 @@ impl Replaying {
         number: u64,
         moment: u64,
         event: Event,
-    ) -> Result<Saying, AllocError>
-        requires { moment < 2 ^ 40 }
-        ensures { IfOk result (λ s. event_line self.old number moment event
-            ≡ turn_from s.text.items s.ending self.new) }
+    ) -> Result<Option<End>, TurnError>
+        requires moment { moment < 2 ^ 40 }
+        requires goes { self.old.is_over ≡ false }
+        ensures { HasTurned (event_line self.old.state number moment event) self.old result self.new }
     {
-        self.begin(alloc)?;
-        match &mut self.running {
-            None => say_bad(alloc, number),
-            Some(running) => running.take_event(alloc, number, moment, &event, &mut self.buffer),
+        if self.running.is_some() {
+            return self.go_on(alloc, number, moment, event);
+        }
+        if self.opening.is_empty() {
+            return self.end_badly(alloc, number);
+        }
+        match self.begin(alloc) {
+            Err(_) => Err(TurnError::OutOfMemory),
+            Ok(()) => self.go_on(alloc, number, moment, event),
         }
     }
 
-    /// Begins with the configuration, unless it has begun, or there is none: whether it has begun.
-    fn begin(&mut self, alloc: Global) -> Result<bool, AllocError>
-        ensures { IfOk result (λ goes. HasBegun self.old goes self.new) }
+    /// A further event.
+    fn go_on(
+        &mut self,
+        alloc: Global,
+        number: u64,
+        moment: u64,
+        event: Event,
+    ) -> Result<Option<End>, TurnError>
+        requires moment { moment < 2 ^ 40 }
+        requires goes { self.old.is_over ≡ false }
+        requires runs { IsRunning self.old.state }
+        ensures { (c : Core) → self.old.state ≡ running c →
+            HasTurned (event_turn c number moment event) self.old result self.new }
     {
-        if self.running.is_some() {
-            return Ok(true);
+        match self.run_event(alloc, moment, &event) {
+            Err(error) => Err(error),
+            Ok(took) => match took {
+                Took::Done => Ok(None),
+                Took::Bad => self.end_badly(alloc, number),
+            },
         }
-        if self.opening.is_empty() {
-            return Ok(false);
+    }
+
+    /// Begins with the configuration.
+    fn begin(&mut self, alloc: Global) -> Result<(), AllocError>
+        requires goes { self.old.is_over ≡ false }
+        requires some { HasConfig self.old.state }
+        ensures ok { OnOk result (HasBegun self.old self.new) }
+        ensures err { OnErr result ((self.new.written ≡ self.old.written) × (self.new.faults ≡ self.old.faults)) }
+    {
+        let config = self.opening.take(alloc);
+        match Running::start(self.rt, alloc, config, some_of(self.ends.take())) {
+            Ok(running) => {
+                put(&mut self.running, running);
+                Ok(())
+            }
+            Err(ends) => {
+                put(&mut self.ends, ends);
+                self.is_over = true;
+                Err(AllocError)
+            }
         }
-        let running = Running::start(alloc, self.opening.take(alloc))?;
-        match self.running.replace(running) {
-            None => {}
-            Some(old) => old.close(),
+    }
+
+    /// Runs an event.
+    fn run_event(
+        &mut self,
+        alloc: Global,
+        moment: u64,
+        event: &Event,
+    ) -> Result<Took, TurnError>
+        requires moment { moment < 2 ^ 40 }
+        requires goes { self.old.is_over ≡ false }
+        requires runs { IsRunning self.old.state }
+        ensures { (c : Core) → self.old.state ≡ running c →
+            (number : ℕ) → HasRun (event_turn c number moment event.now) number self.old result self.new }
+    {
+        match &mut self.running {
+            None => unreachable!(),
+            Some(running) => {
+                if running.has_failed() {
+                    return Err(TurnError::OutOfMemory);
+                }
+                running.take_event(self.rt, alloc, moment, event, &mut self.buffer)
+            }
         }
-        Ok(true)
+    }
+
+    /// A bad line. A configuration is let go.
+    fn end_badly(&mut self, alloc: Global, number: u64) -> Result<Option<End>, TurnError>
+        requires { self.old.is_over ≡ false }
+        ensures { HasTurned (bad_line self.old.state number) self.old result self.new }
+    {
+        self.let_go(alloc);
+        match self.end_at(alloc, number) {
+            Ok(end) => Ok(Some(end)),
+            Err(error) => Err(error),
+        }
+    }
+
+    /// Lets a configuration go.
+    fn let_go(&mut self, alloc: Global)
+        requires { self.old.is_over ≡ false }
+        ensures { self.new ≡ record self.old { state = left self.old.state } }
+    {
+        if self.running.is_none() {
+            self.opening = Opening::new(alloc);
+        }
+    }
+
+    /// Ends at the line of a number, and says that it is bad.
+    fn end_at(&mut self, alloc: Global, number: u64) -> Result<End, TurnError>
+        ensures { HasEnded (bad number) self.old result self.new }
+    {
+        self.is_over = true;
+        let mut ends = ends_of(&mut self.ends, &mut self.running, &mut self.last);
+        let ended = put_bad(alloc, number, &mut ends.output);
+        put(&mut self.ends, ends);
+        ended
     }
 }
 
-/// Says nothing, and goes on.
-fn nothing(alloc: Global) -> Saying
-    ensures text { result.text.items ≡ [] }
-    ensures ending { result.ending ≡ None }
+impl<'a, R: Wait, K: Sink, J: Naming> Script for Replaying<'a, R, K, J> {
+    type Ending = End;
+
+    ghost States = { State };
+
+    ghost state = { λ r. r.state };
+
+    ghost held = { λ r. r.written };
+
+    ghost faults = { λ r. r.faults };
+
+    ghost Others = { Unit {0} };
+
+    ghost beside = { λ _. tt };
+
+    ghost rules = { replay_rules };
+
+    // a script that has ended takes nothing
+    fn turn(&mut self, alloc: Global, number: u64, line: &[u8]) -> Result<Option<End>, TurnError> {
+        if self.is_over {
+            Err(TurnError::OutOfMemory)
+        } else {
+            self.take_line(alloc, number, line)
+        }
+    }
+
+    fn too_long(&mut self, alloc: Global, number: u64) -> Result<End, TurnError> {
+        self.end_at(alloc, number)
+    }
+
+    fn finish(&mut self, alloc: Global, number: u64) -> Result<End, TurnError> {
+        if self.is_over {
+            return Err(TurnError::OutOfMemory);
+        }
+        if self.running.is_some() {
+            return Ok(End::Done);
+        }
+        if self.opening.is_empty() {
+            return self.end_at(alloc, number);
+        }
+        Ok(End::Done)
+    }
+}
+
+/// The ends, which are kept or are the provisioner's.
+fn ends_of<K: Sink, J: Naming>(
+    ends: &mut Option<Ends<K>>,
+    running: &mut Option<Running<K, J>>,
+    last: &mut Option<Snapshot<Fleet>>,
+) -> Ends<K>
+    requires one { (IsSome ends.old × (running.old ≡ None)) ⊎ ((ends.old ≡ None) × IsSome running.old) }
+    ensures none { (ends.new ≡ None) × (running.new ≡ None) }
+    ensures kept { running.old ≡ None → (ends.old ≡ Some result) × (last.new ≡ last.old) }
+    ensures closed { IfSome running.old (λ h. IsClosed J.publisher h
+        (K.held result.output) (K.faults result.output) result.publisher result.reading
+        (option_map (λ s. s.value) last.new)) }
 {
-    Saying {
-        text: Vec::new(alloc),
-        ending: None,
+    match running.take() {
+        None => some_of(ends.take()),
+        Some(running) => {
+            let (fleet, back) = running.close();
+            *last = Some(Snapshot::of(&fleet));
+            drop(fleet);
+            back
+        }
+    }
+}
+
+/// What is there.
+fn some_of<T>(place: Option<T>) -> T
+    requires { IsSome place }
+    ensures { Some result ≡ place }
+{
+    match place {
+        Some(value) => value,
+        None => unreachable!(),
+    }
+}
+
+/// What is there, beside a place where nothing is.
+fn beside_none<T>(place: Option<T>, value: T) -> T
+    requires { place ≡ None }
+    ensures { result ≡ value }
+{
+    match place {
+        None => value,
+        Some(_other) => unreachable!(),
+    }
+}
+
+/// Puts something where nothing is.
+fn put<T>(place: &mut Option<T>, value: T)
+    requires { place.old ≡ None }
+    ensures { place.new ≡ Some value }
+{
+    match place.replace(value) {
+        None => {}
+        Some(_other) => unreachable!(),
     }
 }

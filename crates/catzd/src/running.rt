@@ -1,19 +1,25 @@
 //! The program's commands.
 
-ghost use Rattle.std.specs.Prelude.{◌≡◌, ◌≢◌, ◌≤◌, [], Some};
+ghost use Rattle.std.specs.Prelude.{◌≡◌, ◌≢◌, ◌≤◌, [], Some, IfSome};
 ghost use Rattle.dz_io.specs.Counts.{HasRisen};
 ghost use Rattle.dz_name.specs.Words.{Octets};
-ghost use Rattle.catzd.specs.Running.{status_of, Answers, Replays, Says, Decides, IsWithoutFault, HasCauseIn};
+ghost use Rattle.catzd.specs.Running.{status_of, Answers, Replays, Says, Decides, IsWithoutFault, HasCauseIn, IsNewDesk, list_of_script};
+ghost use Rattle.catzd.specs.Taken.{CanStart};
 ghost use Rattle.catzd.specs.Words.{command_of};
 
 use crate::answering::{Answering, End};
-use crate::replay_script::run_replaying;
+use crate::ends::Ends;
 use crate::replaying::Replaying;
 use crate::script::run_answering;
 use crate::words::{Command, Words, read_words};
+use dz_desk::{Desk, Reading};
 use dz_header::ReplyBuffer;
-use dz_io::{ScriptError, Sink, Source};
+use dz_io::{ScriptError, Sink, Source, run_script};
+use dz_provision::Naming;
 use std::alloc::Global;
+use std::marker::Brand;
+use std::sync::Wait;
+use std::thread::Threads;
 
 /// How the program ends. The numbers are its exit codes.
 #[derive(Clone, Copy, Debug, PartialEq, Eq)]
@@ -33,33 +39,44 @@ pub enum Status {
     Unbuilt = 9,
 }
 
-/// The status at the end, and the output.
-#[derive(Drop)]
+/// The status at the end, with the output and the desk.
 pub struct Ended<K> {
     pub status: Status,
     pub output: K,
+    pub desk: Desk,
 }
 
-/// Runs the command that the words ask for.
+/// Runs the command that the words ask for, over an output to which nothing was written and a desk of six readings at which
+/// nothing was published.
 ///
 /// `answer` reads lines: first `zone <name> <hex>`, one message with ID 1 that is to hold a whole transfer (RFC 5936), and
 /// then requests in hex, each taken as over UDP at moment 0. It writes `taken <serial>` or `refused <reason>`, and for
 /// each request the hex of the reply, `none`, or `notify <name>`. A bad line ends it.
 ///
 /// `replay` reads lines: first the configuration, and then events at their moments. It writes what each job asks for and
-/// what comes of it, and the reply to each request at the whole list so far. A bad line ends it.
-pub fn run<S: Source, K: Sink>(
+/// what comes of it, and the reply to each request at the whole list so far. A bad line ends it. What is taken is published
+/// at the desk.
+pub fn run<R: Threads + Wait + Sync, S: Source, K: Sink>(
+    rt: &R,
     alloc: Global,
     words: &Words,
     input: &mut S,
-    mut output: K,
+    output: K,
+    desk: Desk,
 ) -> Ended<K>
+    requires desk { IsNewDesk desk.publisher desk.readings.items }
+    requires written { IfSome (K.held output) (λ text. text ≡ []) }
+    requires faultless { K.faults output ≡ 0 }
     ensures ends { command_of words.now ≡ Command.Answer →
         (octets : Octets) → S.left input.old ≡ Some octets →
         Answers octets result.status (S.left input.new) (K.held output) (K.held result.output) }
     ensures ends_replay { command_of words.now ≡ Command.Replay →
         (octets : Octets) → S.left input.old ≡ Some octets →
         Replays octets result.status (S.left input.new) (K.held output) (K.held result.output) }
+    ensures published { command_of words.now ≡ Command.Replay →
+        (octets : Octets) → S.left input.old ≡ Some octets → result.status ≡ Status.Done →
+        result.desk.publisher.list ≡ list_of_script octets }
+    ensures desk { command_of words.now ≢ Command.Replay → result.desk ≡ desk }
     ensures words { Decides (command_of words.now) result.status (K.held output) (K.held result.output) }
     ensures usage { result.status ≡ Status.Usage → command_of words.now ≡ Command.Wrong }
     ensures unread { command_of words.now ≢ Command.Answer → command_of words.now ≢ Command.Replay →
@@ -75,25 +92,34 @@ pub fn run<S: Source, K: Sink>(
     ensures write_fault { result.status ≡ Status.WriteFault →
         HasRisen (K.faults output) (K.faults result.output) }
 {
-    let status = run_command(alloc, read_words(words), input, &mut output);
-    Ended { status, output }
+    match read_words(words) {
+        Command::Replay => run_replay(rt, alloc, input, output, desk),
+        command => {
+            let mut output = output;
+            let status = run_command(alloc, command, input, &mut output);
+            Ended {
+                status,
+                output,
+                desk,
+            }
+        }
+    }
 }
 
+/// Runs a command that publishes nothing.
 fn run_command<S: Source, K: Sink>(
     alloc: Global,
     command: Command,
     input: &mut S,
     output: &mut K,
 ) -> Status
+    requires { command ≢ Command.Replay }
     ensures ends { command ≡ Command.Answer →
         (octets : Octets) → S.left input.old ≡ Some octets →
         Answers octets result (S.left input.new) (K.held output.old) (K.held output.new) }
-    ensures ends_replay { command ≡ Command.Replay →
-        (octets : Octets) → S.left input.old ≡ Some octets →
-        Replays octets result (S.left input.new) (K.held output.old) (K.held output.new) }
     ensures words { Decides command result (K.held output.old) (K.held output.new) }
     ensures usage { result ≡ Status.Usage → command ≡ Command.Wrong }
-    ensures unread { command ≢ Command.Answer → command ≢ Command.Replay → input.new ≡ input.old }
+    ensures unread { command ≢ Command.Answer → input.new ≡ input.old }
     ensures done { (octets : Octets) → S.left input.old ≡ Some octets →
         result ≡ Status.Done → S.left input.new ≡ Some [] }
     ensures read_cause { HasCauseIn (S.faults input.old) (S.faults input.new) result Status.ReadFault }
@@ -101,13 +127,71 @@ fn run_command<S: Source, K: Sink>(
 {
     match command {
         Command::Answer => answer(alloc, input, output),
-        Command::Replay => replay(alloc, input, output),
+        Command::Replay => unreachable!(),
         Command::Later => say(b"unbuilt 0\n", Status::Unbuilt, output),
         Command::Wrong => say(
             b"usage: catzd answer | replay | rehearse N | serve\n",
             Status::Usage,
             output,
         ),
+    }
+}
+
+/// Runs `replay` over the publisher and one of the readings of a desk.
+fn run_replay<R: Wait, S: Source, K: Sink>(
+    rt: &R,
+    alloc: Global,
+    input: &mut S,
+    output: K,
+    desk: Desk,
+) -> Ended<K>
+    requires desk { IsNewDesk desk.publisher desk.readings.items }
+    requires written { IfSome (K.held output) (λ text. text ≡ []) }
+    requires faultless { K.faults output ≡ 0 }
+    ensures ends { (octets : Octets) → S.left input.old ≡ Some octets →
+        Replays octets result.status (S.left input.new) (K.held output) (K.held result.output) }
+    ensures published { (octets : Octets) → S.left input.old ≡ Some octets → result.status ≡ Status.Done →
+        result.desk.publisher.list ≡ list_of_script octets }
+    ensures other { result.status ≢ Status.Usage }
+    ensures done { (octets : Octets) → S.left input.old ≡ Some octets →
+        result.status ≡ Status.Done → S.left input.new ≡ Some [] }
+    ensures read_cause { HasCauseIn (S.faults input.old) (S.faults input.new) result.status Status.ReadFault }
+    ensures write_cause { HasCauseIn (K.faults output) (K.faults result.output) result.status Status.WriteFault }
+{
+    let Desk {
+        publisher,
+        mut readings,
+    } = desk;
+    let Some(reading) = readings.pop() else {
+        unreachable!()
+    };
+    let ends = Ends {
+        publisher,
+        reading,
+        output,
+    };
+    let Played { status, ends } = replay::<R, S, K, Brand>(rt, alloc, input, ends);
+    let Ends {
+        publisher,
+        reading,
+        output,
+    } = ends;
+    give_back(&mut readings, reading);
+    Ended {
+        status,
+        output,
+        desk: Desk {
+            publisher,
+            readings,
+        },
+    }
+}
+
+/// Puts a reading behind the others.
+fn give_back(readings: &mut Vec<Reading>, reading: Reading) {
+    match readings.push(reading) {
+        Ok(()) => {}
+        Err(failed) => drop(failed.value),
     }
 }
 
@@ -130,23 +214,43 @@ pub fn answer<S: Source, K: Sink>(alloc: Global, input: &mut S, output: &mut K) 
     }
 }
 
-/// Runs the command `replay` on an input, whose text it writes to the output.
-pub fn replay<S: Source, K: Sink>(alloc: Global, input: &mut S, output: &mut K) -> Status
+/// How a replay ended, and its ends.
+pub struct Played<K> {
+    pub status: Status,
+    pub ends: Ends<K>,
+}
+
+/// Runs the command `replay` on an input, whose text it writes to the output, and publishes what is taken.
+pub fn replay<R: Wait, S: Source, K: Sink, J: Naming>(
+    rt: &R,
+    alloc: Global,
+    input: &mut S,
+    ends: Ends<K>,
+) -> Played<K>
+    requires { CanStart J.publisher (K.held ends.output) (K.faults ends.output) ends.publisher ends.reading }
     ensures ends { (octets : Octets) → S.left input.old ≡ Some octets →
-        Replays octets result (S.left input.new) (K.held output.old) (K.held output.new) }
-    ensures other { result ≢ Status.Usage }
+        Replays octets result.status (S.left input.new) (K.held ends.output) (K.held result.ends.output) }
+    ensures published { (octets : Octets) → S.left input.old ≡ Some octets → result.status ≡ Status.Done →
+        result.ends.publisher.list ≡ list_of_script octets }
+    ensures other { result.status ≢ Status.Usage }
     ensures done { (octets : Octets) → S.left input.old ≡ Some octets →
-        result ≡ Status.Done → S.left input.new ≡ Some [] }
-    ensures read_cause { HasCauseIn (S.faults input.old) (S.faults input.new) result Status.ReadFault }
-    ensures write_cause { HasCauseIn (K.faults output.old) (K.faults output.new) result Status.WriteFault }
+        result.status ≡ Status.Done → S.left input.new ≡ Some [] }
+    ensures read_cause { HasCauseIn (S.faults input.old) (S.faults input.new) result.status Status.ReadFault }
+    ensures write_cause { HasCauseIn (K.faults ends.output) (K.faults result.ends.output)
+        result.status Status.WriteFault }
 {
     match ReplyBuffer::make(alloc) {
-        Err(_) => Status::NoMemory,
+        Err(_) => Played {
+            status: Status::NoMemory,
+            ends,
+        },
         Ok(buffer) => {
-            let mut replaying = Replaying::new(alloc, buffer);
-            let ended = run_replaying(alloc, &mut replaying, input, output);
-            replaying.close();
-            status_of(ended)
+            let mut replaying: Replaying<'_, R, K, J> = Replaying::new(rt, alloc, ends, buffer);
+            let ended = run_script(alloc, &mut replaying, input);
+            Played {
+                status: status_of(ended),
+                ends: replaying.close(),
+            }
         }
     }
 }
