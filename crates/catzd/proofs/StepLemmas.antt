@@ -180,7 +180,6 @@ module _ (h k : Held) where
   starved_so : (turn : Turn State End) → Logs h k.core [] k → Stops turn stops.OutOfMemory h k
   starved_so turn w = stops_starved turn (same_text h.written k.written w.written) w.faults
 
-
   pub take_taken : (number now ticket : ℕ) (octets read : Octets) (job : JobOf) (r : Result (Verdict × Page) Unmade) → h.failed ≡ false → job_in h.core.flight ticket ≡ Some job → IsReadOf (transfer_for job) octets read → IsFlying h.core job
       → IsSettled h job read now r k → IsTaken (take_turn h.core number now octets (job_in h.core.flight ticket)) number h (by_settling r) k
   unfolding IsSettled IsTaken

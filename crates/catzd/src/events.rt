@@ -167,7 +167,13 @@ impl<K: Sink, J: Naming> Running<K, J> {
     {
         match event {
             Event::Job => self.hand_out(moment),
-            Event::Take { ticket, octets } => self.take(rt, alloc, moment, *ticket, octets.as_slice()),
+            Event::Take { ticket, octets } => self.take(
+                rt,
+                alloc,
+                moment,
+                *ticket,
+                octets.as_slice(),
+            ),
             Event::Fail { ticket } => self.fail(moment, *ticket),
             Event::Ask {
                 transport,
@@ -358,7 +364,13 @@ fn look<R: Wait, K: Sink, J: Naming>(
 {
     'looks: for _ in rt.forever() {
         reading.learn(rt, provisioner.tell());
-        if let Some(turn) = answer_one(reading, query.request, query.moment, query.transport, buffer)
+        if let Some(turn) = answer_one(
+            reading,
+            query.request,
+            query.moment,
+            query.transport,
+            buffer,
+        )
             && reading.count() == provisioner.count()
         {
             return turn;

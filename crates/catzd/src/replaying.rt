@@ -253,12 +253,7 @@ impl<'a, R: Wait, K: Sink, J: Naming> Replaying<'a, R, K, J> {
     }
 
     /// Runs an event.
-    fn run_event(
-        &mut self,
-        alloc: Global,
-        moment: u64,
-        event: &Event,
-    ) -> Result<Took, TurnError>
+    fn run_event(&mut self, alloc: Global, moment: u64, event: &Event) -> Result<Took, TurnError>
         requires moment { moment < 2 ^ 40 }
         requires goes { self.old.is_over ≡ false }
         requires runs { IsRunning self.old.state }

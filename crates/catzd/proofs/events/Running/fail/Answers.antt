@@ -25,9 +25,11 @@ invariant_of-self g c =
     let job = c.remove-job.result in
     let at = place_is c.self.inside.jobs.items c.in-Some.place c.args.ticket job (sym (rw c.as_slice.ensures.value at c.in-Some.ensures)) c.remove-job.ensures.value in
     let there : slice_get c.self.inside.provisioner.core.flight c.in-Some.place ≡ Some job = ap (λ (js : List JobOf). slice_get js c.in-Some.place) (sym same) ∙ at.there in
-    let fly = flies c.self.inside.provisioner.core c.in-Some.place job c.count.ensures.sound there in
-    (λ still. still_flying c.self.inside.jobs.items c.self.inside.provisioner.core.flight c.remove-job.new.self.items c.in-Some.place job same c.count.ensures.sound.apart there c.remove-job.ensures.items
-    ∙ sym (failing_flight c.self.inside.provisioner c.fail.new.self job c.args.moment c.fail.result before fly c.fail.ensures.failed), c.self.invariant.1)
+    let fly = flies c.self.inside.provisioner.core c.in-Some.place job c.count.ensures.sound there in (
+      λ still. still_flying c.self.inside.jobs.items c.self.inside.provisioner.core.flight c.remove-job.new.self.items c.in-Some.place job same c.count.ensures.sound.apart there c.remove-job.ensures.items
+          ∙ sym (failing_flight c.self.inside.provisioner c.fail.new.self job c.args.moment c.fail.result before fly c.fail.ensures.failed),
+      c.self.invariant.1,
+    )
 
 pub returns-in-None : goal.returns-in-None
 returns-in-None g c number =
