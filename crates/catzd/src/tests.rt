@@ -1,13 +1,18 @@
+ghost use Rattle.catzd.specs.Running.{IsNewDesk};
+
 use crate::edge::ReadSource;
 use crate::running::{Ended, Status, answer, run};
 use crate::words::{Command, Words, read_words};
+use dz_desk::{Desk, open_desk};
 use dz_io::{Failed, MemorySink, MemorySource, Source};
 use dz_report::reason_of;
 use dz_take::{ShapeFault, TakeFault, ZoneFault};
 use std::alloc::{AllocError, Global};
 use std::io::{Error, ErrorKind, Read};
 use std::process::Abort;
+use std::sync::Wait;
 use std::test::*;
+use std::thread::Threads;
 
 const PLAIN_ZONE: &[u8] =
     b"zone example. 000184000001000600000000076578616d706c650000fc0001076578616d706c650000060001000151800030036e7331076578616d706c65000561646d696e076578616d706c65007848b91c000007080000038400093a800000012c076578616d706c65000002000100015180000d036e7331076578616d706c6500076578616d706c65000002000100015180000d036e7332076578616d706c6500036e7331076578616d706c65000001000100000e100004cb00713f036e7332076578616d706c6500001c000100000e10001020010db8000000000000000000000063076578616d706c650000060001000151800030036e7331076578616d706c65000561646d696e076578616d706c65007848b91c000007080000038400093a800000012c";
@@ -48,22 +53,63 @@ fn words_of(alloc: Global, texts: &[&str]) -> Result<Words, AllocError> {
     Ok(Words { list })
 }
 
+/// How a run ended, and what it wrote to.
+#[derive(Drop)]
+struct Outcome {
+    status: Status,
+    output: MemorySink,
+}
+
+/// The numbers of the reads and of the writes that fail.
+type Faults = (Vec<u64>, Vec<u64>);
+
+fn no_faults(alloc: Global) -> Faults {
+    (Vec::new(alloc), Vec::new(alloc))
+}
+
+/// A desk of six readings.
+fn open<R: Abort + Wait>(rt: &R, alloc: Global) -> Desk
+    ensures { IsNewDesk result.publisher result.readings.items }
+{
+    match open_desk(rt, alloc, 6) {
+        Ok(desk) => desk,
+        Err(error) => panic!(rt; "{error}"),
+    }
+}
+
 /// Runs the words on an input, with reads and writes that fail.
-fn run_on(
+fn run_on<R: Abort + Threads + Wait + Sync>(
+    rt: &R,
     alloc: Global,
     words: &[&str],
     input: &[&[u8]],
-    reads: Vec<u64>,
-    writes: Vec<u64>,
-) -> Result<Ended<MemorySink>, AllocError> {
+    faults: Faults,
+) -> Result<Outcome, AllocError> {
+    let (reads, writes) = faults;
+    let words = words_of(alloc, words)?;
     let mut source = MemorySource::new(text_of(alloc, input)?, reads);
     let sink = MemorySink::new(alloc, writes);
-    Ok(run(alloc, &words_of(alloc, words)?, &mut source, sink))
+    let Ended {
+        status,
+        output,
+        desk,
+    } = run(rt, alloc, &words, &mut source, sink, open(rt, alloc));
+    end(rt, desk);
+    Ok(Outcome { status, output })
+}
+
+fn end<R: Wait>(rt: &R, desk: Desk) {
+    let Desk {
+        publisher,
+        readings,
+    } = desk;
+    drop(readings);
+    publisher.close(rt);
 }
 
 fn is_end(
     alloc: Global,
-    ended: &Ended<MemorySink>,
+    ended: &Outcome,
     status: Status,
     output: &[&[u8]],
 ) -> Result<bool, AllocError> {
@@ -71,15 +117,15 @@ fn is_end(
 }
 
 /// What a command writes to this input, and how it ends.
-pub fn expect_of(
-    rt: &impl Abort,
+pub fn expect_of<R: Abort + Threads + Wait + Sync>(
+    rt: &R,
     alloc: Global,
     word: &str,
     input: &[&[u8]],
     status: Status,
     output: &[&[u8]],
 ) -> Result<(), AllocError> {
-    let ended = run_on(alloc, &[word], input, Vec::new(alloc), Vec::new(alloc))?;
+    let ended = run_on(rt, alloc, &[word], input, no_faults(alloc))?;
     assert!(rt;
         is_end(alloc, &ended, status, output)?,
         "{:?}",
@@ -89,8 +135,8 @@ pub fn expect_of(
 }
 
 /// What `answer` writes to this input, and how it ends.
-fn expect(
-    rt: &impl Abort,
+fn expect<R: Abort + Threads + Wait + Sync>(
+    rt: &R,
     alloc: Global,
     input: &[&[u8]],
     status: Status,
@@ -189,8 +235,8 @@ fn zone_line(
 }
 
 /// The message gives this line, and a query then finds the zone without a version.
-fn expect_refusal(
-    rt: &impl Abort,
+fn expect_refusal<R: Abort + Threads + Wait + Sync>(
+    rt: &R,
     alloc: Global,
     line: &[u8],
     want: &[u8],
@@ -301,7 +347,7 @@ fn words_name_a_command(rt: HostRuntime) -> Result<(), AllocError> {
 #[test]
 fn commands_that_are_not_built_say_so(rt: HostRuntime) -> Result<(), AllocError> {
     let alloc = rt.alloc();
-    let ended = run_on(alloc, &["serve"], &[], Vec::new(alloc), Vec::new(alloc))?;
+    let ended = run_on(&rt, alloc, &["serve"], &[], no_faults(alloc))?;
     assert!(rt; is_end(alloc, &ended, Status::Unbuilt, &[b"unbuilt 0"])?);
     Ok(())
 }
@@ -309,7 +355,7 @@ fn commands_that_are_not_built_say_so(rt: HostRuntime) -> Result<(), AllocError>
 #[test]
 fn no_words_give_the_usage(rt: HostRuntime) -> Result<(), AllocError> {
     let alloc = rt.alloc();
-    let ended = run_on(alloc, &[], &[], Vec::new(alloc), Vec::new(alloc))?;
+    let ended = run_on(&rt, alloc, &[], &[], no_faults(alloc))?;
     let usage = b"usage: catzd answer | replay | rehearse N | serve".as_slice();
     assert!(rt; is_end(alloc, &ended, Status::Usage, &[usage])?);
     Ok(())
@@ -332,7 +378,7 @@ fn a_read_or_a_write_that_fails_ends_the_run(rt: HostRuntime) -> Result<(), Allo
     'cases: for (reads, writes, status, count) in cases {
         let reads = Vec::from_slice(alloc, reads)?;
         let writes = Vec::from_slice(alloc, writes)?;
-        let ended = run_on(alloc, &["answer"], &REQUESTS, reads, writes)?;
+        let ended = run_on(&rt, alloc, &["answer"], &REQUESTS, (reads, writes))?;
         assert!(rt; count <= REPLIES.len());
         assert!(rt;
             is_end(alloc, &ended, status, &REPLIES[..count])?,
