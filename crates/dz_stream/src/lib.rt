@@ -3,4 +3,4 @@
 
 mod reading;
 
-pub use reading::take_stream;
+pub use reading::{start_taking, take_stream};

@@ -22,15 +22,19 @@ pub fn take_stream(alloc: Global, job: &Job, octets: &[u8]) -> Result<Finished, 
     ensures transfer { IfOk result (λ f. f.transfer ≡ transfer_for job.now) }
     ensures read { IfOk result (λ f. IsReadOf (transfer_for job.now) octets.now f.octets) }
 {
-    let mut taking = start(alloc, job)?;
+    let mut taking = start_taking(alloc, job)?;
     read_frames(&mut taking, octets)?;
     let finished = taking.finish()?;
     finished.octets();
     Ok(finished)
 }
 
-/// The job's transfer, of which nothing was read.
-fn start(alloc: Global, job: &Job) -> Result<Taking, AllocError>
+/// The transfer that a job asks for, of which nothing was read.
+///
+/// # Errors
+///
+/// `AllocError` where memory is wanting.
+pub fn start_taking(alloc: Global, job: &Job) -> Result<Taking, AllocError>
     ensures transfer { IfOk result (λ t. t.transfer ≡ transfer_for job.now) }
     ensures nothing { IfOk result (λ t. t.octets ≡ []) }
     ensures undecided { IfOk result (λ t. decided t.transfer (messages_in t.octets) ≡ None) }

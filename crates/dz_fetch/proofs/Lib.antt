@@ -1,0 +1,5 @@
+pub mod GainLemmas
+pub mod FrameLemmas
+pub mod TakingLemmas
+pub mod QueryLemmas
+pub mod FetchLemmas

@@ -1,0 +1,2 @@
+-- Inner: how the code keeps things.
+pub mod Frames
