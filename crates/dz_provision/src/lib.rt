@@ -13,4 +13,4 @@ mod shared;
 
 pub use naming::Naming;
 pub use provisioner::{LogFault, Parts, Provisioner, Unmade, Unstarted};
-pub use shared::Shared;
+pub use shared::{Locked, Shared};

@@ -13,27 +13,30 @@ use dz_name::Name;
 use std::mem::ManuallyDrop;
 use std::sync::{Mutex, Wait};
 
-/// A provisioner behind a lock. It hears NOTIFY for the readings of its publisher. [`Shared::close`] takes it out.
-pub struct Shared<K: Sink, J: Naming> {
-    lock: Mutex<ManuallyDrop<Provisioner<K, J>>>,
+/// Something behind a lock, for threads to share. [`Locked::close`] takes it out.
+pub struct Locked<P> {
+    lock: Mutex<ManuallyDrop<P>>,
 }
 
-impl<K: Sink, J: Naming> Shared<K, J> {
-    /// Puts a provisioner behind a lock.
-    pub fn over(provisioner: Provisioner<K, J>) -> Shared<K, J> {
-        Shared {
-            lock: Mutex::new(unsafe { ManuallyDrop::new_unchecked(provisioner) }),
+/// A provisioner behind a lock. It hears NOTIFY for the readings of its publisher.
+pub type Shared<K, J> = Locked<Provisioner<K, J>>;
+
+impl<P> Locked<P> {
+    /// Puts it behind a lock.
+    pub fn over(inside: P) -> Locked<P> {
+        Locked {
+            lock: Mutex::new(unsafe { ManuallyDrop::new_unchecked(inside) }),
         }
     }
 
-    /// Takes the provisioner out.
-    pub fn close(self) -> Provisioner<K, J> {
-        let Shared { lock } = self;
+    /// Takes it out.
+    pub fn close(self) -> P {
+        let Locked { lock } = self;
         ManuallyDrop::into_inner(lock.into_inner())
     }
 }
 
-impl<K: Sink, J: Naming> Ear for Shared<K, J> {
+impl<K: Sink, J: Naming> Ear for Locked<Provisioner<K, J>> {
     ghost publisher = { J.publisher };
 
     // an output of this type can fail
