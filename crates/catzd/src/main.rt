@@ -4,6 +4,8 @@
 ghost use Rattle.std.specs.Prelude.{◌≡◌};
 
 mod answering;
+#[cfg(test)]
+mod desk_tests;
 mod edge;
 mod ends;
 mod events;

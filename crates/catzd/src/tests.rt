@@ -36,7 +36,7 @@ const POINTERS_ZONE: &[u8] =
     b"zone example. 000184000001000600000000076578616d706c650000fc0001c00c00060001000151800030036e7331076578616d706c65000561646d696e076578616d706c65007848b91c000007080000038400093a800000012cc00c0002000100015180000d036e7331076578616d706c6500c00c0002000100015180000d036e7332076578616d706c6500036e7331076578616d706c65000001000100000e100004cb00713f036e7332076578616d706c6500001c000100000e10001020010db8000000000000000000000063c00c00060001000151800030036e7331076578616d706c65000561646d696e076578616d706c65007848b91c000007080000038400093a800000012c";
 
 /// The lines, each with its newline.
-fn text_of(alloc: Global, lines: &[&[u8]]) -> Result<Vec<u8>, AllocError> {
+pub fn text_of(alloc: Global, lines: &[&[u8]]) -> Result<Vec<u8>, AllocError> {
     let mut text = Vec::new(alloc);
     'lines: for line in lines {
         text.extend_from_slice(line)?;
@@ -68,7 +68,7 @@ fn no_faults(alloc: Global) -> Faults {
 }
 
 /// A desk of six readings.
-fn open<R: Abort + Wait>(rt: &R, alloc: Global) -> Desk
+pub fn open<R: Abort + Wait>(rt: &R, alloc: Global) -> Desk
     ensures { IsNewDesk result.publisher result.readings.items }
 {
     match open_desk(rt, alloc, 6) {
