@@ -14,7 +14,7 @@ use dz_header::ReplyBuffer;
 use dz_io::{MemorySink, MemorySource, Peer};
 use dz_member::{CatalogSettings, Config, Groups, Peers, Policy};
 use dz_name::Name;
-use dz_provision::{Naming, Parts, Provisioner, Shared, Unmade};
+use dz_provision::{Locked, Naming, Parts, Provisioner, Shared, Unmade};
 use dz_query::{Transport, Turn, answer_one};
 use std::alloc::{AllocError, Global};
 use std::marker::Brand;
@@ -132,6 +132,8 @@ fn written<R: Wait, J: Naming>(rt: &R, provisioner: Provisioner<MemorySink, J>) 
 
 fn is_send<T: Send>(_value: &T) {}
 
+fn is_shared<T: Send + Sync>(_value: &T) {}
+
 /// A provisioner of `cat1.example.` hands a job out, which goes to one of `cat2.example.` that has this publisher.
 fn give_a_job_away<R: Abort + Wait, J: Naming + Send>(
     rt: &R,
@@ -145,8 +147,10 @@ fn give_a_job_away<R: Abort + Wait, J: Naming + Send>(
     let mut one: Provisioner<MemorySink, J> = begin(rt, alloc, own, "cat1.example.");
     let job = first_job(rt, &mut one);
     is_send(&one);
+    let shared: Shared<MemorySink, J> = Locked::over(one);
+    is_shared(&shared);
     refuse_a_job::<R, Brand>(rt, alloc, other, job);
-    let output = written(rt, Shared::over(one).close());
+    let output = written(rt, shared.close());
     assert_eq!(rt;
         output.written(),
         b"job 1 cat1.example. axfr id 1 at 192.0.2.1:53\n".as_slice()
