@@ -6,5 +6,4 @@ pub mod Phase
 pub mod Replaying
 pub mod Running
 pub mod Taken
-pub mod Words
 pub mod ZoneLine

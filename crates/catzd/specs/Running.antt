@@ -15,9 +15,13 @@ use Rattle.catzd.specs.Replaying as replaying
 use Rattle.catzd.specs.declared.answering.End.{End}
 use Rattle.catzd.specs.declared.answering.End.TheVariants as endings
 use Rattle.catzd.specs.declared.running.Status.{Status}
-use Rattle.catzd.specs.declared.running.Status.TheVariants.{Done, Usage, BadInput, ReadFault, WriteFault, NoMemory, Unbuilt}
-use Rattle.catzd.specs.declared.words.Command.{Command}
-use Rattle.catzd.specs.declared.words.Command.TheVariants as commands
+use Rattle.catzd.specs.declared.running.Status.TheVariants.{Done, Usage, BadInput, ReadFault, WriteFault, PortFault, NoMemory, Unbuilt}
+use Rattle.dz_words.specs.declared.words.Command.{Command}
+use Rattle.dz_words.specs.declared.words.Command.TheVariants as commands
+use Rattle.dz_words.specs.declared.words.WordsError.{WordsError}
+use Rattle.dz_words.specs.declared.words.WordsError.TheVariants as errors_of_words
+use Rattle.dz_serve.specs.declared.status.ServeEnd.{ServeEnd}
+use Rattle.dz_serve.specs.declared.status.ServeEnd.TheVariants as serve_ends
 use Rattle.dz_name.specs.Words.{Octets}
 
 -- the status of a run of a script
@@ -27,6 +31,15 @@ status_of (Ok endings.BadInput) = BadInput
 status_of (Err errors.Read) = ReadFault
 status_of (Err errors.Write) = WriteFault
 status_of (Err errors.OutOfMemory) = NoMemory
+
+-- the status of serving
+abbrev pub status_after : ServeEnd → Status
+status_after serve_ends.Done = Done
+status_after serve_ends.BadInput = BadInput
+status_after serve_ends.ReadFault = ReadFault
+status_after serve_ends.WriteFault = WriteFault
+status_after serve_ends.PortFault = PortFault
+status_after serve_ends.NoMemory = NoMemory
 
 -- `answer` ran its script over the input, and its status is that of the run
 abbrev pub Answers : Octets → Status → Option Octets → Option Octets → Option Octets → Type 0
@@ -54,13 +67,14 @@ Says text own status before after = ((status ≡ own) × Gains text before after
 abbrev pub usage : Octets
 usage = codes "usage: catzd answer | replay | rehearse N | serve\n"
 
--- what the words decide, whatever the input: each command but `answer` and `replay` says one line, and these two never say
--- Usage
-abbrev pub Decides : Command → Status → Option Octets → Option Octets → Type 0
-Decides commands.Answer status before after = status ≢ Usage
-Decides commands.Replay status before after = status ≢ Usage
-Decides commands.Later status before after = Says (codes "unbuilt 0\n") Unbuilt status before after
-Decides commands.Wrong status before after = Says usage Usage status before after
+-- what the words decide, whatever the input: no words but those of a command to come, and those that are none of the four
+-- forms, say a line of their own; the other commands never say Usage
+abbrev pub Decides : Result Command WordsError → Status → Option Octets → Option Octets → Type 0
+Decides (Ok commands.Answer) status before after = status ≢ Usage
+Decides (Ok commands.Replay) status before after = status ≢ Usage
+Decides (Ok commands.Serve) status before after = status ≢ Usage
+Decides (Ok (commands.Rehearse number)) status before after = Says (codes "unbuilt 0\n") Unbuilt status before after
+Decides (Err errors_of_words.Usage) status before after = Says usage Usage status before after
 
 -- the status tells of no fault and of no want of memory
 abbrev pub IsWithoutFault : Status → Type 0
@@ -68,6 +82,7 @@ IsWithoutFault Done = ⊤
 IsWithoutFault Usage = ⊤
 IsWithoutFault BadInput = ⊤
 IsWithoutFault Unbuilt = ⊤
+IsWithoutFault PortFault = ⊤
 IsWithoutFault ReadFault = ⊥
 IsWithoutFault WriteFault = ⊥
 IsWithoutFault NoMemory = ⊥

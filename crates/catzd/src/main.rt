@@ -1,12 +1,9 @@
-//! A catalog-zone DNS secondary: the program's commands over standard input and standard output.
+//! A catalog-zone DNS secondary: the program's commands over standard input and output, sockets and the host's clock.
 #![tactic(auto)]
-
-ghost use Rattle.std.specs.Prelude.{◌≡◌};
 
 mod answering;
 #[cfg(test)]
 mod desk_tests;
-mod edge;
 mod ends;
 mod events;
 mod opening;
@@ -17,19 +14,17 @@ mod running;
 mod script;
 #[cfg(test)]
 mod tests;
-mod words;
 mod zone_line;
 
-use crate::edge::{ReadSource, WriteSink};
 use crate::running::{Ended, Status, run};
-use crate::words::Words;
 use dz_desk::{Desk, DeskError, open_desk};
+use dz_edge::{HostClock, HostPorts, ReadSource, Stop, WriteSink};
+use dz_words::Words;
 use std::alloc::{AllocError, Global};
 use std::env;
-use std::io::{ErrorKind, Read, Write};
+use std::io::ErrorKind;
 use std::process::ExitCode;
 use std::sync::Wait;
-use std::thread::Threads;
 
 /// How many readings the desk has: two for each kind of worker.
 const READINGS: u8 = 6;
@@ -48,43 +43,43 @@ fn main(rt: HostRuntime) -> ExitCode {
         // Words that aren't UTF-8 are no command.
         Err(_) => Ok(Vec::new(alloc)),
     };
-    match words {
-        Ok(list) => {
-            let input = ReadSource::new(rt.stdin());
-            let output = WriteSink::new(rt.stdout());
-            ExitCode::from(run_words(&rt, alloc, &Words { list }, input, output))
-        }
-        Err(_) => ExitCode::from(Status::NoMemory as u8),
+    let Ok(list) = words else {
+        return ExitCode::from(Status::NoMemory as u8);
+    };
+    let desk = match open_desk(&rt, alloc, READINGS) {
+        Ok(desk) => desk,
+        Err(error) => return ExitCode::from(code_of(error)),
+    };
+    let words = Words { list };
+    let mut input = ReadSource::new(rt.stdin());
+    let output = WriteSink::new(rt.stdout());
+    let stop = Stop::new();
+    let mut ports = HostPorts::new(&rt, &stop);
+    let clock = HostClock::new(&rt, &stop);
+    let Ended {
+        status,
+        output: _,
+        desk,
+    } = run(
+        &rt, alloc, &words, &mut input, output, desk, &mut ports, &clock,
+    );
+    end(&rt, desk);
+    ExitCode::from(status as u8)
+}
+
+/// The exit code where no desk was opened.
+fn code_of(error: DeskError) -> u8 {
+    match error {
+        DeskError::OutOfMemory => Status::NoMemory as u8,
+        DeskError::NoSeat => NO_SEAT,
     }
 }
 
-/// Opens a desk, runs the words over an input and an output, and ends the desk: the exit code.
-fn run_words<R: Threads + Wait + Sync, I: Read + Drop, O: Write + Drop>(
-    rt: &R,
-    alloc: Global,
-    words: &Words,
-    mut input: ReadSource<I>,
-    output: WriteSink<O>,
-) -> u8
-    requires { output.faults ≡ 0 }
-{
-    match open_desk(rt, alloc, READINGS) {
-        Err(error) => match error {
-            DeskError::OutOfMemory => Status::NoMemory as u8,
-            DeskError::NoSeat => NO_SEAT,
-        },
-        Ok(desk) => {
-            let Ended {
-                status,
-                output: _,
-                desk,
-            } = run(rt, alloc, words, &mut input, output, desk);
-            let Desk {
-                publisher,
-                readings: _,
-            } = desk;
-            publisher.close(rt);
-            status as u8
-        }
-    }
+/// Ends a desk.
+fn end<R: Wait>(rt: &R, desk: Desk) {
+    let Desk {
+        publisher,
+        readings: _,
+    } = desk;
+    publisher.close(rt);
 }

@@ -1,21 +1,24 @@
 //! The program's commands.
 
-ghost use Rattle.std.specs.Prelude.{◌≡◌, ◌≢◌, ◌≤◌, [], Some, IfSome};
+ghost use Rattle.std.specs.Prelude.{◌≡◌, ◌≢◌, ◌≤◌, [], Some, Ok, Err, IfSome};
 ghost use Rattle.dz_io.specs.Counts.{HasRisen};
 ghost use Rattle.dz_name.specs.Words.{Octets};
-ghost use Rattle.catzd.specs.Running.{status_of, Answers, Replays, Says, Decides, IsWithoutFault, HasCauseIn, IsNewDesk, list_of_script};
+ghost use Rattle.catzd.specs.Running.{status_of, status_after, Answers, Replays, Says, Decides, IsWithoutFault, HasCauseIn, IsNewDesk, list_of_script};
+ghost use Rattle.dz_serve.specs.Command.{IsServe};
+ghost use Rattle.dz_serve.specs.Rows.{rows};
 ghost use Rattle.catzd.specs.Taken.{CanStart};
-ghost use Rattle.catzd.specs.Words.{command_of};
+ghost use Rattle.dz_words.specs.Words.{command_of};
 
 use crate::answering::{Answering, End};
 use crate::ends::Ends;
 use crate::replaying::Replaying;
 use crate::script::run_answering;
-use crate::words::{Command, Words, read_words};
 use dz_desk::{Desk, Reading};
 use dz_header::ReplyBuffer;
-use dz_io::{ScriptError, Sink, Source, run_script};
+use dz_io::{Clock, Ports, ScriptError, Sink, Source, run_script};
 use dz_provision::Naming;
+use dz_serve::{ServeEnd, Served, serve_input};
+use dz_words::{Command, Words, WordsError, read_words};
 use std::alloc::Global;
 use std::marker::Brand;
 use std::sync::Wait;
@@ -33,6 +36,8 @@ pub enum Status {
     ReadFault = 4,
     /// The output can't be written.
     WriteFault = 5,
+    /// A device that listens can't be opened, or failed.
+    PortFault = 6,
     /// Want of memory.
     NoMemory = 7,
     /// The command isn't built yet.
@@ -56,31 +61,44 @@ pub struct Ended<K> {
 /// `replay` reads lines: first the configuration, and then events at their moments. It writes what each job asks for and
 /// what comes of it, and the reply to each request at the whole list so far. A bad line ends it. What is taken is published
 /// at the desk.
-pub fn run<R: Threads + Wait + Sync, S: Source, K: Sink>(
+///
+/// `serve` reads a configuration as TOML. It opens the ports, makes transfers, answers requests and hears NOTIFY, each
+/// worker in a thread of its own, until the devices close and the clock stops it, and writes the log. What is taken is
+/// published at the desk. Where the input is no configuration, it writes `bad config <number>`.
+pub fn run<R: Threads + Wait + Sync, S: Source, K: Sink + Send, P: Ports, C: Clock + Send + Drop>(
     rt: &R,
     alloc: Global,
     words: &Words,
     input: &mut S,
     output: K,
     desk: Desk,
+    ports: &mut P,
+    clock: &C,
 ) -> Ended<K>
     requires desk { IsNewDesk desk.publisher desk.readings.items }
     requires written { IfSome (K.held output) (λ text. text ≡ []) }
     requires faultless { K.faults output ≡ 0 }
-    ensures ends { command_of words.now ≡ Command.Answer →
+    ensures ends { command_of words.now ≡ Ok Command.Answer →
         (octets : Octets) → S.left input.old ≡ Some octets →
         Answers octets result.status (S.left input.new) (K.held output) (K.held result.output) }
-    ensures ends_replay { command_of words.now ≡ Command.Replay →
+    ensures ends_replay { command_of words.now ≡ Ok Command.Replay →
         (octets : Octets) → S.left input.old ≡ Some octets →
         Replays octets result.status (S.left input.new) (K.held output) (K.held result.output) }
-    ensures published { command_of words.now ≡ Command.Replay →
+    ensures published { command_of words.now ≡ Ok Command.Replay →
         (octets : Octets) → S.left input.old ≡ Some octets → result.status ≡ Status.Done →
         result.desk.publisher.list ≡ list_of_script octets }
-    ensures desk { command_of words.now ≢ Command.Replay → result.desk ≡ desk }
+    ensures serves { command_of words.now ≡ Ok Command.Serve → (how : ServeEnd) × (result.status ≡ status_after how)
+        × IsServe how ((k : K) × HasRisen 0 (K.faults k)) (C.may_give clock.now) (C.may_stop clock.now)
+        (S.left input.old) (K.held result.output) result.desk.publisher.list
+        (rows (P.datagrams ports.old) (P.acceptors ports.old) (P.dialers ports.old))
+        (rows (P.datagrams ports.new) (P.acceptors ports.new) (P.dialers ports.new)) }
+    ensures desk { command_of words.now ≢ Ok Command.Replay → command_of words.now ≢ Ok Command.Serve →
+        result.desk ≡ desk }
+    ensures ports { command_of words.now ≢ Ok Command.Serve → ports.new ≡ ports.old }
     ensures words { Decides (command_of words.now) result.status (K.held output) (K.held result.output) }
-    ensures usage { result.status ≡ Status.Usage → command_of words.now ≡ Command.Wrong }
-    ensures unread { command_of words.now ≢ Command.Answer → command_of words.now ≢ Command.Replay →
-        input.new ≡ input.old }
+    ensures usage { result.status ≡ Status.Usage → command_of words.now ≡ Err WordsError.Usage }
+    ensures unread { command_of words.now ≢ Ok Command.Answer → command_of words.now ≢ Ok Command.Replay →
+        command_of words.now ≢ Ok Command.Serve → input.new ≡ input.old }
     ensures done { (octets : Octets) → S.left input.old ≡ Some octets →
         result.status ≡ Status.Done → S.left input.new ≡ Some [] }
     ensures read_later { S.faults input.old ≤ S.faults input.new }
@@ -91,9 +109,12 @@ pub fn run<R: Threads + Wait + Sync, S: Source, K: Sink>(
         HasRisen (S.faults input.old) (S.faults input.new) }
     ensures write_fault { result.status ≡ Status.WriteFault →
         HasRisen (K.faults output) (K.faults result.output) }
+    ensures port_fault { result.status ≡ Status.PortFault → HasRisen (P.faults ports.old) (P.faults ports.new) }
+    ensures ports_later { P.faults ports.old ≤ P.faults ports.new }
 {
     match read_words(words) {
-        Command::Replay => run_replay(rt, alloc, input, output, desk),
+        Ok(Command::Replay) => run_replay(rt, alloc, input, output, desk),
+        Ok(Command::Serve) => run_serve(rt, alloc, input, output, desk, ports, clock),
         command => {
             let mut output = output;
             let status = run_command(alloc, command, input, &mut output);
@@ -109,31 +130,82 @@ pub fn run<R: Threads + Wait + Sync, S: Source, K: Sink>(
 /// Runs a command that publishes nothing.
 fn run_command<S: Source, K: Sink>(
     alloc: Global,
-    command: Command,
+    command: Result<Command, WordsError>,
     input: &mut S,
     output: &mut K,
 ) -> Status
-    requires { command ≢ Command.Replay }
-    ensures ends { command ≡ Command.Answer →
+    requires replay { command ≢ Ok Command.Replay }
+    requires serve { command ≢ Ok Command.Serve }
+    ensures ends { command ≡ Ok Command.Answer →
         (octets : Octets) → S.left input.old ≡ Some octets →
         Answers octets result (S.left input.new) (K.held output.old) (K.held output.new) }
     ensures words { Decides command result (K.held output.old) (K.held output.new) }
-    ensures usage { result ≡ Status.Usage → command ≡ Command.Wrong }
-    ensures unread { command ≢ Command.Answer → input.new ≡ input.old }
+    ensures usage { result ≡ Status.Usage → command ≡ Err WordsError.Usage }
+    ensures unread { command ≢ Ok Command.Answer → input.new ≡ input.old }
     ensures done { (octets : Octets) → S.left input.old ≡ Some octets →
         result ≡ Status.Done → S.left input.new ≡ Some [] }
+    ensures ports { result ≢ Status.PortFault }
     ensures read_cause { HasCauseIn (S.faults input.old) (S.faults input.new) result Status.ReadFault }
     ensures write_cause { HasCauseIn (K.faults output.old) (K.faults output.new) result Status.WriteFault }
 {
     match command {
-        Command::Answer => answer(alloc, input, output),
-        Command::Replay => unreachable!(),
-        Command::Later => say(b"unbuilt 0\n", Status::Unbuilt, output),
-        Command::Wrong => say(
+        Ok(Command::Answer) => answer(alloc, input, output),
+        Ok(Command::Replay | Command::Serve) => unreachable!(),
+        Ok(Command::Rehearse(_)) => say(b"unbuilt 0\n", Status::Unbuilt, output),
+        Err(WordsError::Usage) => say(
             b"usage: catzd answer | replay | rehearse N | serve\n",
             Status::Usage,
             output,
         ),
+    }
+}
+
+/// Runs `serve` over a desk.
+fn run_serve<R: Threads + Wait + Sync, S: Source, K: Sink + Send, P: Ports, C: Clock + Send + Drop>(
+    rt: &R,
+    alloc: Global,
+    input: &mut S,
+    output: K,
+    desk: Desk,
+    ports: &mut P,
+    clock: &C,
+) -> Ended<K>
+    requires desk { IsNewDesk desk.publisher desk.readings.items }
+    requires written { IfSome (K.held output) (λ text. text ≡ []) }
+    requires faultless { K.faults output ≡ 0 }
+    ensures serves { (how : ServeEnd) × (result.status ≡ status_after how)
+        × IsServe how ((k : K) × HasRisen 0 (K.faults k)) (C.may_give clock.now) (C.may_stop clock.now)
+        (S.left input.old) (K.held result.output) result.desk.publisher.list
+        (rows (P.datagrams ports.old) (P.acceptors ports.old) (P.dialers ports.old))
+        (rows (P.datagrams ports.new) (P.acceptors ports.new) (P.dialers ports.new)) }
+    ensures other { result.status ≢ Status.Usage }
+    ensures done { (octets : Octets) → S.left input.old ≡ Some octets →
+        result.status ≡ Status.Done → S.left input.new ≡ Some [] }
+    ensures read_cause { HasCauseIn (S.faults input.old) (S.faults input.new) result.status Status.ReadFault }
+    ensures write_cause { HasCauseIn (K.faults output) (K.faults result.output) result.status Status.WriteFault }
+    ensures port_fault { result.status ≡ Status.PortFault → HasRisen (P.faults ports.old) (P.faults ports.new) }
+    ensures ports_later { P.faults ports.old ≤ P.faults ports.new }
+{
+    let Served { end, output, desk } = serve_input::<S, K, Brand, P, C, R>(
+        rt, alloc, input, output, desk, ports, clock,
+    );
+    Ended {
+        status: status_after(end),
+        output,
+        desk,
+    }
+}
+
+fn status_after(end: ServeEnd) -> Status
+    ensures { result ≡ status_after end }
+{
+    match end {
+        ServeEnd::Done => Status::Done,
+        ServeEnd::BadInput => Status::BadInput,
+        ServeEnd::ReadFault => Status::ReadFault,
+        ServeEnd::WriteFault => Status::WriteFault,
+        ServeEnd::PortFault => Status::PortFault,
+        ServeEnd::NoMemory => Status::NoMemory,
     }
 }
 
@@ -152,7 +224,7 @@ fn run_replay<R: Wait, S: Source, K: Sink>(
         Replays octets result.status (S.left input.new) (K.held output) (K.held result.output) }
     ensures published { (octets : Octets) → S.left input.old ≡ Some octets → result.status ≡ Status.Done →
         result.desk.publisher.list ≡ list_of_script octets }
-    ensures other { result.status ≢ Status.Usage }
+    ensures other { (result.status ≢ Status.Usage) × (result.status ≢ Status.PortFault) }
     ensures done { (octets : Octets) → S.left input.old ≡ Some octets →
         result.status ≡ Status.Done → S.left input.new ≡ Some [] }
     ensures read_cause { HasCauseIn (S.faults input.old) (S.faults input.new) result.status Status.ReadFault }
@@ -199,7 +271,7 @@ fn give_back(readings: &mut Vec<Reading>, reading: Reading) {
 pub fn answer<S: Source, K: Sink>(alloc: Global, input: &mut S, output: &mut K) -> Status
     ensures ends { (octets : Octets) → S.left input.old ≡ Some octets →
         Answers octets result (S.left input.new) (K.held output.old) (K.held output.new) }
-    ensures other { result ≢ Status.Usage }
+    ensures other { (result ≢ Status.Usage) × (result ≢ Status.PortFault) }
     ensures done { (octets : Octets) → S.left input.old ≡ Some octets →
         result ≡ Status.Done → S.left input.new ≡ Some [] }
     ensures read_cause { HasCauseIn (S.faults input.old) (S.faults input.new) result Status.ReadFault }
@@ -232,7 +304,7 @@ pub fn replay<R: Wait, S: Source, K: Sink, J: Naming>(
         Replays octets result.status (S.left input.new) (K.held ends.output) (K.held result.ends.output) }
     ensures published { (octets : Octets) → S.left input.old ≡ Some octets → result.status ≡ Status.Done →
         result.ends.publisher.list ≡ list_of_script octets }
-    ensures other { result.status ≢ Status.Usage }
+    ensures other { (result.status ≢ Status.Usage) × (result.status ≢ Status.PortFault) }
     ensures done { (octets : Octets) → S.left input.old ≡ Some octets →
         result.status ≡ Status.Done → S.left input.new ≡ Some [] }
     ensures read_cause { HasCauseIn (S.faults input.old) (S.faults input.new) result.status Status.ReadFault }

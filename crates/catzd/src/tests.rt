@@ -1,12 +1,13 @@
+ghost use Rattle.std.specs.Prelude.{◌<◌, ◌^◌};
 ghost use Rattle.catzd.specs.Running.{IsNewDesk};
 
-use crate::edge::ReadSource;
 use crate::running::{Ended, Status, answer, run};
-use crate::words::{Command, Words, read_words};
 use dz_desk::{Desk, open_desk};
-use dz_io::{Failed, MemorySink, MemorySource, Source};
+use dz_edge::ReadSource;
+use dz_io::{Failed, MemoryClock, MemoryPorts, MemorySink, MemorySource, Source};
 use dz_report::reason_of;
 use dz_take::{ShapeFault, TakeFault, ZoneFault};
+use dz_words::Words;
 use std::alloc::{AllocError, Global};
 use std::io::{Error, ErrorKind, Read};
 use std::process::Abort;
@@ -77,6 +78,24 @@ pub fn open<R: Abort + Wait>(rt: &R, alloc: Global) -> Desk
     }
 }
 
+/// Ports at which nothing is to be opened.
+fn no_ports(alloc: Global) -> MemoryPorts {
+    MemoryPorts::new(
+        alloc,
+        Vec::new(alloc),
+        Vec::new(alloc),
+        Vec::new(alloc),
+        Vec::new(alloc),
+    )
+}
+
+/// A clock that gives this moment, and stops whoever rests.
+fn clock_at(alloc: Global, moment: u64) -> MemoryClock
+    requires { moment < 2 ^ 40 }
+{
+    MemoryClock::new(Vec::new(alloc), moment, 0)
+}
+
 /// Runs the words on an input, with reads and writes that fail.
 fn run_on<R: Abort + Threads + Wait + Sync>(
     rt: &R,
@@ -93,7 +112,16 @@ fn run_on<R: Abort + Threads + Wait + Sync>(
         status,
         output,
         desk,
-    } = run(rt, alloc, &words, &mut source, sink, open(rt, alloc));
+    } = run(
+        rt,
+        alloc,
+        &words,
+        &mut source,
+        sink,
+        open(rt, alloc),
+        &mut no_ports(alloc),
+        &clock_at(alloc, 1000),
+    );
     end(rt, desk);
     Ok(Outcome { status, output })
 }
@@ -330,24 +358,9 @@ fn each_reason_has_its_words(rt: HostRuntime) -> Result<(), AllocError> {
 }
 
 #[test]
-fn words_name_a_command(rt: HostRuntime) -> Result<(), AllocError> {
-    let alloc = rt.alloc();
-    assert!(rt; read_words(&words_of(alloc, &["answer"])?) == Command::Answer);
-    assert!(rt; read_words(&words_of(alloc, &["replay"])?) == Command::Replay);
-    assert!(rt; read_words(&words_of(alloc, &["rehearse", "1000"])?) == Command::Later);
-    assert!(rt; read_words(&words_of(alloc, &["rehearse", "1"])?) == Command::Later);
-    assert!(rt; read_words(&words_of(alloc, &["rehearse", "0"])?) == Command::Wrong);
-    assert!(rt; read_words(&words_of(alloc, &["rehearse", "01"])?) == Command::Wrong);
-    assert!(rt; read_words(&words_of(alloc, &["rehearse", "1001"])?) == Command::Wrong);
-    assert!(rt; read_words(&words_of(alloc, &["answer", "1"])?) == Command::Wrong);
-    assert!(rt; read_words(&words_of(alloc, &["serve", "1", "2"])?) == Command::Wrong);
-    Ok(())
-}
-
-#[test]
 fn commands_that_are_not_built_say_so(rt: HostRuntime) -> Result<(), AllocError> {
     let alloc = rt.alloc();
-    let ended = run_on(&rt, alloc, &["serve"], &[], no_faults(alloc))?;
+    let ended = run_on(&rt, alloc, &["rehearse", "1"], &[], no_faults(alloc))?;
     assert!(rt; is_end(alloc, &ended, Status::Unbuilt, &[b"unbuilt 0"])?);
     Ok(())
 }

@@ -1,7 +1,6 @@
 -- The list that has a configuration alone.
-use Rattle.std.proofs.Common.{◌≡◌, List, [], ◌∷◌, ◌++◌, Option, Some, None, refl, sym, ap, ◌∙◌, false}
+use Rattle.std.proofs.Common.{◌≡◌, List, [], ◌∷◌, ◌++◌, Option, Some, refl, false}
 use Rattle.dz_name.specs.Words.{Octets}
-use Rattle.dz_table.specs.Slot.{SlotOf}
 use Rattle.dz_member.specs.declared.config.CatalogSettings.{CatalogSettings}
 use Rattle.dz_member.specs.Config.{IsAllowed}
 use Rattle.dz_history.specs.declared.entry.Entry.TheVariants.{Setup}

@@ -1,5 +1,5 @@
 -- A transfer that is taken: its entry makes the list legal, its table is the list's, and its lines are the entry's.
-use Rattle.std.proofs.Common.{◌≡◌, ℕ, ◌+◌, ◌<◌, ◌≤◌, ◌^◌, Bool, true, false, List, [], ◌∷◌, ◌++◌, length, Option, None, Some, refl, sym, ap, ◌∙◌, subst, arith, append_assoc}
+use Rattle.std.proofs.Common.{◌≡◌, ℕ, Bool, true, false, List, [], ◌∷◌, ◌++◌, length, Option, None, Some, refl, sym, ap, ◌∙◌, subst, append_assoc}
 use Rattle.std.specs.Prelude.{fold, if◌then◌else◌}
 use Rattle.std.specs.Option.{option_map}
 use Rattle.std.proofs.lemmas.List.{append-nil}
@@ -9,16 +9,13 @@ use Rattle.dz_take.specs.Outcome.{outcome, octets_used}
 use Rattle.dz_take.specs.Transfer.{Decision, up_to_date, new, refused}
 use Rattle.dz_table.specs.Slot.{SlotOf}
 use Rattle.dz_history.specs.declared.entry.Entry.{Entry}
-use Rattle.dz_history.specs.declared.entry.Entry.TheVariants.{Setup, Transfer}
-use Rattle.dz_history.specs.declared.aftermath.Aftermath.{Aftermath}
-use Rattle.dz_history.specs.declared.aftermath.Aftermath.TheVariants.{Member}
 use Rattle.dz_history.specs.State.{State, nothing, held_at, policy_at}
-use Rattle.dz_history.specs.After.{step, after, decision_of, aftermath_of}
+use Rattle.dz_history.specs.After.{step, after}
 use Rattle.dz_history.specs.Legal.{CanFollow, IsLegal}
 use Rattle.dz_history.proofs.ListLemmas.{after_more, legal_more, count_is}
 use Rattle.dz_job.specs.declared.verdict.Verdict.{Verdict}
 use Rattle.dz_job.specs.declared.verdict.Verdict.TheVariants.{Published, Confirmed, Refused, PolicyRefused, Stale, OutOfMemory}
-use Rattle.dz_job.specs.Job.{JobOf, IsJob, transfer_for, taken_for, serial_in}
+use Rattle.dz_job.specs.Job.{JobOf, IsJob, transfer_for}
 use Rattle.dz_report.specs.Lines.{verdict_lines}
 use Rattle.dz_notify.specs.declared.notify.Heard.{Heard}
 use Rattle.dz_notify.specs.declared.notify.Heard.TheVariants as heard
@@ -27,7 +24,7 @@ use Rattle.dz_fleet.specs.declared.due.Due.TheVariants as due
 use Rattle.dz_fleet.specs.Core.{Core, state_of, ended_of, entry_for, verdict_of, verdict_from, is_accepted, is_old_serial, settled, after_success, after_verdict, after_end, after_failure, after_refusal, failed_core, IsDue, IsOffered, after_notify}
 use Rattle.dz_fleet.specs.Sound.{IsSound, IsFlying}
 use Rattle.dz_fleet.specs.Weighing.{Weighing, Renewed, Fits, octets_in, is_taken, renewed_for}
-use Rattle.dz_fleet.proofs.TakeLemmas.{Tells, tells, follows, decision_is}
+use Rattle.dz_fleet.proofs.TakeLemmas.{tells, follows, decision_is}
 use Rattle.dz_fleet.proofs.SoundLemmas.{among_stands}
 use Rattle.dz_fleet.proofs.SettleLemmas.{settled_by}
 use Rattle.dz_provision.specs.Log.{settled_lines}
@@ -54,7 +51,7 @@ renewed_table c job octets (Stale position) takes = absurd (cc takes)
 renewed_table c job octets OutOfMemory takes = absurd (cc takes)
 
 -- the list afterwards
-list_after : (c : Core) (job : JobOf) (octets : Octets) (now : ℕ) (v : Verdict) → is_taken v ≡ true → (after_verdict c job octets now v).list ≡ c.list ++ entry_for job octets ∷ []
+pub list_after : (c : Core) (job : JobOf) (octets : Octets) (now : ℕ) (v : Verdict) → is_taken v ≡ true → (after_verdict c job octets now v).list ≡ c.list ++ entry_for job octets ∷ []
 unfolding after_success
 list_after c job octets now (Published position serial aftermath) takes = refl
 list_after c job octets now (Confirmed position serial) takes = refl

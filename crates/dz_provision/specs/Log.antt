@@ -1,6 +1,5 @@
 -- Meaning: the log of a server: the lines of the list of taken transfers, and lines beside them.
 use Rattle.std.specs.Prelude.{⊤, ◌≡◌, ℕ, Bool, List, [], ◌∷◌, ◌++◌, codes, Option, Some, MatchBool}
-use Rattle.std.specs.List.{AllByRecursion}
 use Rattle.hex.specs.Hex.{encode_lower}
 use mathlib.Core.List.{IsPrefix}
 use Rattle.dz_name.specs.Words.{Name, Octets}

@@ -5,12 +5,16 @@
 mod copying;
 mod handing;
 mod hearing;
+mod jobs;
 mod logging;
 mod naming;
 mod provisioner;
+mod seeing;
 mod settling;
 mod shared;
+mod starving;
 
+pub use jobs::Jobs;
 pub use naming::Naming;
 pub use provisioner::{LogFault, Parts, Provisioner, Unmade, Unstarted};
 pub use shared::{Locked, Shared};

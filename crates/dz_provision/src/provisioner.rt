@@ -164,7 +164,8 @@ impl<K: Sink, J: Naming> Provisioner<K, J> {
 
     /// Whether a write to the log has failed.
     pub fn has_failed(&self) -> bool
-        ensures { result ≡ self.now.failed }
+        ensures failed { result ≡ self.now.failed }
+        ensures cause { self.now.failed ≡ true → (k : K) × HasRisen 0 (K.faults k) }
     {
         self.log_failed
     }

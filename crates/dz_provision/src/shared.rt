@@ -1,15 +1,16 @@
 //! The lock.
 
-ghost use Rattle.std.specs.Prelude.{◌≡◌, false, true, IfSome};
-ghost use mathlib.Core.List.{IsPrefix};
 ghost use Rattle.dz_io.specs.Counts.{HasRisen};
-ghost use Rattle.dz_desk.specs.Hearing.{IsHeard};
 
+use crate::jobs::Jobs;
 use crate::naming::Naming;
-use crate::provisioner::Provisioner;
+use crate::provisioner::{LogFault, Provisioner, Unmade};
 use dz_desk::{Ear, Hearing, Reading};
+use dz_fleet::{Due, Failure, Job, Verdict};
 use dz_io::{Peer, Sink};
 use dz_name::Name;
+use dz_take::Finished;
+use std::alloc::Global;
 use std::mem::ManuallyDrop;
 use std::sync::{Mutex, Wait};
 
@@ -18,7 +19,7 @@ pub struct Locked<P> {
     lock: Mutex<ManuallyDrop<P>>,
 }
 
-/// A provisioner behind a lock. It hears NOTIFY for the readings of its publisher.
+/// A provisioner behind a lock. It hears NOTIFY, hands jobs out and ends them for the readings of its publisher.
 pub type Shared<K, J> = Locked<Provisioner<K, J>>;
 
 impl<P> Locked<P> {
@@ -53,43 +54,49 @@ impl<K: Sink, J: Naming> Ear for Locked<Provisioner<K, J>> {
     }
 }
 
-impl<K: Sink, J: Naming> Provisioner<K, J> {
-    /// Sees the list first; none where the reading has seen a longer one.
-    fn hear_seen<R: Wait>(
-        &mut self,
-        rt: &R,
-        peer: &Peer,
-        zone: &Name,
-        reading: &mut Reading,
-    ) -> Option<Hearing>
-        requires out { reading.old.is_out ≡ false }
-        requires own { reading.old.book ≡ J.publisher }
-        ensures same { reading.new ≡ record reading.old { list = reading.new.list } }
-        ensures seen { IsPrefix reading.old.list reading.new.list }
-        ensures heard { IfSome result (λ hearing.
-            IsHeard ((k : K) × HasRisen 0 (K.faults k)) reading.new.list peer.now zone.now hearing) }
-    {
-        if !self.is_seen(rt, reading) {
-            return None;
-        }
-        match self.hear(peer, zone) {
-            Ok((heard, told)) => {
-                drop(told);
-                Some(Hearing::Heard(heard))
+impl<K: Sink, J: Naming> Jobs for Locked<Provisioner<K, J>> {
+    /// Hands it out under the lock, once the reading has seen the list that is there and no longer one.
+    fn hand_out<R: Wait>(&self, rt: &R, reading: &mut Reading, now: u64) -> Result<Due, LogFault> {
+        'locks: for _ in rt.forever() {
+            let mut inside = self.lock.lock(rt);
+            if inside.is_seen(rt, reading) {
+                return inside.hand_out_now(now);
             }
-            Err(_) => Some(Hearing::LogFault),
         }
+        unreachable!()
     }
 
-    /// Shows the list to a reading: whether it has seen this list and no longer one.
-    pub(crate) fn is_seen<R: Wait>(&self, rt: &R, reading: &mut Reading) -> bool
-        requires out { reading.old.is_out ≡ false }
-        requires own { reading.old.book ≡ J.publisher }
-        ensures same { reading.new ≡ record reading.old { list = reading.new.list } }
-        ensures seen { IsPrefix reading.old.list reading.new.list }
-        ensures whole { result ≡ true → reading.new.list ≡ self.now.core.list }
-    {
-        reading.learn(rt, self.tell());
-        reading.count() == self.count()
+    fn settle<R: Wait>(
+        &self,
+        rt: &R,
+        alloc: Global,
+        reading: &mut Reading,
+        job: Job,
+        finished: Finished,
+        now: u64,
+    ) -> Result<Verdict, Unmade> {
+        'locks: for _ in rt.forever() {
+            let mut inside = self.lock.lock(rt);
+            if inside.is_seen(rt, reading) {
+                return inside.settle_seen(rt, alloc, reading, job, finished, now);
+            }
+        }
+        unreachable!()
+    }
+
+    fn fail<R: Wait>(
+        &self,
+        rt: &R,
+        reading: &mut Reading,
+        job: Job,
+        now: u64,
+    ) -> Result<Failure, Unmade> {
+        'locks: for _ in rt.forever() {
+            let mut inside = self.lock.lock(rt);
+            if inside.is_seen(rt, reading) {
+                return inside.fail_now(job, now);
+            }
+        }
+        unreachable!()
     }
 }

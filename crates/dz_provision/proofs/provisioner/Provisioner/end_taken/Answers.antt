@@ -1,13 +1,12 @@
-use Rattle.std.proofs.Common.{◌≡◌, ◌∙◌, ◌∷◌, ◌++◌, [], List, rules, refl, sym, ap, subst, length, ◌<◌, ◌-◌, ◌^◌}
+use Rattle.std.proofs.Common.{◌≡◌, ◌∙◌, ◌∷◌, ◌++◌, [], rules, sym, ap}
 use Rattle.dz_fleet.specs.Core.{Core, IsOffered}
 use Rattle.dz_fleet.specs.Weighing.{octets_in}
 use Rattle.dz_report.specs.Lines.{verdict_lines}
-use Rattle.dz_provision.specs.Held.{Held}
 use Rattle.dz_provision.specs.Journal.{journal}
 use Rattle.dz_provision.specs.Log.{settled_lines}
 use Rattle.dz_provision.specs.inner.Writing.{log_of}
-use Rattle.dz_provision.proofs.LogLemmas.{Joins, joins_listed}
-use Rattle.dz_provision.proofs.TakenLemmas.{weighed_legal, weighed_table, weighed_lines, settled_list, settled_lines_of, offered_of}
+use Rattle.dz_provision.proofs.LogLemmas.{joins_listed}
+use Rattle.dz_provision.proofs.TakenLemmas.{weighed_legal, weighed_lines, settled_list, settled_lines_of, offered_of}
 use Rattle.dz_provision.proofs.HeldLemmas.{Agrees, agrees, settled_so, starved_so, note_so, room}
 use Rattle.dz_provision.proofs.provisioner.Provisioner.end_taken.Goals as goal
 

@@ -1,4 +1,4 @@
-use Rattle.std.proofs.Common.{◌≡◌, ◌∙◌, List, rules, refl, sym, ap, subst}
+use Rattle.std.proofs.Common.{◌≡◌, ◌∙◌, sym, ap, subst}
 use Rattle.dz_fleet.specs.Core.{Core, IsOffered}
 use Rattle.dz_fleet.specs.Weighing.{octets_in}
 use Rattle.dz_report.specs.Lines.{verdict_lines}

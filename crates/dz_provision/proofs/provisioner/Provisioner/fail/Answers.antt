@@ -1,4 +1,4 @@
-use Rattle.std.proofs.Common.{◌≡◌, ◌∙◌, List, rules, refl, sym, ap, subst, Some, None}
+use Rattle.std.proofs.Common.{◌≡◌, ◌∙◌, refl, sym, ap, subst, Some, None}
 use Rattle.dz_fleet.specs.Core.{Core}
 use Rattle.dz_report.specs.Lines.{failure_line}
 use Rattle.dz_provision.specs.Log as asides

@@ -1,4 +1,4 @@
-use Rattle.std.proofs.Common.{◌≡◌, ◌∙◌, List, rules, refl, sym, subst}
+use Rattle.std.proofs.Common.{◌≡◌, ◌∙◌, refl, sym, subst}
 use Rattle.dz_fleet.specs.declared.due.Due.TheVariants as due
 use Rattle.dz_report.specs.Lines.{job_line}
 use Rattle.dz_provision.specs.Log as asides

@@ -1,4 +1,4 @@
-use Rattle.std.proofs.Common.{◌≡◌, ◌∙◌, List, rules, refl, sym, ap, subst}
+use Rattle.std.proofs.Common.{◌≡◌, ◌∙◌, sym, ap, subst}
 use Rattle.dz_fleet.specs.Core.{Core}
 use Rattle.dz_report.specs.Lines.{notify_line}
 use Rattle.dz_provision.specs.Log as asides

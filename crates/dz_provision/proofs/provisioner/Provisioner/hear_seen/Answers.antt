@@ -1,4 +1,4 @@
-use Rattle.std.proofs.Common.{◌≡◌, ◌∙◌, rules, refl, sym, ap}
+use Rattle.std.proofs.Common.{rules}
 use Rattle.dz_provision.proofs.HeldLemmas.{heard_seen}
 use Rattle.dz_provision.proofs.provisioner.Provisioner.hear_seen.Goals as goal
 

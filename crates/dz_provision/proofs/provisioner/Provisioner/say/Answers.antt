@@ -1,4 +1,4 @@
-use Rattle.std.proofs.Common.{◌++◌, List, rules, refl, sym, subst}
+use Rattle.std.proofs.Common.{refl, sym, subst}
 use Rattle.dz_provision.specs.inner.Writing.{log_of}
 use Rattle.dz_provision.proofs.LogLemmas.{Joins, joins_aside}
 use Rattle.dz_provision.proofs.HeldLemmas.{Agrees, agrees, unsaid, said_so}

@@ -1,4 +1,4 @@
-use Rattle.std.proofs.Common.{◌≡◌, ◌∙◌, List, rules, refl, sym, ap, Some, None}
+use Rattle.std.proofs.Common.{◌≡◌, ◌∙◌, refl, sym, ap, Some, None}
 use Rattle.dz_provision.specs.Held.{Held}
 use Rattle.dz_provision.proofs.HeldLemmas.{unsettled, settled_none, starved_so}
 use Rattle.dz_provision.proofs.provisioner.Provisioner.settle.Goals as goal

@@ -1,5 +1,4 @@
-use Rattle.std.proofs.Common.{rules, ◌∙◌, sym, ap, subst}
-use Rattle.dz_provision.specs.Log.{IsLogged}
+use Rattle.std.proofs.Common.{rules, ◌∙◌}
 use Rattle.dz_provision.proofs.StartLemmas.{start_table, start_logged}
 use Rattle.dz_provision.proofs.provisioner.Provisioner.start.Goals as goal
 

@@ -1,0 +1,150 @@
+//! The ports of the host.
+ghost use Rattle.std.specs.Prelude.{◌≡◌, None};
+
+use crate::tcp_acceptor::bind_tcp;
+use crate::udp_datagrams::bind_udp;
+use crate::{Stop, TcpAcceptor, TcpDialer, UdpDatagrams};
+use dz_io::{Failed, Peer, Ports};
+use std::net::{Net, TcpListener, TcpStream, UdpSocket};
+
+/// What opens sockets. It tells neither where it opened them nor what came back. The devices of one kind at one address
+/// share a socket.
+#[derive(Drop)]
+pub struct HostPorts<'a, R> {
+    rt: &'a R,
+    stop: &'a Stop,
+    socket: Option<(Peer, UdpSocket)>,
+    listener: Option<(Peer, TcpListener)>,
+    datagrams_out: u64,
+    acceptors_out: u64,
+    dialers_out: u64,
+    faults: u64,
+}
+
+impl<'a, R> HostPorts<'a, R> {
+    /// Ports that have opened nothing.
+    pub fn new(rt: &'a R, stop: &'a Stop) -> HostPorts<'a, R>
+        ensures datagrams { result.datagrams_out ≡ 0 }
+        ensures acceptors { result.acceptors_out ≡ 0 }
+        ensures dialers { result.dialers_out ≡ 0 }
+        ensures faults { result.faults ≡ 0 }
+    {
+        HostPorts {
+            rt,
+            stop,
+            socket: None,
+            listener: None,
+            datagrams_out: 0,
+            acceptors_out: 0,
+            dialers_out: 0,
+            faults: 0,
+        }
+    }
+}
+
+impl<'a, R: Net<Listener = TcpListener, Stream = TcpStream> + Sync> Ports for HostPorts<'a, R> {
+    type D = UdpDatagrams<'a>;
+
+    type A = TcpAcceptor<'a>;
+
+    type L = TcpDialer<'a, R>;
+
+    ghost datagrams = { λ ports. record { opened = None; out = ports.datagrams_out; back = None } };
+
+    ghost acceptors = { λ ports. record { opened = None; out = ports.acceptors_out; back = None } };
+
+    ghost dialers = { λ ports. record { opened = None; out = ports.dialers_out; back = None } };
+
+    ghost faults = { λ ports. ports.faults };
+
+    fn open_datagrams(&mut self, listen: &Peer, _worker: u8) -> Result<UdpDatagrams<'a>, Failed> {
+        let socket = share_socket(self.rt, &mut self.socket, listen);
+        match (socket, self.datagrams_out.checked_add(1)) {
+            (Some(socket), Some(out)) => {
+                self.datagrams_out = out;
+                Ok(UdpDatagrams::new(socket, self.stop))
+            }
+            _ => {
+                self.faults = self.faults.saturating_add(1);
+                Err(Failed)
+            }
+        }
+    }
+
+    fn open_acceptor(&mut self, listen: &Peer, _worker: u8) -> Result<TcpAcceptor<'a>, Failed> {
+        let listener = share_listener(self.rt, &mut self.listener, listen);
+        match (listener, self.acceptors_out.checked_add(1)) {
+            (Some(listener), Some(out)) => {
+                self.acceptors_out = out;
+                Ok(TcpAcceptor::new(listener, self.stop))
+            }
+            _ => {
+                self.faults = self.faults.saturating_add(1);
+                Err(Failed)
+            }
+        }
+    }
+
+    fn dialer(&mut self, _worker: u8) -> Result<TcpDialer<'a, R>, Failed> {
+        match self.dialers_out.checked_add(1) {
+            Some(out) => {
+                self.dialers_out = out;
+                Ok(TcpDialer::new(self.rt, self.stop))
+            }
+            None => {
+                self.faults = self.faults.saturating_add(1);
+                Err(Failed)
+            }
+        }
+    }
+
+    fn close_datagrams(&mut self, device: UdpDatagrams<'a>) {
+        self.datagrams_out -= 1;
+        if device.faults > 0 {
+            self.faults = self.faults.saturating_add(1);
+        }
+    }
+
+    fn close_acceptor(&mut self, device: TcpAcceptor<'a>) {
+        self.acceptors_out -= 1;
+        if device.faults > 0 {
+            self.faults = self.faults.saturating_add(1);
+        }
+    }
+
+    fn close_dialer(&mut self, _device: TcpDialer<'a, R>) {
+        self.dialers_out -= 1;
+    }
+}
+
+/// The socket that was kept at this address, or a new one, which it keeps.
+fn share_socket<R: Net>(
+    rt: &R,
+    kept: &mut Option<(Peer, UdpSocket)>,
+    listen: &Peer,
+) -> Option<UdpSocket> {
+    if let Some((at, socket)) = kept {
+        if *at == *listen {
+            return socket.try_clone().ok();
+        }
+    }
+    let socket = bind_udp(rt, listen)?;
+    *kept = Some((*listen, socket.try_clone().ok()?));
+    Some(socket)
+}
+
+/// The listener that was kept at this address, or a new one, which it keeps.
+fn share_listener<R: Net<Listener = TcpListener, Stream = TcpStream>>(
+    rt: &R,
+    kept: &mut Option<(Peer, TcpListener)>,
+    listen: &Peer,
+) -> Option<TcpListener> {
+    if let Some((at, listener)) = kept {
+        if *at == *listen {
+            return listener.try_clone().ok();
+        }
+    }
+    let listener = bind_tcp(rt, listen)?;
+    *kept = Some((*listen, listener.try_clone().ok()?));
+    Some(listener)
+}

@@ -1,0 +1,23 @@
+//! The devices of a running server: standard input and output, UDP and TCP sockets of IPv4, and the host's clock.
+#![tactic(auto)]
+
+mod address;
+mod host_clock;
+mod host_ports;
+mod standard;
+mod stop;
+mod tcp_acceptor;
+mod tcp_dialer;
+mod tcp_link;
+#[cfg(test)]
+mod tests;
+mod udp_datagrams;
+
+pub use host_clock::HostClock;
+pub use host_ports::HostPorts;
+pub use standard::{ReadSource, WriteSink};
+pub use stop::Stop;
+pub use tcp_acceptor::TcpAcceptor;
+pub use tcp_dialer::TcpDialer;
+pub use tcp_link::TcpLink;
+pub use udp_datagrams::UdpDatagrams;

@@ -1,0 +1,76 @@
+//! A dialer over TCP.
+ghost use Rattle.std.specs.Prelude.{◌≡◌, None, IfSome};
+
+use crate::address::socket_address;
+use crate::tcp_link::LIMIT_SECONDS;
+use crate::{Stop, TcpLink};
+use dz_io::{Dialer, Failed, Peer};
+use std::net::{Net, TcpStream};
+use std::time::Duration;
+
+/// What makes TCP connections. It doesn't tell its links.
+#[derive(Drop)]
+pub struct TcpDialer<'a, R> {
+    rt: &'a R,
+    stop: &'a Stop,
+    out: Option<Peer>,
+    faults: u64,
+}
+
+impl<'a, R> TcpDialer<'a, R> {
+    /// A dialer that has made no link.
+    pub(crate) fn new(rt: &'a R, stop: &'a Stop) -> TcpDialer<'a, R>
+        ensures out { result.out ≡ None }
+        ensures faults { result.faults ≡ 0 }
+    {
+        TcpDialer {
+            rt,
+            stop,
+            out: None,
+            faults: 0,
+        }
+    }
+}
+
+impl<'a, R: Net<Stream = TcpStream>> Dialer for TcpDialer<'a, R> {
+    type L = TcpLink<'a>;
+
+    ghost links = { λ _. None };
+
+    ghost out = { λ dialer. dialer.out };
+
+    ghost faults = { λ dialer. dialer.faults };
+
+    fn dial(&mut self, peer: &Peer) -> Result<TcpLink<'a>, Failed> {
+        match connect(self.rt, peer, self.stop) {
+            Some(link) => {
+                self.out = Some(*peer);
+                Ok(link)
+            }
+            None => {
+                self.faults = self.faults.saturating_add(1);
+                Err(Failed)
+            }
+        }
+    }
+
+    fn done(&mut self, link: TcpLink<'a>) {
+        self.out = None;
+        if link.faults > 0 {
+            self.faults = self.faults.saturating_add(1);
+        }
+    }
+}
+
+/// A new connection to a peer; none where it doesn't answer within the limit.
+fn connect<'a, R: Net<Stream = TcpStream>>(
+    rt: &R,
+    peer: &Peer,
+    stop: &'a Stop,
+) -> Option<TcpLink<'a>>
+    ensures { IfSome result (λ link. link.faults ≡ 0) }
+{
+    let limit = Duration::from_secs(LIMIT_SECONDS);
+    let stream = TcpStream::connect_timeout(rt, &socket_address(peer), limit).ok()?;
+    TcpLink::new(stream, stop)
+}

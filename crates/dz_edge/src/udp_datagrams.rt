@@ -1,0 +1,108 @@
+//! Datagrams over UDP.
+ghost use Rattle.std.specs.Prelude.{◌≡◌, ◌≤◌, length, false, None, IfSome};
+ghost use Rattle.dz_io.specs.Packets.{Receives};
+
+use crate::Stop;
+use crate::address::{peer_of, socket_address};
+use dz_io::{Datagrams, Failed, Peer, Received};
+use std::io::ErrorKind;
+use std::net::{Net, SocketAddr, UdpSocket};
+use std::time::Duration;
+
+/// How many milliseconds a socket waits before it looks whether to stop.
+const LOOK_MILLIS: u64 = 200;
+
+/// After how many errors in a row a socket counts as failed.
+const ERRORS: u32 = 100;
+
+/// A UDP socket. It doesn't tell its packets, and is closed once the server is to stop.
+#[derive(Drop)]
+pub struct UdpDatagrams<'a> {
+    pub(crate) socket: UdpSocket,
+    stop: &'a Stop,
+    is_closed: bool,
+    pub(crate) faults: u64,
+}
+
+/// A socket that listens at this address and port.
+pub(crate) fn bind_udp<R: Net>(rt: &R, listen: &Peer) -> Option<UdpSocket> {
+    let socket = UdpSocket::bind(rt, socket_address(listen)).ok()?;
+    let limit = Some(Duration::from_millis(LOOK_MILLIS));
+    socket.set_read_timeout(limit).ok()?;
+    Some(socket)
+}
+
+impl<'a> UdpDatagrams<'a> {
+    /// A device that has received and sent nothing.
+    pub(crate) fn new(socket: UdpSocket, stop: &'a Stop) -> UdpDatagrams<'a>
+        ensures closed { result.is_closed ≡ false }
+        ensures faults { result.faults ≡ 0 }
+    {
+        UdpDatagrams {
+            socket,
+            stop,
+            is_closed: false,
+            faults: 0,
+        }
+    }
+}
+
+impl<'a> Datagrams for UdpDatagrams<'a> {
+    ghost received = { λ _. None };
+
+    ghost sent = { λ _. None };
+
+    ghost is_closed = { λ device. device.is_closed };
+
+    ghost faults = { λ device. device.faults };
+
+    /// Fails after a run of errors only, since a later packet may come well.
+    fn receive(&mut self, buffer: &mut [u8]) -> Result<Received, Failed> {
+        match receive_next(&self.socket, self.stop, buffer) {
+            Some(Received::Closed) => {
+                self.is_closed = true;
+                Ok(Received::Closed)
+            }
+            Some(Received::Packet { length, peer }) => Ok(Received::Packet { length, peer }),
+            None => {
+                self.faults = self.faults.saturating_add(1);
+                Err(Failed)
+            }
+        }
+    }
+
+    fn send(&mut self, peer: &Peer, piece: &[u8]) -> Result<(), Failed> {
+        match self.socket.send_to(piece, socket_address(peer)) {
+            Ok(count) if count == piece.len() => Ok(()),
+            _ => {
+                self.faults = self.faults.saturating_add(1);
+                Err(Failed)
+            }
+        }
+    }
+}
+
+/// The next packet, or that the server is to stop; none after a run of errors.
+fn receive_next(socket: &UdpSocket, stop: &Stop, buffer: &mut [u8]) -> Option<Received>
+    ensures { IfSome result (λ r. Receives r buffer.new None None) }
+{
+    let mut errors = 0_u32;
+    'packets: for _ in 0..u64::MAX {
+        if stop.is_set() {
+            return Some(Received::Closed);
+        }
+        match socket.recv_from(buffer) {
+            Ok((length, SocketAddr::V4(from))) => {
+                let peer = peer_of(&from);
+                return Some(Received::Packet { length, peer });
+            }
+            Err(error) if error.kind() == ErrorKind::Interrupted => {}
+            Err(error) if error.kind() == ErrorKind::WouldBlock => errors = 0,
+            _ => errors = errors.saturating_add(1),
+        }
+        if errors == ERRORS {
+            break;
+        }
+    }
+    None
+}

@@ -1,0 +1,76 @@
+//! Where jobs are handed out and ended.
+
+ghost use Rattle.std.specs.Prelude.{◌≡◌, ◌<◌, ◌^◌, false, length, Err, IsErr};
+ghost use mathlib.Core.List.{IsPrefix};
+ghost use Rattle.dz_job.specs.Job.{transfer_for};
+ghost use Rattle.dz_provision.specs.Receipts.{IsHandedAt, IsSettledAt, IsFailedAt};
+
+use crate::provisioner::{LogFault, Unmade};
+use dz_desk::{Ear, Reading};
+use dz_fleet::{Due, Failure, Job, Verdict};
+use dz_take::Finished;
+use std::alloc::Global;
+use std::sync::Wait;
+
+/// Where jobs are handed out and ended, for the readings of one publisher. What a call answers stands by the list that its
+/// reading has then seen. Moments are in seconds below 2^40. Each call may wait.
+pub trait Jobs: Ear {
+    /// Asks for a job, whose line is written. Where there is none, nothing is.
+    ///
+    /// # Errors
+    ///
+    /// `LogFault` where a write to the log has failed, now or before.
+    fn hand_out<R: Wait>(&self, rt: &R, reading: &mut Reading, now: u64) -> Result<Due, LogFault>
+        requires out { reading.old.is_out ≡ false }
+        requires own { reading.old.book ≡ Self.publisher }
+        requires moment { now < 2 ^ 40 }
+        ensures same { reading.new ≡ record reading.old { list = reading.new.list } }
+        ensures seen { IsPrefix reading.old.list reading.new.list }
+        ensures handed { IsHandedAt result reading.new.list now }
+        ensures cause { IsErr result → Self.may_fail };
+
+    /// Ends a job by what came of its transfer. One that is taken is published, and the reading has then seen it. The lines
+    /// of the verdict are written, and for want of memory `nomemory` with the zone.
+    ///
+    /// # Errors
+    ///
+    /// `LogFault` where a write to the log has failed, now or before; `NotInFlight` where the job is none that was handed
+    /// out here, or has ended. The job is closed then.
+    fn settle<R: Wait>(
+        &self,
+        rt: &R,
+        alloc: Global,
+        reading: &mut Reading,
+        job: Job,
+        finished: Finished,
+        now: u64,
+    ) -> Result<Verdict, Unmade>
+        requires out { reading.old.is_out ≡ false }
+        requires own { reading.old.book ≡ Self.publisher }
+        requires transfer { finished.transfer ≡ transfer_for job }
+        requires moment { now < 2 ^ 40 }
+        ensures same { reading.new ≡ record reading.old { list = reading.new.list } }
+        ensures seen { IsPrefix reading.old.list reading.new.list }
+        ensures settled { IsSettledAt result job finished.octets (length reading.old.list) reading.new.list }
+        ensures cause { result ≡ Err Unmade.LogFault → Self.may_fail };
+
+    /// Ends a job that failed, and its line is written.
+    ///
+    /// # Errors
+    ///
+    /// As those of [`Jobs::settle`].
+    fn fail<R: Wait>(
+        &self,
+        rt: &R,
+        reading: &mut Reading,
+        job: Job,
+        now: u64,
+    ) -> Result<Failure, Unmade>
+        requires out { reading.old.is_out ≡ false }
+        requires own { reading.old.book ≡ Self.publisher }
+        requires moment { now < 2 ^ 40 }
+        ensures same { reading.new ≡ record reading.old { list = reading.new.list } }
+        ensures seen { IsPrefix reading.old.list reading.new.list }
+        ensures failed { IsFailedAt result job (length reading.old.list) reading.new.list }
+        ensures cause { result ≡ Err Unmade.LogFault → Self.may_fail };
+}

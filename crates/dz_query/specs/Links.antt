@@ -1,0 +1,63 @@
+-- Meaning: what a worker owes for the links that an acceptor gave it, one after the other.
+use Rattle.std.specs.Prelude.{◌≡◌, ℕ, Bool, true, List, length, map, Option, IfSome, IsSome}
+use Rattle.std.specs.List.{flat_map, AllByRecursion}
+use mathlib.Core.List.{IsPrefix}
+use Rattle.dz_name.specs.Words.{Octets}
+use Rattle.dz_io.specs.Counts.{HasRisen, HasRisenBy}
+use Rattle.dz_io.specs.Device.{Gains, Tells}
+use Rattle.dz_io.specs.Links.{Dialled}
+use Rattle.dz_history.specs.declared.entry.Entry.{Entry}
+use Rattle.dz_query.specs.Served.{Served, requests, moments, framed, AreInTurn}
+use Rattle.dz_query.specs.Stream.{requests_in, EndsBy}
+use Rattle.dz_query.specs.declared.links.LinksEnd.{LinksEnd}
+use Rattle.dz_query.specs.declared.links.LinksEnd.TheVariants as links_end
+use Rattle.dz_query.specs.declared.stream.StreamEnd.{StreamEnd}
+use Rattle.dz_query.specs.declared.stream.StreamEnd.TheVariants.{Ended, Failed}
+
+-- a link that came back, how its session ended, and its requests
+pub record Visit : Type 0 where
+  pub link : Dialled
+  pub ending : StreamEnd
+  pub served : List Served
+
+abbrev pub links_of : List Visit → List Dialled
+links_of visits = map (λ (v : Visit). v.link) visits
+
+-- the requests of all links, in their order
+abbrev pub all_served : List Visit → List Served
+all_served visits = flat_map (λ (v : Visit). v.served) visits
+
+-- where it is told, it is this; after a fault a prefix of it
+abbrev pub IsWritten : StreamEnd → Octets → Option Octets → Type 0
+IsWritten Ended octets told = Tells octets told
+IsWritten Failed octets told = IfSome told (λ written. IsPrefix written octets)
+
+-- the requests are the whole messages that were read, and their replies were written; and nothing was left, or the link's
+-- count rose
+pub record IsVisit (list : List Entry) (visit : Visit) : Type 0 where
+  pub read : IfSome visit.link.read (λ octets. requests visit.served ≡ requests_in visit.link.peer octets)
+  pub written : IsWritten visit.ending (framed list visit.served) visit.link.written
+  pub ends : EndsBy visit.ending visit.link.left 0 visit.link.faults
+
+-- what the acceptor, the reading and the clock tell: the links that came back, the sights, and the moments
+pub record LinksTold : Type 0 where
+  pub links : Option (List Dialled)
+  pub sights : ℕ
+  pub moments : Option (List ℕ)
+
+abbrev pub links_told : Option (List Dialled) → ℕ → Option (List ℕ) → LinksTold
+links_told links sights moments = record { links = links; sights = sights; moments = moments }
+
+-- these links came back. The requests of all of them are one list, over which the beginnings never shrink
+pub record AreVisits (may_fail : Type 0) (may_give : ℕ → Bool) (from : ℕ) (list : List Entry) (before now : LinksTold) : Type 0 where
+  pub visits : List Visit
+  pub links : Gains (links_of visits) before.links now.links
+  pub each : AllByRecursion (IsVisit list) visits
+  pub turns : AreInTurn may_fail may_give true from list (all_served visits)
+  pub given : IsSome now.moments → Gains (moments (all_served visits)) before.moments now.moments
+  pub sights : HasRisenBy (length (all_served visits)) before.sights now.sights
+
+-- closed only where the acceptor said so, and failed only where its count rose
+abbrev pub AcceptsUntil : LinksEnd → Bool → ℕ → ℕ → Type 0
+AcceptsUntil links_end.Closed mark before now = mark ≡ true
+AcceptsUntil links_end.Failed mark before now = HasRisen before now

@@ -1,0 +1,3 @@
+-- Inner: one request, and one frame.
+pub mod Coming
+pub mod Replying

@@ -1,0 +1,130 @@
+//! A session over a link.
+
+ghost use Rattle.std.specs.Prelude.{◌≡◌, ◌≤◌, ◌+◌, ◌++◌, false, length, take, drop, OnOk, OnErr};
+ghost use mathlib.Core.List.{IsPrefix};
+ghost use Rattle.dz_io.specs.Device.{Gains, GainsPrefix, HasCause};
+ghost use Rattle.dz_message.specs.Frame.{frame, stream};
+ghost use Rattle.dz_name.specs.declared.dns.TheConstants.{MESSAGE_OCTETS};
+ghost use Rattle.dz_header.specs.declared.writer.TheConstants.{BUFFER_OCTETS};
+ghost use Rattle.dz_query.specs.inner.Replying.{texts_of, IsShort};
+ghost use Rattle.dz_query.specs.Stream.{flow, IsStream, EndsBy};
+
+use crate::answering::{Answered, answer_incoming};
+use crate::coming::{Came, read_message};
+use crate::incoming::Incoming;
+use dz_desk::{Ear, Reading};
+use dz_header::{ReplyBuffer, Writer};
+use dz_io::{Clock, Failed, Link, Peer, Sink};
+use dz_message::LENGTH_OCTETS;
+use dz_name::numbers::two;
+use dz_request::Transport;
+use std::sync::Wait;
+
+/// How a session over a link ended.
+#[derive(Clone, Copy, Debug, PartialEq, Eq)]
+pub enum StreamEnd {
+    /// The link ended, in a message or between two.
+    Ended,
+    /// A read or a write failed.
+    Failed,
+}
+
+/// Answers the messages of a link, each behind its length (RFC 1035 section 4.2.2), until it ends or fails: each at a
+/// moment of the clock, which is asked once for each, and by the list that the reading sees then. A part of a message at
+/// the end gets no reply. A reply is one write, with its length in front (RFC 7766 section 8). An ear hears NOTIFY
+/// (RFC 1996). It takes no memory, and may wait for ever. The publisher has to stay open.
+#[tactic(auto, using(crate::proofs::StreamLemmas::none_yet, dz_desk::proofs::PrefixLemmas::prefix_self))]
+pub fn serve_stream<E: Ear, L: Link, C: Clock, R: Wait>(
+    rt: &R,
+    ear: &E,
+    reading: &mut Reading,
+    link: &mut L,
+    clock: &mut C,
+    peer: &Peer,
+    buffer: &mut ReplyBuffer,
+) -> StreamEnd
+    requires out { reading.old.is_out ≡ false }
+    requires own { reading.old.book ≡ E.publisher }
+    ensures seen { IsPrefix reading.old.list reading.new.list }
+    ensures same { (reading.new.is_out ≡ false) × (reading.new.book ≡ reading.old.book) }
+    ensures stream { IsStream result E.may_fail (C.may_give clock.old) (length reading.old.list) reading.new.list
+        peer.now
+        (flow (L.given link.old) (L.held link.old) reading.old.sights (C.given clock.old))
+        (flow (L.given link.new) (L.held link.new) reading.new.sights (C.given clock.new)) }
+    ensures ends { EndsBy result (L.left link.new) (L.Source.faults link.old) (L.Source.faults link.new) }
+    ensures later { L.Source.faults link.old ≤ L.Source.faults link.new }
+    ensures give { C.may_give clock.new ≡ C.may_give clock.old }
+    ensures stop { C.may_stop clock.new ≡ C.may_stop clock.old }
+{
+    let ReplyBuffer { request, reply } = buffer;
+    'messages: for _ in rt.forever() {
+        let size = match read_message(link, request) {
+            Came::Ended => return StreamEnd::Ended,
+            Came::Failed => return StreamEnd::Failed,
+            Came::Message(size) => size,
+        };
+        let octets = request.as_slice();
+        let incoming = Incoming {
+            octets: &octets[..size],
+            peer,
+            moment: clock.now(),
+            transport: Transport::Tcp,
+        };
+        let answered = answer_incoming(rt, ear, reading, &incoming, reply);
+        match write_answer(link, answered, reply, request) {
+            Err(Failed) => return StreamEnd::Failed,
+            Ok(()) => {}
+        }
+    }
+    unreachable!()
+}
+
+// Writes the reply, if there is one, behind its length. It is put together in the room for requests.
+fn write_answer<S: Sink>(
+    sink: &mut S,
+    answered: Answered,
+    writer: &Writer,
+    room: &mut Vec<u8>,
+) -> Result<(), Failed>
+    requires room { length room.old.items ≡ BUFFER_OCTETS }
+    requires short { IsShort answered writer.now.writing }
+    ensures all { OnOk result
+        (Gains (stream (texts_of answered writer.now.writing)) (S.held sink.old) (S.held sink.new)) }
+    ensures err { OnErr result
+        (GainsPrefix (stream (texts_of answered writer.now.writing)) (S.held sink.old) (S.held sink.new)) }
+    ensures room { length room.new.items ≡ BUFFER_OCTETS }
+    ensures beside { S.beside sink.new ≡ S.beside sink.old }
+    ensures cause { HasCause (S.faults sink.old) (S.faults sink.new) result }
+{
+    match answered {
+        Answered::Silent | Answered::Unheard => Ok(()),
+        Answered::Written(count) => write_framed(sink, writer.first(count), room),
+    }
+}
+
+// Writes a message behind its length, in one call (RFC 7766 section 8).
+fn write_framed<S: Sink>(sink: &mut S, message: &[u8], room: &mut Vec<u8>) -> Result<(), Failed>
+    requires room { length room.old.items ≡ BUFFER_OCTETS }
+    requires short { length message.now ≤ MESSAGE_OCTETS }
+    ensures all { OnOk result (Gains (frame message.now) (S.held sink.old) (S.held sink.new)) }
+    ensures err { OnErr result (GainsPrefix (frame message.now) (S.held sink.old) (S.held sink.new)) }
+    ensures room { length room.new.items ≡ BUFFER_OCTETS }
+    ensures beside { S.beside sink.new ≡ S.beside sink.old }
+    ensures cause { HasCause (S.faults sink.old) (S.faults sink.new) result }
+{
+    let end = LENGTH_OCTETS + message.len();
+    put_at(room, 0, &two(message.len() as u16));
+    put_at(room, LENGTH_OCTETS, message);
+    sink.write(&room[..end])
+}
+
+// Puts octets to a place of the room.
+fn put_at(room: &mut Vec<u8>, at: usize, octets: &[u8])
+    requires { at + length octets.now ≤ length room.old.items }
+    ensures octets { room.new.items ≡
+        take at room.old.items ++ (octets.now ++ drop (at + length octets.now) room.old.items) }
+    ensures room { length room.new.items ≡ length room.old.items }
+{
+    let end = at + octets.len();
+    room[at..end].copy_from_slice(octets);
+}

@@ -1,0 +1,4 @@
+pub mod EndLemmas
+pub mod RowLemmas
+pub mod RunLemmas
+pub mod SettingLemmas

@@ -1,0 +1,71 @@
+-- Meaning: the command `serve`: what its input configures, and what it says where that is nothing.
+use Rattle.std.specs.Prelude.{⊤, ◌≡◌, ◌≢◌, ◌≤◌, ◌+◌, ℕ, Bool, true, List, [], ◌∷◌, ◌++◌, length, take, codes, Option, Some, Result, Ok, Err}
+use Rattle.dz_name.specs.Words.{Octets}
+use Rattle.dz_io.specs.Device.{Gains, GainsPrefix, Gives, IsAtEnd, Tells}
+use Rattle.dz_io.specs.declared.peer.Peer.{Peer}
+use Rattle.dz_member.specs.declared.config.CatalogSettings.{CatalogSettings}
+use Rattle.dz_history.specs.declared.entry.Entry.{Entry}
+use Rattle.dz_provision.specs.Log.{IsLogged}
+use Rattle.dz_config.specs.Config.{Reads}
+use Rattle.dz_config.specs.Reading.{number_of}
+use Rattle.dz_config.specs.declared.config.TheConstants.{TEXT_OCTETS}
+use Rattle.dz_config.specs.declared.fault.ConfigFault.{ConfigFault}
+use Rattle.dz_config.specs.declared.fault.ConfigError.TheVariants.{Fault}
+use Rattle.dz_serve.specs.Ends.{is_write_fault}
+use Rattle.dz_serve.specs.Rows.{Rows, AreUnused, opened_at}
+use Rattle.dz_serve.specs.Runs.{IsRun, IsListOf}
+use Rattle.dz_serve.specs.declared.status.ServeEnd.{ServeEnd}
+use Rattle.dz_serve.specs.declared.status.ServeEnd.TheVariants as ends
+use Rattle.dz_serve.specs.declared.serving.Setting.{Setting}
+use Rattle.dz_serve.specs.declared.command.Unset.{Unset}
+use Rattle.dz_serve.specs.declared.command.Unset.TheVariants as unset
+
+-- a text was read to the source's end, or as much of it as is longer than any configuration
+pub record IsText (text : Octets) (before after : Option Octets) : Type 0 where
+  pub gives : Gives text before after
+  pub all : length text ≤ TEXT_OCTETS → IsAtEnd after
+
+-- what was read of an input with these octets: its configuration, or its fault; a fault of the source and want of memory
+-- tell nothing
+abbrev pub IsSettingOf : Octets → Result Setting Unset → Type 0
+IsSettingOf octets (Ok setting) = Reads octets (Ok (setting.listen, setting.config))
+IsSettingOf octets (Err (unset.Bad fault)) = Reads octets (Err (Fault fault))
+IsSettingOf octets (Err unset.Read) = ⊤
+IsSettingOf octets (Err unset.OutOfMemory) = ⊤
+
+-- the line that is said of a fault
+abbrev pub bad_config : ConfigFault → Octets
+bad_config fault = codes "bad config " ++ ((48 + number_of fault) ∷ 10 ∷ [])
+
+-- the line was written; or the write failed behind a prefix of it
+abbrev pub SaysBad : ConfigFault → ServeEnd → Option Octets → Option Octets → Type 0
+SaysBad fault ends.BadInput before after = Gains (bad_config fault) before after
+SaysBad fault ends.WriteFault before after = GainsPrefix (bad_config fault) before after
+SaysBad fault how before after = ⊥
+
+-- an input has this fault, where it tells its octets
+abbrev pub HasFault : Option Octets → ConfigFault → Type 0
+HasFault input fault = (octets : Octets) → input ≡ Some octets → Reads octets (Err (Fault fault))
+
+-- what is written where no worker was started: the fault of an input that is no configuration, as far as it could be
+-- written; and else nothing
+abbrev pub IsIdle : ServeEnd → Option Octets → Option Octets → Type 0
+IsIdle ends.BadInput input held = (fault : ConfigFault) × HasFault input fault × Tells (bad_config fault) held
+IsIdle ends.WriteFault input held = (fault : ConfigFault) × HasFault input fault × ((n : ℕ) × Tells (take n (bad_config fault)) held)
+IsIdle how input held = Tells [] held
+
+-- a server ran with the configuration of the input: its list begins with that, and the log of the list is written
+pub record IsServed (how : ServeEnd) (may_fail : Type 0) (may_give : ℕ → Bool) (input held : Option Octets) (list : List Entry) (before after : Rows) : Type 0 where
+  pub listen : Peer
+  pub config : List CatalogSettings
+  pub reads : (octets : Octets) → input ≡ Some octets → Reads octets (Ok (listen, config))
+  pub begins : IsListOf config list
+  pub run : IsRun how may_fail may_give list (opened_at listen before) after
+  pub logged : IsLogged list held (is_write_fault how)
+
+-- what came of the command: no worker was started, the list has no entry, and what was opened is closed; or a server ran
+pub record IsServe (how : ServeEnd) (may_fail : Type 0) (may_give : ℕ → Bool) (may_stop : Bool) (input held : Option Octets) (list : List Entry) (before after : Rows) : Type 0 where
+  pub unserved : list ≡ [] → IsIdle how input held × AreUnused before after
+  pub served : list ≢ [] → IsServed how may_fail may_give input held list before after
+  pub done : how ≡ ends.Done → (list ≢ []) × (may_stop ≡ true)
+  pub bad : how ≡ ends.BadInput → (list ≡ []) × (after ≡ before)

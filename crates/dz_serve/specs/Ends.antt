@@ -1,0 +1,24 @@
+-- Meaning: how sessions end, and how serving does.
+use Rattle.std.specs.Prelude.{Bool, true, false}
+use Rattle.dz_query.specs.declared.datagrams.SessionEnd.{SessionEnd}
+use Rattle.dz_query.specs.declared.datagrams.SessionEnd.TheVariants.{Closed, Failed}
+use Rattle.dz_query.specs.declared.links.LinksEnd.{LinksEnd}
+use Rattle.dz_query.specs.declared.links.LinksEnd.TheVariants as links_ends
+use Rattle.dz_serve.specs.declared.status.ServeEnd.{ServeEnd}
+use Rattle.dz_serve.specs.declared.status.ServeEnd.TheVariants as ends
+
+-- a session ended at its device's end, with no reply lost
+abbrev pub is_whole : SessionEnd → Bool
+is_whole (Closed true) = false
+is_whole (Closed false) = true
+is_whole Failed = false
+
+-- an acceptor closed
+abbrev pub has_closed : LinksEnd → Bool
+has_closed links_ends.Closed = true
+has_closed links_ends.Failed = false
+
+-- a write to the log failed
+abbrev pub is_write_fault : ServeEnd → Bool
+is_write_fault ends.WriteFault = true
+is_write_fault end = false

@@ -1,0 +1,5 @@
+pub mod Command
+pub mod Ends
+pub mod Rows
+pub mod Runs
+pub mod Workers

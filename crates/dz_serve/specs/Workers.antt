@@ -1,0 +1,48 @@
+-- Meaning: what workers hand on.
+use Rattle.std.specs.Prelude.{◌≡◌, ℕ, Bool, true, false, List, length, Option}
+use mathlib.Core.List.{IsPrefix}
+use Rattle.dz_io.specs.Links.{Dialled}
+use Rattle.dz_io.specs.Ports.{Accepts, Dials}
+use Rattle.dz_history.specs.declared.entry.Entry.{Entry}
+use Rattle.dz_desk.specs.Seen.{Book, Viewed}
+use Rattle.dz_query.specs.Session.{Told, IsSession, HasClosed}
+use Rattle.dz_query.specs.declared.datagrams.SessionEnd.{SessionEnd}
+use Rattle.dz_query.specs.Links.{AreVisits, AcceptsUntil, links_told}
+use Rattle.dz_query.specs.declared.links.LinksEnd.{LinksEnd}
+use Rattle.dz_work.specs.Serving.{IsTransfers}
+use Rattle.dz_work.specs.declared.serving.Transfers.{Transfers}
+use Rattle.dz_work.specs.declared.serving.TransferEnd.TheVariants as transfer_ends
+
+-- a reading that has seen more, and is at rest
+pub record HasSeenMore (before after : Viewed) : Type 0 where
+  pub rests : after.is_out ≡ false
+  pub own : after.book ≡ before.book
+  pub seen : IsPrefix before.list after.list
+
+-- a datagram worker: its session, by a list that has all that its reading had seen
+pub record HasListened (ending : SessionEnd) (mark : Bool) (may_fail : Type 0) (may_give : ℕ → Bool) (before after : Viewed) (old now : Told) : Type 0 where
+  pub more : HasSeenMore before after
+  pub session : IsSession ending may_fail may_give (length before.list) after.list old now
+  pub closed : HasClosed ending mark
+
+-- a link worker: the sessions over its links
+pub record HasLinked (ending : LinksEnd) (may_fail : Type 0) (may_give : ℕ → Bool) (before after : Viewed) (old now : Accepts) (given told : Option (List ℕ)) : Type 0 where
+  pub more : HasSeenMore before after
+  pub visits : AreVisits may_fail may_give (length before.list) after.list (links_told old.links before.sights given) (links_told now.links after.sights told)
+  pub until : AcceptsUntil ending now.is_closed old.faults now.faults
+
+-- a transfer worker
+pub record HasTransferred (done : Transfers) (may_stop : Bool) (before after : Viewed) (old now : Dials) : Type 0 where
+  pub more : HasSeenMore before after
+  pub transfers : IsTransfers done.dialed (length before.list) after.list old.links now.links old.faults now.faults
+  pub stopped : done.end ≡ transfer_ends.Stopped → may_stop ≡ true
+
+-- a reading of this book, at rest
+pub record IsSeated (book : Book) (reading : Viewed) : Type 0 where
+  pub rests : reading.is_out ≡ false
+  pub own : reading.book ≡ book
+
+-- a worker was given this reading, this device and this clock
+abbrev pub IsMadeOf : {D C : Type 0} → Viewed → D → C → Viewed → D → C → Type 0
+IsMadeOf reading device clock its_reading its_device its_clock =
+    (its_reading ≡ reading) × (its_device ≡ device) × (its_clock ≡ clock)

@@ -1,0 +1,131 @@
+//! The command `serve`.
+
+ghost use Rattle.std.specs.Prelude.{◌≡◌, ◌≢◌, ◌≤◌, [], length, None, Some, Ok, Err, IfOk, IfSome, MatchBool, All};
+ghost use Rattle.dz_io.specs.Counts.{HasRisen};
+ghost use Rattle.dz_io.specs.Device.{HasCauseOf};
+ghost use Rattle.dz_io.specs.Ports.{IsFreshExchange, IsFreshAccepts, IsFreshDials};
+ghost use Rattle.dz_io.specs.declared.peer.Peer.{Peer};
+ghost use Rattle.dz_name.specs.Words.{Octets};
+ghost use Rattle.dz_member.specs.Config.{IsAllowed};
+ghost use Rattle.dz_member.specs.declared.config.CatalogSettings.{CatalogSettings};
+ghost use Rattle.dz_config.specs.Config.{Reads};
+ghost use Rattle.dz_config.specs.declared.fault.ConfigFault.{ConfigFault};
+ghost use Rattle.dz_config.specs.declared.fault.ConfigError.TheVariants.{Fault};
+ghost use Rattle.dz_desk.specs.Seen.{IsFresh};
+ghost use Rattle.dz_serve.specs.Command.{IsServe, IsSettingOf, SaysBad, bad_config};
+ghost use Rattle.dz_serve.specs.Ends.{is_write_fault};
+ghost use Rattle.dz_serve.specs.Rows.{rows};
+
+use crate::serving::{Served, Setting, serve, unserved};
+use crate::status::ServeEnd;
+use crate::text::{TextError, read_text};
+use dz_config::{ConfigError, ConfigFault, read_config};
+use dz_desk::Desk;
+use dz_io::{Clock, Failed, Ports, Sink, Source};
+use dz_provision::Naming;
+use std::alloc::Global;
+use std::sync::Wait;
+use std::thread::Threads;
+
+/// Why an input gave no setting.
+#[derive(Clone, Copy, Debug, PartialEq, Eq)]
+pub(crate) enum Unset {
+    /// The source failed.
+    Read,
+    /// The input is no configuration.
+    Bad(ConfigFault),
+    /// Memory is wanting.
+    OutOfMemory,
+}
+
+/// Reads a setting from a source, to its end.
+///
+/// # Errors
+///
+/// `Read` where the source failed; `Bad` with the least fault where the input is no configuration; `OutOfMemory` where
+/// memory is wanting.
+pub(crate) fn read_setting<S: Source>(alloc: Global, source: &mut S) -> Result<Setting, Unset>
+    ensures reads { (octets : Octets) → S.left source.old ≡ Some octets → IsSettingOf octets result }
+    ensures allowed { IfOk result (λ s. IsAllowed s.config) }
+    ensures end { IfOk result (λ s. (octets : Octets) → S.left source.old ≡ Some octets →
+        S.left source.new ≡ Some []) }
+    ensures cause { HasCauseOf (S.faults source.old) (S.faults source.new) result Unset.Read }
+    ensures kept { (fault : ConfigFault) → result ≡ Err (Unset.Bad fault) →
+        S.faults source.new ≡ S.faults source.old }
+{
+    match read_text(alloc, source) {
+        Err(TextError::Read) => Err(Unset::Read),
+        Err(TextError::OutOfMemory) => Err(Unset::OutOfMemory),
+        Ok(text) => match read_config(alloc, &text) {
+            Ok((listen, config)) => Ok(Setting { listen, config }),
+            Err(ConfigError::Fault(fault)) => Err(Unset::Bad(fault)),
+            Err(ConfigError::OutOfMemory) => Err(Unset::OutOfMemory),
+        },
+    }
+}
+
+/// Reads the configuration from an input and serves it. Where the input is no configuration, the line `bad config <number>`
+/// is written, and nothing is opened.
+pub fn serve_input<
+    S: Source,
+    K: Sink + Send,
+    J: Naming + Send + Sync,
+    P: Ports,
+    C: Clock + Send + Drop,
+    R: Threads + Wait + Sync,
+>(
+    rt: &R,
+    alloc: Global,
+    input: &mut S,
+    output: K,
+    desk: Desk,
+    ports: &mut P,
+    clock: &C,
+) -> Served<K>
+    requires written { IfSome (K.held output) (λ text. text ≡ []) }
+    requires faultless { K.faults output ≡ 0 }
+    requires publisher { (desk.publisher.list ≡ []) × (desk.publisher.staged ≡ None)
+        × (desk.publisher.book ≡ J.publisher) }
+    requires readings { All (IsFresh J.publisher) desk.readings.items }
+    requires six { length desk.readings.items ≡ 6 }
+    ensures publisher { (result.desk.publisher.staged ≡ None)
+        × (result.desk.publisher.book ≡ desk.publisher.book) }
+    ensures serve { IsServe result.end ((k : K) × HasRisen 0 (K.faults k)) (C.may_give clock.now)
+        (C.may_stop clock.now) (S.left input.old) (K.held result.output) result.desk.publisher.list
+        (rows (P.datagrams ports.old) (P.acceptors ports.old) (P.dialers ports.old))
+        (rows (P.datagrams ports.new) (P.acceptors ports.new) (P.dialers ports.new)) }
+    ensures read { result.end ≡ ServeEnd.Done → (octets : Octets) → S.left input.old ≡ Some octets →
+        S.left input.new ≡ Some [] }
+    ensures read_later { S.faults input.old ≤ S.faults input.new }
+    ensures read_kept { result.end ≢ ServeEnd.ReadFault → result.end ≢ ServeEnd.NoMemory →
+        S.faults input.new ≡ S.faults input.old }
+    ensures read_fault { result.end ≡ ServeEnd.ReadFault → HasRisen (S.faults input.old) (S.faults input.new) }
+    ensures write { MatchBool (is_write_fault result.end) (HasRisen 0 (K.faults result.output))
+        (K.faults result.output ≡ 0) }
+    ensures port { result.end ≡ ServeEnd.PortFault → HasRisen (P.faults ports.old) (P.faults ports.new) }
+    ensures ports_later { P.faults ports.old ≤ P.faults ports.new }
+{
+    match read_setting(alloc, input) {
+        Ok(setting) => serve::<K, J, P, C, R>(rt, alloc, setting, output, desk, ports, clock),
+        Err(Unset::Read) => unserved(ServeEnd::ReadFault, output, desk),
+        Err(Unset::OutOfMemory) => unserved(ServeEnd::NoMemory, output, desk),
+        Err(Unset::Bad(fault)) => say_bad(fault, output, desk),
+    }
+}
+
+/// Says what is wrong with an input.
+fn say_bad<K: Sink>(fault: ConfigFault, output: K, desk: Desk) -> Served<K>
+    requires faultless { K.faults output ≡ 0 }
+    ensures desk { result.desk ≡ desk }
+    ensures said { SaysBad fault result.end (K.held output) (K.held result.output) }
+    ensures write { MatchBool (is_write_fault result.end) (HasRisen 0 (K.faults result.output))
+        (K.faults result.output ≡ 0) }
+{
+    let mut output = output;
+    let mut line = *b"bad config 0\n";
+    line[11] = b'0' + fault.number();
+    match output.write(&line) {
+        Ok(()) => unserved(ServeEnd::BadInput, output, desk),
+        Err(Failed) => unserved(ServeEnd::WriteFault, output, desk),
+    }
+}

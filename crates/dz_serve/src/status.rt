@@ -1,0 +1,110 @@
+//! How serving ends.
+
+ghost use Rattle.std.specs.Prelude.{◌≡◌, ◌≢◌, ◌⊎◌, true, false};
+ghost use Rattle.dz_serve.specs.Ends.{has_closed, is_whole, is_write_fault};
+
+use crate::pair::Pair;
+use dz_query::{LinksEnd, SessionEnd};
+use dz_work::{TransferEnd, Transfers};
+
+/// How serving ended.
+#[derive(Clone, Copy, Debug, PartialEq, Eq)]
+pub enum ServeEnd {
+    /// All devices were served to their ends.
+    Done,
+    /// The input is no configuration.
+    BadInput,
+    /// The input can't be read.
+    ReadFault,
+    /// A line of the log could not be written.
+    WriteFault,
+    /// An opening, a receive, an accept or a send failed.
+    PortFault,
+    /// Want of memory.
+    NoMemory,
+}
+
+/// How each worker ended.
+#[derive(Drop)]
+pub(crate) struct Ends {
+    pub sessions: Pair<SessionEnd>,
+    pub links: Pair<LinksEnd>,
+    pub transfers: Pair<Transfers>,
+}
+
+/// The end after these: a fault of the log stands before one of the devices. Where neither is there, memory was wanting for
+/// any dial, since a catalog is due at each moment until its first job.
+pub(crate) fn judge(log_failed: bool, ends: &Ends) -> ServeEnd
+    ensures log { is_write_fault result ≡ log_failed }
+    ensures session_one { result ≡ ServeEnd.Done → is_whole ends.now.sessions.first ≡ true }
+    ensures session_two { result ≡ ServeEnd.Done → is_whole ends.now.sessions.second ≡ true }
+    ensures links_one { result ≡ ServeEnd.Done → has_closed ends.now.links.first ≡ true }
+    ensures links_two { result ≡ ServeEnd.Done → has_closed ends.now.links.second ≡ true }
+    ensures stopped_one { result ≡ ServeEnd.Done → ends.now.transfers.first.end ≡ TransferEnd.Stopped }
+    ensures stopped_two { result ≡ ServeEnd.Done → ends.now.transfers.second.end ≡ TransferEnd.Stopped }
+    ensures dialed { result ≡ ServeEnd.Done →
+        (ends.now.transfers.first.dialed ≡ true) ⊎ (ends.now.transfers.second.dialed ≡ true) }
+    ensures input { (result ≢ ServeEnd.BadInput) × (result ≢ ServeEnd.ReadFault) }
+    ensures port { result ≡ ServeEnd.PortFault →
+        (is_whole ends.now.sessions.first ≡ false) ⊎ ((is_whole ends.now.sessions.second ≡ false)
+        ⊎ ((has_closed ends.now.links.first ≡ false) ⊎ (has_closed ends.now.links.second ≡ false))) }
+{
+    if log_failed {
+        return ServeEnd::WriteFault;
+    }
+    if !is_whole(ends.sessions.first) {
+        return ServeEnd::PortFault;
+    }
+    if !is_whole(ends.sessions.second) {
+        return ServeEnd::PortFault;
+    }
+    if !has_closed(ends.links.first) {
+        return ServeEnd::PortFault;
+    }
+    if !has_closed(ends.links.second) {
+        return ServeEnd::PortFault;
+    }
+    judge_transfers(&ends.transfers)
+}
+
+fn judge_transfers(transfers: &Pair<Transfers>) -> ServeEnd
+    ensures stopped_one { result ≡ ServeEnd.Done → transfers.now.first.end ≡ TransferEnd.Stopped }
+    ensures stopped_two { result ≡ ServeEnd.Done → transfers.now.second.end ≡ TransferEnd.Stopped }
+    ensures dialed { result ≡ ServeEnd.Done →
+        (transfers.now.first.dialed ≡ true) ⊎ (transfers.now.second.dialed ≡ true) }
+    ensures other { (result ≡ ServeEnd.Done) ⊎ (result ≡ ServeEnd.NoMemory) }
+{
+    if transfers.first.end != TransferEnd::Stopped {
+        return ServeEnd::NoMemory;
+    }
+    if transfers.second.end != TransferEnd::Stopped {
+        return ServeEnd::NoMemory;
+    }
+    if transfers.first.dialed {
+        return ServeEnd::Done;
+    }
+    if transfers.second.dialed {
+        return ServeEnd::Done;
+    }
+    ServeEnd::NoMemory
+}
+
+/// Whether a session ended at its device's end, with no reply lost.
+fn is_whole(end: SessionEnd) -> bool
+    ensures { result ≡ is_whole end }
+{
+    match end {
+        SessionEnd::Closed { lost } => !lost,
+        SessionEnd::Failed => false,
+    }
+}
+
+/// Whether an acceptor closed.
+fn has_closed(end: LinksEnd) -> bool
+    ensures { result ≡ has_closed end }
+{
+    match end {
+        LinksEnd::Closed => true,
+        LinksEnd::Failed => false,
+    }
+}

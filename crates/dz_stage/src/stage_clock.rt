@@ -1,0 +1,57 @@
+//! The clock.
+ghost use Rattle.std.specs.Prelude.{None};
+
+use crate::Stage;
+use dz_io::{Clock, Rest};
+use std::alloc::{AllocError, Global};
+use std::thread::yield_now;
+
+/// The moment before the first zone stands in the log, in seconds.
+const FIRST: u64 = 1000;
+
+/// The moment behind that.
+const SECOND: u64 = 1100;
+
+/// A clock whose twins share one moment. It stops its worker once the second reply was sent, and tells no moments.
+#[derive(Drop)]
+pub struct StageClock<'a> {
+    stage: &'a Stage,
+}
+
+impl<'a> StageClock<'a> {
+    pub fn new(stage: &'a Stage) -> StageClock<'a> {
+        StageClock { stage }
+    }
+}
+
+impl<'a> Clock for StageClock<'a> {
+    ghost use Rattle.std.specs.Prelude.{◌==◌, ◌||◌, true};
+
+    ghost may_give = { λ _ moment. moment == 1000 || moment == 1100 };
+
+    ghost may_stop = { λ _. true };
+
+    ghost given = { λ _. None };
+
+    fn twin(&self, _alloc: Global) -> Result<StageClock<'a>, AllocError> {
+        Ok(StageClock::new(self.stage))
+    }
+
+    fn now(&mut self) -> u64 {
+        if self.stage.has_first() {
+            SECOND
+        } else {
+            FIRST
+        }
+    }
+
+    fn rest(&mut self, idle: bool) -> Rest {
+        if self.stage.is_over() {
+            return Rest::Stop;
+        }
+        if idle {
+            yield_now();
+        }
+        Rest::Go
+    }
+}

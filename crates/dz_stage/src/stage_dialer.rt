@@ -1,0 +1,52 @@
+//! A dialer.
+ghost use Rattle.std.specs.Prelude.{◌≡◌, None};
+
+use crate::{Stage, StageLink};
+use dz_io::{Dialer, Failed, Peer};
+use std::alloc::Global;
+
+/// A dialer whose links give what is asked of them, whoever is dialled. It tells no links.
+#[derive(Drop)]
+pub struct StageDialer<'a> {
+    stage: &'a Stage,
+    alloc: Global,
+    out: Option<Peer>,
+    pub(crate) faults: u64,
+}
+
+impl<'a> StageDialer<'a> {
+    /// A dialer that has made no link.
+    pub(crate) fn new(alloc: Global, stage: &'a Stage) -> StageDialer<'a>
+        ensures out { result.out ≡ None }
+        ensures faults { result.faults ≡ 0 }
+    {
+        StageDialer {
+            stage,
+            alloc,
+            out: None,
+            faults: 0,
+        }
+    }
+}
+
+impl<'a> Dialer for StageDialer<'a> {
+    type L = StageLink<'a>;
+
+    ghost links = { λ _. None };
+
+    ghost out = { λ dialer. dialer.out };
+
+    ghost faults = { λ dialer. dialer.faults };
+
+    fn dial(&mut self, peer: &Peer) -> Result<StageLink<'a>, Failed> {
+        self.out = Some(*peer);
+        Ok(StageLink::new(self.alloc, self.stage))
+    }
+
+    fn done(&mut self, link: StageLink<'a>) {
+        self.out = None;
+        if link.faults > 0 {
+            self.faults = self.faults.saturating_add(1);
+        }
+    }
+}

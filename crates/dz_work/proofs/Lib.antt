@@ -1,0 +1,4 @@
+pub mod EndedLemmas
+pub mod ServeLemmas
+pub mod StepLemmas
+pub mod WorkLemmas
