@@ -17,9 +17,10 @@ mod tests;
 mod zone_line;
 
 use crate::running::{Ended, Status, run};
+use dz_advice::{Kept, advise};
 use dz_desk::{Desk, DeskError, open_desk};
 use dz_edge::{HostClock, HostPorts, ReadSource, Stop, WriteSink};
-use dz_words::Words;
+use dz_words::{Command, Words, read_words};
 use std::alloc::{AllocError, Global};
 use std::env;
 use std::io::ErrorKind;
@@ -51,7 +52,7 @@ fn main(rt: HostRuntime) -> ExitCode {
         Err(error) => return ExitCode::from(code_of(error)),
     };
     let words = Words { list };
-    let mut input = ReadSource::new(rt.stdin());
+    let mut input = Kept::new(alloc, ReadSource::new(rt.stdin()));
     let output = WriteSink::new(rt.stdout());
     let stop = Stop::new();
     let mut ports = HostPorts::new(&rt, &stop);
@@ -64,6 +65,11 @@ fn main(rt: HostRuntime) -> ExitCode {
         &rt, alloc, &words, &mut input, output, desk, &mut ports, &clock,
     );
     end(&rt, desk);
+    if status == Status::BadInput && read_words(&words) == Ok(Command::Serve) {
+        if let Some(advice) = advise(alloc, input.text()) {
+            let _ = rt.eprintln(format_args!("catzd: configuration, {advice}"));
+        }
+    }
     ExitCode::from(status as u8)
 }
 

@@ -7,7 +7,7 @@ use dz_io::{
     Caller, Clock, Datagram, MemoryClock, MemoryPorts, MemorySink, MemorySource, Peer, Ports,
     Setup, Sink, Stream,
 };
-use dz_stage::{Stage, StageClock, StageLog, StagePorts};
+use dz_stage::{Play, Stage, StageClock, StageLog, StagePorts};
 use std::alloc::{AllocError, Global};
 use std::marker::Brand;
 use std::process::Abort;
@@ -23,6 +23,10 @@ const CONFIG: &[u8] = b"listen = \"192.0.2.10:53\"\n\
 
 /// The SOA record of example. is asked for.
 const QUERY: &[u8] = b"\x00\x91\x00\x00\x00\x01\x00\x00\x00\x00\x00\x00\
+    \x07example\x00\x00\x06\x00\x01";
+
+/// The same behind its length.
+const FRAMED_QUERY: &[u8] = b"\x00\x19\x00\x91\x00\x00\x00\x01\x00\x00\x00\x00\x00\x00\
     \x07example\x00\x00\x06\x00\x01";
 
 const CLIENT: Peer = Peer {
@@ -77,25 +81,94 @@ fn query(alloc: Global) -> Result<Datagram, AllocError> {
     Ok(Datagram::new(QUERY.to_vec(alloc)?, CLIENT))
 }
 
-/// Ports at which one query comes to the first datagram device, and nothing else; these openings, and these calls of that
-/// device, fail.
-fn ports(
-    alloc: Global,
-    failing: &[u64],
-    device_failing: &[u64],
-) -> Result<MemoryPorts, AllocError> {
-    let mut datagrams = Vec::new(alloc);
+/// A server over devices in memory: which of their calls fail, counted from 0 at each device, and what comes of it.
+#[derive(Drop)]
+struct Case {
+    what: &'static str,
+    /// Openings, over all kinds.
+    openings: &'static [u64],
+    /// Calls of the first datagram device, to which two queries come.
+    packets: &'static [u64],
+    /// Calls of the first acceptor, to which one link comes, and calls of that link, over which a query comes.
+    accepts: &'static [u64],
+    link: &'static [u64],
+    /// Dials of the first dialer, and writes of the log.
+    dials: &'static [u64],
+    writes: &'static [u64],
+    end: ServeEnd,
+    /// How many replies are sent by the datagram device.
+    replies: usize,
+    /// Whether the link gets a reply.
+    has_written: bool,
+}
+
+/// Nothing fails.
+const FAULTLESS: Case = Case {
+    what: "nothing",
+    openings: &[],
+    packets: &[],
+    accepts: &[],
+    link: &[],
+    dials: &[],
+    writes: &[],
+    end: ServeEnd::Done,
+    replies: 2,
+    has_written: true,
+};
+
+/// An opening, counted over all kinds, is refused.
+const fn refused(what: &'static str, openings: &'static [u64]) -> Case {
+    Case {
+        what,
+        openings,
+        end: ServeEnd::PortFault,
+        replies: 0,
+        has_written: false,
+        ..FAULTLESS
+    }
+}
+
+/// Ports at which two queries come to the first datagram device and one over a link to the first acceptor.
+fn ports(alloc: Global, case: &Case) -> Result<MemoryPorts, AllocError> {
     let mut queries = Vec::new(alloc);
     queries.push(query(alloc)?)?;
-    datagrams.push(Setup::new(queries, device_failing.to_vec(alloc)?))?;
+    queries.push(query(alloc)?)?;
+    let mut datagrams = Vec::new(alloc);
+    datagrams.push(Setup::new(queries, case.packets.to_vec(alloc)?))?;
     datagrams.push(Setup::new(Vec::new(alloc), Vec::new(alloc)))?;
+    let stream = Stream::new(FRAMED_QUERY.to_vec(alloc)?, case.link.to_vec(alloc)?);
+    let mut callers: Vec<Caller> = Vec::new(alloc);
+    callers.push(Caller::new(CLIENT, stream))?;
     let mut acceptors: Vec<Setup<Caller>> = Vec::new(alloc);
-    acceptors.push(Setup::new(Vec::new(alloc), Vec::new(alloc)))?;
+    acceptors.push(Setup::new(callers, case.accepts.to_vec(alloc)?))?;
     acceptors.push(Setup::new(Vec::new(alloc), Vec::new(alloc)))?;
     let mut dialers: Vec<Setup<Stream>> = Vec::new(alloc);
+    dialers.push(Setup::new(Vec::new(alloc), case.dials.to_vec(alloc)?))?;
     dialers.push(Setup::new(Vec::new(alloc), Vec::new(alloc)))?;
-    dialers.push(Setup::new(Vec::new(alloc), Vec::new(alloc)))?;
-    Ok(MemoryPorts::new(alloc, datagrams, acceptors, dialers, failing.to_vec(alloc)?))
+    Ok(MemoryPorts::new(
+        alloc,
+        datagrams,
+        acceptors,
+        dialers,
+        case.openings.to_vec(alloc)?,
+    ))
+}
+
+/// How many replies the datagram devices that came back have sent.
+fn replies_of(ports: &MemoryPorts) -> usize {
+    ports.datagrams().iter().fold(0, |count: usize, device| {
+        count.saturating_add(device.sent().len())
+    })
+}
+
+/// Whether something was written over a link that came back.
+fn has_written(ports: &MemoryPorts) -> bool {
+    ports.acceptors().iter().any(|acceptor| {
+        acceptor
+            .back()
+            .iter()
+            .any(|returned| !returned.link().written().is_empty())
+    })
 }
 
 /// The last octet of the serial of the SOA record that ends a reply.
@@ -107,7 +180,7 @@ fn serial_in(reply: &[u8]) -> u8 {
 #[test]
 fn a_query_is_answered_while_a_transfer_is_under_way(rt: HostRuntime) -> Result<(), AllocError> {
     let alloc = rt.alloc();
-    let stage = Stage::new();
+    let stage = Stage::new(Play::ReadWaits);
     let mut ports = StagePorts::new(alloc, &stage);
     let clock = StageClock::new(&stage);
     let log = StageLog::new(alloc, &stage);
@@ -131,45 +204,128 @@ fn serials_of(alloc: Global, replies: &[Datagram]) -> Result<Vec<u8>, AllocError
 }
 
 #[test]
-fn an_opening_that_is_refused_starts_no_worker(rt: HostRuntime) -> Result<(), AllocError> {
+fn queries_are_answered_while_a_worker_has_the_lock(rt: HostRuntime) -> Result<(), AllocError> {
     let alloc = rt.alloc();
-    let mut ports = ports(alloc, &[3], &[])?;
+    let stage = Stage::new(Play::LogWaits);
+    let mut ports = StagePorts::new(alloc, &stage);
+    let clock = StageClock::new(&stage);
+    let log = StageLog::new(alloc, &stage);
     let text = CONFIG.to_vec(alloc)?;
-    let sink = MemorySink::new(alloc, Vec::new(alloc));
-    let (end, output) = play(&rt, alloc, text, sink, &mut ports, &clock(alloc));
-    assert!(rt; end == ServeEnd::PortFault);
-    assert_eq!(rt; output.written(), b"".as_slice());
+    let (end, _log) = play(&rt, alloc, text, log, &mut ports, &clock);
+    assert!(rt; end == ServeEnd::Done);
+    assert!(rt; !stage.is_late());
+    assert_eq!(rt; ports.replies().len(), 2);
     Ok(())
 }
 
 #[test]
-fn a_receive_that_fails_is_a_fault_of_the_ports(rt: HostRuntime) -> Result<(), AllocError> {
+fn a_job_whose_dial_fails_is_made_again(rt: HostRuntime) -> Result<(), AllocError> {
     let alloc = rt.alloc();
-    let mut ports = ports(alloc, &[], &[2])?;
+    let stage = Stage::new(Play::DialFails);
+    let mut ports = StagePorts::new(alloc, &stage);
+    let clock = StageClock::new(&stage);
+    let log = StageLog::new(alloc, &stage);
     let text = CONFIG.to_vec(alloc)?;
-    let sink = MemorySink::new(alloc, Vec::new(alloc));
-    let (end, _output) = play(&rt, alloc, text, sink, &mut ports, &clock(alloc));
-    assert!(rt; end == ServeEnd::PortFault);
+    let (end, log) = play(&rt, alloc, text, log, &mut ports, &clock);
+    assert!(rt; end == ServeEnd::Done);
+    assert!(rt;
+        log.written().starts_with(
+            b"job 1 cat1.example. axfr id 1 at 192.0.2.1:53\n\
+        failed cat1.example.\n\
+        job 2 cat1.example. axfr id 2 at 192.0.2.1:53\n"
+        )
+    );
+    assert_eq!(rt; ports.all_faults(), 1);
     Ok(())
 }
 
+/// Each device fails at each place.
 #[test]
-fn a_log_that_fails_stands_before_a_fault_of_the_ports(rt: HostRuntime) -> Result<(), AllocError> {
+fn a_fault_ends_its_worker_and_tells_the_status(rt: HostRuntime) -> Result<(), AllocError> {
     let alloc = rt.alloc();
-    let mut ports = ports(alloc, &[], &[2])?;
-    let text = CONFIG.to_vec(alloc)?;
-    let mut failing = Vec::new(alloc);
-    failing.push(0)?;
-    let sink = MemorySink::new(alloc, failing);
-    let (end, _output) = play(&rt, alloc, text, sink, &mut ports, &clock(alloc));
-    assert!(rt; end == ServeEnd::WriteFault);
+    let cases = [
+        FAULTLESS,
+        refused("the first datagram device", &[0]),
+        refused("the second", &[1]),
+        refused("the first acceptor", &[2]),
+        refused("the second acceptor", &[3]),
+        refused("the first dialer", &[4]),
+        refused("the second dialer", &[5]),
+        Case {
+            what: "the first receive",
+            packets: &[0],
+            end: ServeEnd::PortFault,
+            replies: 0,
+            ..FAULTLESS
+        },
+        Case {
+            what: "the second receive",
+            packets: &[2],
+            end: ServeEnd::PortFault,
+            replies: 1,
+            ..FAULTLESS
+        },
+        Case {
+            what: "the first send of two",
+            packets: &[1],
+            end: ServeEnd::PortFault,
+            replies: 1,
+            ..FAULTLESS
+        },
+        Case {
+            what: "the first accept",
+            accepts: &[0],
+            end: ServeEnd::PortFault,
+            has_written: false,
+            ..FAULTLESS
+        },
+        Case {
+            what: "the first read of a link",
+            link: &[0],
+            has_written: false,
+            ..FAULTLESS
+        },
+        Case {
+            what: "a dial",
+            dials: &[0],
+            ..FAULTLESS
+        },
+        Case {
+            what: "the first write of the log",
+            writes: &[0],
+            end: ServeEnd::WriteFault,
+            ..FAULTLESS
+        },
+        Case {
+            what: "the log and the second receive",
+            packets: &[2],
+            writes: &[0],
+            end: ServeEnd::WriteFault,
+            replies: 1,
+            ..FAULTLESS
+        },
+    ];
+    'cases: for case in &cases {
+        let what = case.what;
+        let mut ports = ports(alloc, case)?;
+        let sink = MemorySink::new(alloc, case.writes.to_vec(alloc)?);
+        let text = CONFIG.to_vec(alloc)?;
+        let (end, output) = play(&rt, alloc, text, sink, &mut ports, &clock(alloc));
+        assert!(rt; end == case.end, "{what}");
+        assert_eq!(rt; replies_of(&ports), case.replies, "{what}");
+        assert!(rt; has_written(&ports) == case.has_written, "{what}");
+        assert!(rt;
+            case.openings.is_empty() || output.written().is_empty(),
+            "{what}"
+        );
+    }
     Ok(())
 }
 
 #[test]
 fn a_configuration_without_a_place_to_listen_is_bad(rt: HostRuntime) -> Result<(), AllocError> {
     let alloc = rt.alloc();
-    let mut ports = ports(alloc, &[], &[])?;
+    let mut ports = ports(alloc, &FAULTLESS)?;
     let text = CONFIG.get(25..).unwrap_or(&[]).to_vec(alloc)?;
     let sink = MemorySink::new(alloc, Vec::new(alloc));
     let (end, output) = play(&rt, alloc, text, sink, &mut ports, &clock(alloc));

@@ -10,6 +10,11 @@
 //! 4. Once the log has a line that ends with `example. 6`, it gives the same query again, and is closed behind it.
 //! 5. Once the second reply was sent, the clock answers `Stop`.
 //!
+//! So it is where a read waits (`Play::ReadWaits`). Where the log waits (`Play::LogWaits`), no read does, but the write of
+//! the line of serial 6, and the first query comes while it waits. Where a dial fails (`Play::DialFails`), the first of all
+//! does, no query comes, the moment is 1060 once the log has a line of that failure, and the clock answers `Stop` once the
+//! log has a line that ends with `example. 5`.
+//!
 //! Each wait has a limit, behind which the test goes on, and `Stage::is_late` tells of it.
 #![tactic(auto)]
 
@@ -24,7 +29,7 @@ mod streams;
 #[cfg(test)]
 mod tests;
 
-pub use stage::Stage;
+pub use stage::{Play, Stage};
 pub use stage_clock::StageClock;
 pub use stage_datagrams::StageDatagrams;
 pub use stage_dialer::StageDialer;

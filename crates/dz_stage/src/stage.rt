@@ -10,14 +10,32 @@ const FIRST_LINE: &[u8] = b"example. 5\n";
 
 const SECOND_LINE: &[u8] = b"example. 6\n";
 
+const FAILED_LINE: &[u8] = b"failed cat1.example.\n";
+
+/// What waits or fails in a test.
+#[derive(Clone, Copy, Debug, PartialEq, Eq)]
+pub enum Play {
+    /// A read of a transfer waits for a reply.
+    ReadWaits,
+    /// A write of the log waits for a reply: whoever has the lock of the log has it until then.
+    LogWaits,
+    /// The first dial fails, and no query comes.
+    DialFails,
+}
+
 /// What has happened, which the devices of one test share.
 #[derive(Drop)]
 pub struct Stage {
+    play: Play,
+    /// The first dial has failed.
+    has_dialled: AtomicBool,
+    /// The failed job stands in the log.
+    has_failure: AtomicBool,
     /// The first zone stands in the log.
     has_first: AtomicBool,
     /// The second zone stands in the log.
     has_second: AtomicBool,
-    /// A read waits for a reply.
+    /// A read or a write waits for a reply.
     is_held: AtomicBool,
     /// A reply was sent.
     is_answered: AtomicBool,
@@ -31,8 +49,11 @@ pub struct Stage {
 
 impl Stage {
     /// Nothing has happened.
-    pub fn new() -> Stage {
+    pub fn new(play: Play) -> Stage {
         Stage {
+            play,
+            has_dialled: AtomicBool::new(false),
+            has_failure: AtomicBool::new(false),
             has_first: AtomicBool::new(false),
             has_second: AtomicBool::new(false),
             is_held: AtomicBool::new(false),
@@ -53,18 +74,46 @@ impl Stage {
         self.replies.load(Ordering::SeqCst)
     }
 
+    /// What waits or fails.
+    pub(crate) fn play(&self) -> Play {
+        self.play
+    }
+
+    /// Whether a dial is to fail: the first of all does where it is to.
+    pub(crate) fn fails_dial(&self) -> bool {
+        self.play == Play::DialFails && !self.has_dialled.swap(true, Ordering::SeqCst)
+    }
+
+    /// Whether the failed job stands in the log.
+    pub(crate) fn has_failure(&self) -> bool {
+        self.has_failure.load(Ordering::SeqCst)
+    }
+
     /// Whether the first zone stands in the log.
     pub(crate) fn has_first(&self) -> bool {
         self.has_first.load(Ordering::SeqCst)
     }
 
-    /// Whether the second reply was sent.
+    /// Whether all has happened: the second reply was sent, or the first zone stands in the log where no query comes.
     pub(crate) fn is_over(&self) -> bool {
-        self.is_over.load(Ordering::SeqCst)
+        match self.play {
+            Play::DialFails => self.has_first(),
+            Play::ReadWaits | Play::LogWaits => self.is_over.load(Ordering::SeqCst),
+        }
+    }
+
+    /// Looks at a piece that is to be written to the log. The line of the second zone waits for a reply where it is to.
+    pub(crate) fn see_line(&self, piece: &[u8]) {
+        if self.play == Play::LogWaits && has_piece(piece, SECOND_LINE) {
+            self.hold();
+        }
     }
 
     /// Looks at the text of the log.
     pub(crate) fn see_log(&self, text: &[u8]) {
+        if has_piece(text, FAILED_LINE) {
+            self.has_failure.store(true, Ordering::SeqCst);
+        }
         if has_piece(text, FIRST_LINE) {
             self.has_first.store(true, Ordering::SeqCst);
         }
@@ -81,14 +130,14 @@ impl Stage {
         self.is_answered.store(true, Ordering::SeqCst);
     }
 
-    /// Holds a read until a reply was sent.
-    pub(crate) fn hold_read(&self) {
+    /// Holds a read or a write until a reply was sent.
+    pub(crate) fn hold(&self) {
         self.is_held.store(true, Ordering::SeqCst);
         self.wait_for(&self.is_answered);
     }
 
-    /// Waits until a read is held.
-    pub(crate) fn wait_for_read(&self) {
+    /// Waits until a read or a write is held.
+    pub(crate) fn wait_for_hold(&self) {
         self.wait_for(&self.is_held);
     }
 

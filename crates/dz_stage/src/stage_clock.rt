@@ -12,7 +12,10 @@ const FIRST: u64 = 1000;
 /// The moment behind that.
 const SECOND: u64 = 1100;
 
-/// A clock whose twins share one moment. It stops its worker once the second reply was sent, and tells no moments.
+/// The moment at which a failed job is made again.
+const AGAIN: u64 = 1060;
+
+/// A clock whose twins share one moment. It stops its worker once all has happened, and tells no moments.
 #[derive(Drop)]
 pub struct StageClock<'a> {
     stage: &'a Stage,
@@ -27,7 +30,7 @@ impl<'a> StageClock<'a> {
 impl<'a> Clock for StageClock<'a> {
     ghost use Rattle.std.specs.Prelude.{◌==◌, ◌||◌, true};
 
-    ghost may_give = { λ _ moment. moment == 1000 || moment == 1100 };
+    ghost may_give = { λ _ moment. moment == 1000 || (moment == 1060 || moment == 1100) };
 
     ghost may_stop = { λ _. true };
 
@@ -40,6 +43,8 @@ impl<'a> Clock for StageClock<'a> {
     fn now(&mut self) -> u64 {
         if self.stage.has_first() {
             SECOND
+        } else if self.stage.has_failure() {
+            AGAIN
         } else {
             FIRST
         }

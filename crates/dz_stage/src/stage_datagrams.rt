@@ -70,11 +70,11 @@ impl<'a> Datagrams for StageDatagrams<'a> {
 
     ghost faults = { λ device. device.packets.calls.faults };
 
-    /// Waits for a read that is held before the first query, and for the second zone in the log before the second.
+    /// Waits for a read or a write that is held before the first query, and for the second zone in the log before the second.
     fn receive(&mut self, buffer: &mut [u8]) -> Result<Received, Failed> {
         if self.asks {
             match self.given {
-                0 => self.stage.wait_for_read(),
+                0 => self.stage.wait_for_hold(),
                 1 => self.stage.wait_for_second(),
                 _ => {}
             }

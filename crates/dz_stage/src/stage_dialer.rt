@@ -39,6 +39,10 @@ impl<'a> Dialer for StageDialer<'a> {
     ghost faults = { λ dialer. dialer.faults };
 
     fn dial(&mut self, peer: &Peer) -> Result<StageLink<'a>, Failed> {
+        if self.stage.fails_dial() {
+            self.faults = self.faults.saturating_add(1);
+            return Err(Failed);
+        }
         self.out = Some(*peer);
         Ok(StageLink::new(self.alloc, self.stage))
     }

@@ -1,13 +1,13 @@
 //! A link.
 ghost use Rattle.std.specs.Prelude.{◌≡◌, ◌≤◌, ◌<◌, length, None, IfSome, refl};
 
-use crate::Stage;
 use crate::streams::{Stream, octets_for, stream_for};
+use crate::{Play, Stage};
 use dz_io::{Failed, Link, MemorySource, Sink, Source};
 use std::alloc::Global;
 
 /// A link that gives the stream for the query that was written to it. The second read of the zone's next version waits for
-/// a reply. It tells no octets.
+/// a reply where it is to. It tells no octets.
 #[derive(Drop)]
 pub struct StageLink<'a> {
     stage: &'a Stage,
@@ -44,12 +44,12 @@ impl<'a> StageLink<'a> {
         if self.answer.is_none() {
             let stream = stream_for(&self.query, self.stage.has_first())?;
             let octets = octets_for(self.alloc, stream, &self.query).ok()?;
-            self.is_held = stream == Stream::NextZone;
+            self.is_held = stream == Stream::NextZone && self.stage.play() == Play::ReadWaits;
             self.answer = Some(MemorySource::new(octets, Vec::new(self.alloc)));
         }
         self.reads = self.reads.saturating_add(1);
         if self.is_held && self.reads == 2 {
-            self.stage.hold_read();
+            self.stage.hold();
         }
         match &mut self.answer {
             Some(answer) => answer.read(buffer).ok(),

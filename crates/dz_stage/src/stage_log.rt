@@ -40,6 +40,7 @@ impl<'a> Sink for StageLog<'a> {
     ghost faults = { λ log. log.text.calls.faults };
 
     fn write(&mut self, piece: &[u8]) -> Result<(), Failed> {
+        self.stage.see_line(piece);
         let result = self.text.write(piece);
         self.stage.see_log(self.text.written());
         result

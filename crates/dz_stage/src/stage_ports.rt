@@ -1,7 +1,7 @@
 //! The ports.
 ghost use Rattle.std.specs.Prelude.{◌≡◌, None};
 
-use crate::{Stage, StageDatagrams, StageDialer};
+use crate::{Play, Stage, StageDatagrams, StageDialer};
 use dz_io::{Datagram, Failed, MemoryAcceptor, Peer, Ports, Setup};
 use std::alloc::Global;
 
@@ -74,7 +74,8 @@ impl<'a> Ports for StagePorts<'a> {
     ghost faults = { λ ports. ports.faults };
 
     fn open_datagrams(&mut self, _listen: &Peer, worker: u8) -> Result<StageDatagrams<'a>, Failed> {
-        let device = StageDatagrams::new(self.alloc, self.stage, worker == 0);
+        let asks = worker == 0 && self.stage.play() != Play::DialFails;
+        let device = StageDatagrams::new(self.alloc, self.stage, asks);
         match (device, self.datagrams_out.checked_add(1)) {
             (Ok(device), Some(out)) => {
                 self.datagrams_out = out;

@@ -1,6 +1,6 @@
 ghost use Rattle.std.specs.Prelude.{◌≤◌, length};
 
-use crate::{Stage, StageClock, StageDatagrams, StageLink, StageLog, StagePorts};
+use crate::{Play, Stage, StageClock, StageDatagrams, StageLink, StageLog, StagePorts};
 use dz_io::{
     Accepted, Acceptor, Clock, Datagrams, Dialer, Failed, Peer, Ports, Received, Rest, Sink, Source,
 };
@@ -41,7 +41,7 @@ fn answer_of(alloc: Global, link: &mut StageLink<'_>, query: &[u8]) -> Result<Ve
 #[test]
 fn a_link_gives_what_is_asked_with_the_id_of_the_query(rt: HostRuntime) -> Result<(), AllocError> {
     let alloc = rt.alloc();
-    let stage = Stage::new();
+    let stage = Stage::new(Play::ReadWaits);
     let mut link = StageLink::new(alloc, &stage);
     let catalog = answer_of(alloc, &mut link, CATALOG_QUERY)?;
     assert_eq!(rt; catalog.len(), 0x117 + 2);
@@ -57,7 +57,7 @@ fn a_link_gives_what_is_asked_with_the_id_of_the_query(rt: HostRuntime) -> Resul
 #[test]
 fn the_moment_goes_on_with_the_log(rt: HostRuntime) -> Result<(), AllocError> {
     let alloc = rt.alloc();
-    let stage = Stage::new();
+    let stage = Stage::new(Play::ReadWaits);
     let mut clock = StageClock::new(&stage).twin(alloc)?;
     let mut log = StageLog::new(alloc, &stage);
     assert_eq!(rt; log.write(b"published 2 example. "), Ok(()));
@@ -100,7 +100,7 @@ fn take_zone(alloc: Global, link: &mut StageLink<'_>, log: &mut StageLog<'_>) ->
 #[test]
 fn a_query_comes_while_a_read_is_held(rt: HostRuntime) -> Result<(), AllocError> {
     let alloc = rt.alloc();
-    let stage = Stage::new();
+    let stage = Stage::new(Play::ReadWaits);
     let mut ports = StagePorts::new(alloc, &stage);
     let mut buffer = vec![in alloc; 0_u8; 65_535]?;
     let (Ok(mut device), Ok(mut other), Ok(mut acceptor), Ok(mut dialer)) = (

@@ -1,0 +1,126 @@
+//! What to mend.
+use crate::key::{Key, Place};
+use crate::reading::Reading;
+use dz_config::{ConfigError, ConfigFault, read_config};
+use std::alloc::Global;
+use std::fmt;
+use toml::de::Error;
+
+/// What was expected where a configuration can't be read.
+#[derive(Clone, Copy, Debug, PartialEq, Eq)]
+pub enum Expected {
+    /// TOML.
+    Toml(Error),
+    /// A key or a table that the place has.
+    Known(Place),
+    /// A value that the key takes.
+    Value(Key),
+    /// The key, which is missing in the table that begins there.
+    Present(Key),
+    /// Counts within their limits.
+    Within,
+    /// Each catalog once, and each word of a catalog once.
+    Once,
+}
+
+/// The line of a configuration at which something is to be mended, and what was expected there.
+#[derive(Clone, Copy, Debug, PartialEq, Eq)]
+pub struct Advice {
+    /// The line, from 1.
+    pub line: usize,
+    pub expected: Expected,
+}
+
+impl fmt::Display for Advice {
+    fn fmt<W: fmt::Write>(&self, f: &mut fmt::Formatter<W>) -> fmt::Result {
+        let line = self.line;
+        match self.expected {
+            Expected::Toml(error) => write!(f, "line {line}: this is no TOML: {}", error.message()),
+            Expected::Known(place) => write!(
+                f,
+                "line {line}: unknown key or table; expected {}",
+                place.keys()
+            ),
+            Expected::Value(key) => write!(
+                f,
+                "line {line}: {}: expected {}",
+                key.name(),
+                key.takes()
+            ),
+            Expected::Present(key) => write!(
+                f,
+                "line {line}: {} is missing: expected {}",
+                key.name(),
+                key.takes()
+            ),
+            Expected::Within => write!(
+                f,
+                "line {line}: expected 1 to 8 catalogs, at most 64 groups in each, and 1 to 8 primaries in each"
+            ),
+            Expected::Once => write!(
+                f,
+                "line {line}: expected each catalog once, and in each each word once"
+            ),
+        }
+    }
+}
+
+/// What to mend in a configuration that can't be read. None where it can, or where memory is wanting.
+pub fn advise(alloc: Global, text: &[u8]) -> Option<Advice> {
+    match read_config(alloc, text) {
+        Ok(_) | Err(ConfigError::OutOfMemory) => None,
+        Err(ConfigError::Fault(ConfigFault::NotToml)) => of_toml(alloc, text),
+        Err(ConfigError::Fault(fault)) => of_lines(text, fault),
+    }
+}
+
+/// Where a text is no TOML.
+fn of_toml(alloc: Global, text: &[u8]) -> Option<Advice> {
+    match toml::table_from_slice(alloc, text) {
+        Ok(_) => Some(Advice {
+            line: 1,
+            expected: Expected::Within,
+        }),
+        Err(error) => {
+            let place = error.span()?.start;
+            Some(Advice {
+                line: line_of(text, place),
+                expected: Expected::Toml(error),
+            })
+        }
+    }
+}
+
+/// The line, from 1, of a place.
+fn line_of(text: &[u8], place: usize) -> usize {
+    let before = text.get(..place).unwrap_or(&[]);
+    before.iter().fold(1, |line: usize, octet| {
+        if *octet == b'\n' {
+            line.saturating_add(1)
+        } else {
+            line
+        }
+    })
+}
+
+/// Where the lines of a document have this fault: at the first that isn't well, or else where a key is missing.
+fn of_lines(text: &[u8], fault: ConfigFault) -> Option<Advice> {
+    let Ok(text) = str::from_utf8(text) else {
+        return None;
+    };
+    let mut reading = Reading::new();
+    let mut line = 0_usize;
+    'lines: for piece in text.split('\n') {
+        line = line.saturating_add(1);
+        if let Some(expected) = reading.next(line, piece) {
+            return Some(expected);
+        }
+    }
+    reading.missing().or(Some(Advice {
+        line: 1,
+        expected: match fault {
+            ConfigFault::Twice => Expected::Once,
+            _ => Expected::Within,
+        },
+    }))
+}

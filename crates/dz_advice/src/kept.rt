@@ -1,0 +1,60 @@
+//! A source that keeps what was read of it.
+ghost use Rattle.std.specs.Prelude.{◌≡◌};
+
+use dz_config::TEXT_OCTETS;
+use dz_io::{Failed, Source};
+use std::alloc::Global;
+
+/// A source, and a copy of the octets that it gave: of as many as a configuration has at most, and a read more. What
+/// memory is refused for isn't kept.
+#[derive(Drop)]
+pub struct Kept<S> {
+    source: S,
+    text: Vec<u8>,
+}
+
+impl<S: Source + Drop> Kept<S> {
+    /// A source of which nothing was read yet.
+    pub fn new(alloc: Global, source: S) -> Kept<S>
+        ensures { result.source ≡ source }
+    {
+        Kept {
+            source,
+            text: Vec::new(alloc),
+        }
+    }
+
+    /// The octets that were kept.
+    pub fn text(&self) -> &[u8] {
+        &self.text
+    }
+
+    /// Keeps a copy of octets that were read.
+    fn keep(&mut self, piece: &[u8])
+        ensures { self.new.source ≡ self.old.source }
+    {
+        if self.text.len() <= TEXT_OCTETS && self.text.extend_from_slice(piece).is_err() {
+            self.text.clear();
+        }
+    }
+}
+
+impl<S: Source + Drop> Source for Kept<S> {
+    ghost given = { λ kept. S.given kept.source };
+
+    ghost left = { λ kept. S.left kept.source };
+
+    ghost beside = { λ kept. S.beside kept.source };
+
+    ghost faults = { λ kept. S.faults kept.source };
+
+    fn read(&mut self, buffer: &mut [u8]) -> Result<usize, Failed> {
+        match self.source.read(buffer) {
+            Ok(count) => {
+                self.keep(buffer.get(..count).unwrap_or(&[]));
+                Ok(count)
+            }
+            Err(Failed) => Err(Failed),
+        }
+    }
+}

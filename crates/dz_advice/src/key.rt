@@ -1,0 +1,92 @@
+//! The keys of a configuration, and what each takes.
+use dz_member::{is_word, read_peer, read_policy};
+use dz_name::Name;
+
+/// A table of a configuration.
+#[derive(Clone, Copy, Debug, PartialEq, Eq)]
+pub enum Place {
+    /// The whole document, in front of every table.
+    Document,
+    /// A catalog, `[[catalog]]`.
+    Catalog,
+    /// A group of a catalog, `[[catalog.group]]`.
+    Group,
+}
+
+impl Place {
+    /// The place that a line in brackets begins.
+    pub(crate) fn of_header(line: &str) -> Option<Place> {
+        match line.trim_ascii() {
+            "[[catalog]]" => Some(Place::Catalog),
+            "[[catalog.group]]" => Some(Place::Group),
+            _ => None,
+        }
+    }
+
+    /// The keys that it has, in words.
+    pub(crate) fn keys(self) -> &'static str {
+        match self {
+            Place::Document =>
+                "listen in front of every table, or a table [[catalog]] or [[catalog.group]]",
+            Place::Catalog => "name, policy or primaries",
+            Place::Group => "word, policy or primaries",
+        }
+    }
+}
+
+/// A key that has a value.
+#[derive(Clone, Copy, Debug, PartialEq, Eq)]
+pub enum Key {
+    Listen,
+    Name,
+    Policy,
+    Primaries,
+    Word,
+}
+
+impl Key {
+    /// The key of a place by its name.
+    pub(crate) fn of(place: Place, name: &str) -> Option<Key> {
+        match (place, name) {
+            (Place::Document, "listen") => Some(Key::Listen),
+            (Place::Catalog, "name") => Some(Key::Name),
+            (Place::Group, "word") => Some(Key::Word),
+            (Place::Catalog | Place::Group, "policy") => Some(Key::Policy),
+            (Place::Catalog | Place::Group, "primaries") => Some(Key::Primaries),
+            _ => None,
+        }
+    }
+
+    /// Its name.
+    pub fn name(self) -> &'static str {
+        match self {
+            Key::Listen => "listen",
+            Key::Name => "name",
+            Key::Policy => "policy",
+            Key::Primaries => "primaries",
+            Key::Word => "word",
+        }
+    }
+
+    /// What it takes, in words.
+    pub fn takes(self) -> &'static str {
+        match self {
+            Key::Listen => "an address and a port in quotes, \"192.0.2.10:53\"",
+            Key::Name => "a domain name in quotes, \"catalog.example.\"",
+            Key::Policy => "\"off\", \"present\" or \"require\"",
+            Key::Primaries => "1 to 8 addresses in brackets, [\"192.0.2.1\", \"192.0.2.2:5353\"]",
+            Key::Word => "1 to 255 octets of visible ASCII in quotes",
+        }
+    }
+
+    /// Whether a text in quotes is one that it takes.
+    pub(crate) fn is_taken(self, text: &str) -> bool {
+        let octets = text.as_bytes();
+        match self {
+            Key::Listen | Key::Primaries => read_peer(octets).is_some(),
+            Key::Name => Name::parse(octets).is_ok(),
+            Key::Policy => read_policy(octets).is_some(),
+            Key::Word => is_word(octets),
+        }
+    }
+}
