@@ -1,0 +1,4 @@
+pub mod Texts
+pub mod Records
+pub mod Messages
+pub mod Script
