@@ -109,8 +109,10 @@ impl Source for Turn {
             self.begin_frame();
         }
         let Frames { at, end, .. } = self.frames;
-        let rest = self.buffers.room.as_slice().get(at..end).unwrap_or(&[]);
-        let count = copy_front(rest, buffer);
+        let count = match self.buffers.room.as_slice().get(at..end) {
+            Some(rest) => copy_front(rest, buffer),
+            None => 0,
+        };
         self.frames.at = at.saturating_add(count);
         Ok(count)
     }
