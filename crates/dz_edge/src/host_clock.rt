@@ -2,6 +2,7 @@
 ghost use Rattle.std.specs.Prelude.{true, None};
 
 use crate::Bell;
+use crate::watch::Watch;
 use dz_io::{Clock, Rest};
 use std::alloc::{AllocError, Global};
 use std::fs::Files;
@@ -23,12 +24,9 @@ const BRAKE_MILLIS: u64 = 10;
 /// server is to stop.
 #[derive(Drop)]
 pub struct HostClock<'a, R> {
-    rt: &'a R,
-    bell: &'a Bell,
+    watch: Watch<'a, R>,
     /// The last moment that it gave.
     moment: u64,
-    /// The second in which it last looked for a signal.
-    looked: u64,
     /// How often the bell had rung as its worker went on last.
     heard: u64,
     /// When the bell last ended a rest of its worker.
@@ -41,10 +39,8 @@ impl<'a, R> HostClock<'a, R> {
     /// A clock that has given no moment.
     pub fn new(rt: &'a R, bell: &'a Bell) -> HostClock<'a, R> {
         HostClock {
-            rt,
-            bell,
+            watch: Watch::new(rt, bell),
             moment: 0,
-            looked: 0,
             heard: 0,
             woken: Duration::ZERO,
             rang: Duration::ZERO,
@@ -53,44 +49,27 @@ impl<'a, R> HostClock<'a, R> {
 }
 
 impl<'a, R: time::Clock + Files + Wait> HostClock<'a, R> {
-    /// Whether the server is to stop. It looks for a signal at most once a second.
-    fn is_to_stop(&mut self) -> bool {
-        let second = self.time().as_secs();
-        if second == self.looked {
-            return self.bell.is_to_stop();
-        }
-        self.looked = second;
-        self.bell.look(self.rt)
-    }
-
-    /// The time since the host began; zero where the host doesn't tell it.
-    fn time(&self) -> Duration {
-        match self.rt.monotonic() {
-            Ok(time) => time,
-            Err(_) => Duration::ZERO,
-        }
-    }
-
     /// Waits for the bell, a second at most. The bell ends two such rests only so many milliseconds from each other.
     fn wait(&mut self) {
+        let (rt, bell) = (self.watch.rt, self.watch.bell);
         let limit = Duration::from_secs(REST_SECONDS);
-        if self.bell.wait(self.rt, self.heard, limit) != self.heard {
-            let gone = self.time().saturating_sub(self.woken);
+        if bell.wait(rt, self.heard, limit) != self.heard {
+            let gone = self.watch.time().saturating_sub(self.woken);
             let brake = Duration::from_millis(BRAKE_MILLIS).saturating_sub(gone);
             if !brake.is_zero() {
-                sleep(self.rt, brake);
+                sleep(rt, brake);
             }
-            self.woken = self.time();
+            self.woken = self.watch.time();
         }
-        self.heard = self.bell.count(self.rt);
+        self.heard = bell.count(rt);
     }
 
     /// Rings for the other workers that rest, where it hasn't done so just now.
     fn call(&mut self) {
-        let time = self.time();
+        let time = self.watch.time();
         if time.saturating_sub(self.rang) >= Duration::from_millis(BRAKE_MILLIS) {
             self.rang = time;
-            self.heard = self.bell.ring(self.rt);
+            self.heard = self.watch.bell.ring(self.watch.rt);
         }
     }
 }
@@ -103,12 +82,12 @@ impl<'a, R: time::Clock + Files + Wait> Clock for HostClock<'a, R> {
     ghost given = { λ _. None };
 
     fn twin(&self, _alloc: Global) -> Result<HostClock<'a, R>, AllocError> {
-        Ok(HostClock::new(self.rt, self.bell))
+        Ok(HostClock::new(self.watch.rt, self.watch.bell))
     }
 
     /// The last moment again where the host doesn't tell the time.
     fn now(&mut self) -> u64 {
-        if let Ok(time) = self.rt.since_1970() {
+        if let Ok(time) = self.watch.rt.since_1970() {
             self.moment = time.as_secs();
         }
         self.moment.min(MOMENTS - 1)
@@ -116,7 +95,7 @@ impl<'a, R: time::Clock + Files + Wait> Clock for HostClock<'a, R> {
 
     /// Where the worker is idle, rests until the bell rings, a second at most. Where it isn't, rings for the others.
     fn rest(&mut self, idle: bool) -> Rest {
-        if self.bell.is_to_stop() {
+        if self.watch.bell.is_to_stop() {
             return Rest::Stop;
         }
         if idle {
@@ -124,7 +103,7 @@ impl<'a, R: time::Clock + Files + Wait> Clock for HostClock<'a, R> {
         } else {
             self.call();
         }
-        if self.is_to_stop() {
+        if self.watch.is_to_stop() {
             Rest::Stop
         } else {
             Rest::Go

@@ -21,6 +21,7 @@ mod tests_turns;
 mod turn;
 mod turns;
 mod udp_datagrams;
+mod watch;
 
 pub use bell::Bell;
 pub use host_clock::HostClock;

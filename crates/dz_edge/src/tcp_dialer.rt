@@ -7,7 +7,7 @@ use dz_io::{Dialer, Failed, Peer};
 use std::fs::Files;
 use std::net::{Net, TcpStream};
 use std::sync::Wait;
-use std::time::Duration;
+use std::time::{Clock, Duration};
 
 /// How many seconds a connection waits for the peer to take it.
 const LIMIT_SECONDS: u64 = 5;
@@ -36,7 +36,7 @@ impl<'a, R> TcpDialer<'a, R> {
     }
 }
 
-impl<'a, R: Net<Stream = TcpStream> + Wait + Files + Sync> Dialer for TcpDialer<'a, R> {
+impl<'a, R: Net<Stream = TcpStream> + Clock + Files + Wait + Sync> Dialer for TcpDialer<'a, R> {
     type L = TcpLink<'a, R>;
 
     ghost links = { λ _. None };

@@ -2,12 +2,13 @@
 ghost use Rattle.std.specs.Prelude.{◌≡◌, ◌≤◌, refl, length, None, IfSome};
 
 use crate::Bell;
+use crate::watch::Watch;
 use dz_io::{Failed, Link, Sink, Source};
 use std::fs::Files;
 use std::io::{ErrorKind, Read, Write};
 use std::net::TcpStream;
 use std::sync::Wait;
-use std::time::Duration;
+use std::time::{Clock, Duration};
 
 /// How many seconds a read or a write waits for the peer.
 const LIMIT_SECONDS: u64 = 10;
@@ -15,12 +16,11 @@ const LIMIT_SECONDS: u64 = 10;
 /// How often a read is made that a signal interrupts, or that waits.
 const TRIES: usize = 1000;
 
-/// A TCP connection to a primary. It doesn't tell its octets. A read that waits looks each second whether the server is to
-/// stop, and fails then.
+/// A TCP connection to a primary. It doesn't tell its octets. Its reads look each second whether the server is to stop, and
+/// fail then.
 #[derive(Drop)]
 pub struct TcpLink<'a, R> {
-    rt: &'a R,
-    bell: &'a Bell,
+    watch: Watch<'a, R>,
     stream: TcpStream,
     pub(crate) faults: u64,
 }
@@ -36,15 +36,14 @@ impl<'a, R> TcpLink<'a, R> {
         let limit = Some(Duration::from_secs(LIMIT_SECONDS));
         stream.set_write_timeout(limit).ok()?;
         Some(TcpLink {
-            rt,
-            bell,
+            watch: Watch::new(rt, bell),
             stream,
             faults: 0,
         })
     }
 }
 
-impl<'a, R: Wait + Files> Source for TcpLink<'a, R> {
+impl<'a, R: Clock + Files + Wait> Source for TcpLink<'a, R> {
     ghost given = { λ _. None };
 
     ghost left = { λ _. None };
@@ -54,7 +53,7 @@ impl<'a, R: Wait + Files> Source for TcpLink<'a, R> {
     ghost faults = { λ link. link.faults };
 
     fn read(&mut self, buffer: &mut [u8]) -> Result<usize, Failed> {
-        match read_within(self.rt, self.bell, &mut self.stream, buffer) {
+        match read_within(&mut self.watch, &mut self.stream, buffer) {
             Some(count) => Ok(count),
             None => {
                 self.faults = self.faults.saturating_add(1);
@@ -64,7 +63,7 @@ impl<'a, R: Wait + Files> Source for TcpLink<'a, R> {
     }
 }
 
-impl<'a, R: Wait + Files> Sink for TcpLink<'a, R> {
+impl<'a, R: Clock + Files + Wait> Sink for TcpLink<'a, R> {
     ghost held = { λ _. None };
 
     ghost beside = { λ _. record { given = None; left = None } };
@@ -82,7 +81,7 @@ impl<'a, R: Wait + Files> Sink for TcpLink<'a, R> {
     }
 }
 
-impl<'a, R: Wait + Files> Link for TcpLink<'a, R> {
+impl<'a, R: Clock + Files + Wait> Link for TcpLink<'a, R> {
     ghost one_count = { λ _. refl };
 
     ghost reads_leave = { λ _. refl };
@@ -91,9 +90,8 @@ impl<'a, R: Wait + Files> Link for TcpLink<'a, R> {
 }
 
 /// Reads, for as many seconds as the limit has, and no longer where the server is to stop.
-fn read_within<R: Wait + Files>(
-    rt: &R,
-    bell: &Bell,
+fn read_within<R: Clock + Files + Wait>(
+    watch: &mut Watch<'_, R>,
     stream: &mut TcpStream,
     buffer: &mut [u8],
 ) -> Option<usize>
@@ -101,6 +99,9 @@ fn read_within<R: Wait + Files>(
 {
     let mut seconds = 0_u64;
     'tries: for _ in 0..TRIES {
+        if seconds >= LIMIT_SECONDS || watch.is_to_stop() {
+            break;
+        }
         match stream.read(buffer) {
             Ok(count) => return Some(count),
             Err(error) if error.kind() == ErrorKind::Interrupted => {}
@@ -108,9 +109,6 @@ fn read_within<R: Wait + Files>(
                 seconds = seconds.saturating_add(1);
             }
             Err(_) => break,
-        }
-        if seconds >= LIMIT_SECONDS || bell.look(rt) {
-            break;
         }
     }
     None

@@ -66,8 +66,10 @@ pub(crate) struct Turns<'a, R> {
     round: usize,
     /// None while a turn has them.
     buffers: Option<Buffers>,
-    /// The second of the last round, of the host's own count.
-    now: u64,
+    /// When the last round began.
+    now: Duration,
+    /// When the listener last failed.
+    failed: Duration,
     /// The second of the last sweep.
     swept: u64,
 }
@@ -85,7 +87,7 @@ impl<'a, R: Net + Clock> Turns<'a, R> {
         poll.registry()
             .register(&mut listener, Token(DOOR), Interest::READABLE)
             .ok()?;
-        let now = seconds(rt, 0);
+        let now = time(rt, Duration::ZERO);
         Some(Turns {
             rt,
             bell,
@@ -98,7 +100,8 @@ impl<'a, R: Net + Clock> Turns<'a, R> {
             round: 0,
             buffers: Some(Buffers::new(alloc).ok()?),
             now,
-            swept: now,
+            failed: now,
+            swept: now.as_secs(),
         })
     }
 }
@@ -174,7 +177,7 @@ impl<'a, R: Clock + Wait> Turns<'a, R> {
     {
         let place = self.crowd.next()?;
         let mut connection = self.crowd.take(place)?;
-        if !connection.flush(self.now) {
+        if !connection.flush(self.now.as_secs()) {
             self.close(place, connection);
             return None;
         }
@@ -193,7 +196,7 @@ impl<'a, R: Clock + Wait> Turns<'a, R> {
                 let octets = buffers.room.as_slice().get(..total).unwrap_or(&[]);
                 let frames = Frames::new(whole_frames(octets), total);
                 if frames.is_more() {
-                    connection.mark(self.now);
+                    connection.mark(self.now.as_secs());
                     return Some(Turn::new(connection, place, buffers, frames, more));
                 }
                 let stands = !connection.is_at_end() && connection.keep(octets);
@@ -217,22 +220,29 @@ impl<'a, R: Clock + Wait> Turns<'a, R> {
     /// Accepts what is new, looks which connections are ready, and begins a round of them. It answers whether the system
     /// told.
     fn begin_round(&mut self) -> bool {
+        self.try_again();
         self.accept_guests();
         let limit = self.limit();
-        if self.door == Door::Failed {
-            self.door = Door::Open;
-        }
         let told = self.poll.poll(&mut self.events, Some(limit)).is_ok();
-        self.now = seconds(self.rt, self.now);
+        self.now = time(self.rt, self.now);
         if take_events(&self.events, &mut self.crowd) {
             self.door = Door::Open;
         }
-        if self.now > self.swept {
-            self.swept = self.now;
-            self.crowd.sweep(self.now);
+        let second = self.now.as_secs();
+        if second > self.swept {
+            self.swept = second;
+            self.crowd.sweep(second);
         }
         self.round = self.crowd.queued();
         told
+    }
+
+    /// Opens the door again a little after the listener failed.
+    fn try_again(&mut self) {
+        let gone = self.now.saturating_sub(self.failed);
+        if self.door == Door::Failed && gone >= Duration::from_millis(AGAIN_MILLIS) {
+            self.door = Door::Open;
+        }
     }
 
     /// How long the poll may wait.
@@ -264,6 +274,7 @@ impl<'a, R: Clock + Wait> Turns<'a, R> {
                 Err(error) if error.kind() == ErrorKind::Interrupted => {}
                 Err(_) => {
                     self.door = Door::Failed;
+                    self.failed = self.now;
                     self.crowd.drop_oldest();
                 }
             }
@@ -282,7 +293,8 @@ impl<'a, R: Clock + Wait> Turns<'a, R> {
             .register(&mut stream, Token(place), interest)
             .is_ok();
         if is_registered && stream.set_nodelay(true).is_ok() {
-            let connection = Connection::new(self.alloc, stream, peer, self.now);
+            let second = self.now.as_secs();
+            let connection = Connection::new(self.alloc, stream, peer, second);
             self.crowd.put(place, connection);
         } else {
             self.crowd.release(place);
@@ -290,10 +302,10 @@ impl<'a, R: Clock + Wait> Turns<'a, R> {
     }
 }
 
-/// The second of the host's own count, or this one where the host doesn't tell.
-fn seconds<R: Clock>(rt: &R, before: u64) -> u64 {
+/// The time since the host began, or this one where the host doesn't tell it.
+fn time<R: Clock>(rt: &R, before: Duration) -> Duration {
     match rt.monotonic() {
-        Ok(time) => time.as_secs(),
+        Ok(time) => time,
         Err(_) => before,
     }
 }
