@@ -66,6 +66,35 @@ fn turn<'a, R: Clock + Wait + Abort>(
     turn
 }
 
+/// A client whose frame is cut, and one beside it.
+#[derive(Drop)]
+struct Clients {
+    cut: TcpStream,
+    whole: TcpStream,
+}
+
+/// The client beside has its turn while the other's frame is cut here, and that has its own once the rest has come.
+fn serve_both<'a, R: Clock + Wait + Abort>(
+    rt: &R,
+    acceptor: &mut TcpAcceptor<'a, R>,
+    clients: &mut Clients,
+    at: usize,
+)
+    requires { acceptor.old.out ≡ None }
+    ensures { acceptor.new.out ≡ None }
+{
+    let frame = b"\x00\x03abc".as_slice();
+    write(rt, &mut clients.cut, frame.get(..at).unwrap_or(&[]));
+    write(rt, &mut clients.whole, b"\x00\x01x\x00\x00");
+    let mut beside = turn(rt, acceptor, b"\x00\x01x\x00\x00");
+    assert_eq!(rt; beside.write(b"\x00\x01y"), Ok(()));
+    acceptor.done(beside);
+    assert!(rt; comes(&mut clients.whole, b"\x00\x01y"));
+    write(rt, &mut clients.cut, frame.get(at..).unwrap_or(&[]));
+    let whole = turn(rt, acceptor, frame);
+    acceptor.done(whole);
+}
+
 #[test]
 fn a_frame_that_is_cut_waits_and_holds_up_nobody(rt: HostRuntime) -> Result<(), AllocError> {
     let bell = Bell::new();
@@ -74,21 +103,14 @@ fn a_frame_that_is_cut_waits_and_holds_up_nobody(rt: HostRuntime) -> Result<(), 
         panic!(rt; "not opened");
     };
     let here = port_of(&rt, acceptor.turns.listener.local_addr());
-    let frame = b"\x00\x03abc".as_slice();
-    let mut idle = client(&rt, &here);
-    let mut other = client(&rt, &here);
-    'cuts: for cut in 0..frame.len() {
-        let (front, back) = frame.split_at(cut);
-        write(&rt, &mut idle, front);
-        write(&rt, &mut other, b"\x00\x01x\x00\x00");
-        let mut beside = turn(&rt, &mut acceptor, b"\x00\x01x\x00\x00");
-        assert_eq!(rt; beside.write(b"\x00\x01y"), Ok(()));
-        acceptor.done(beside);
-        assert!(rt; comes(&mut other, b"\x00\x01y"));
-        write(&rt, &mut idle, back);
-        let whole = turn(&rt, &mut acceptor, frame);
-        acceptor.done(whole);
-    }
+    let mut clients = Clients {
+        cut: client(&rt, &here),
+        whole: client(&rt, &here),
+    };
+    serve_both(&rt, &mut acceptor, &mut clients, 0);
+    serve_both(&rt, &mut acceptor, &mut clients, 1);
+    serve_both(&rt, &mut acceptor, &mut clients, 2);
+    serve_both(&rt, &mut acceptor, &mut clients, 4);
     ports.close_acceptor(acceptor);
     Ok(())
 }
