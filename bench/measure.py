@@ -113,11 +113,11 @@ def cpu(bench):
         for connections in (0, 2, 20, 200):
             rate, cost = ask.dnsperf(server, queries, bench.seconds, connections)
             cells.append(f"{cost:.2f} ({rate / 1000:.0f})")
-        return cells
+        return cells + [megabytes(server)]
 
     plan = servers.Plan(CATALOG, PRIMARY_PORT, names)
     table("CPU a query, microseconds (thousand queries a second)",
-          ["UDP", "TCP, 2 connections", "20", "200"], bench.each(catalog_of(names), plan, measure))
+          ["UDP", "TCP, 2 connections", "20", "200", "MB at most / then"], bench.each(catalog_of(names), plan, measure))
 
 
 def latency(bench):
@@ -129,13 +129,14 @@ def latency(bench):
         for count in (0, 2, 100, 300):
             idle = ask.idle_clients(server.port, owner, count)
             cells.append(milliseconds(ask.tcp_times(server.port, owner, 200)))
+            memory = megabytes(server)
             for stream in idle:
                 stream.close()
-        return cells
+        return cells + [memory]
 
     plan = servers.Plan(CATALOG, PRIMARY_PORT, names)
     table("A query over a new TCP connection, milliseconds in the median, beside idle clients",
-          ["alone", "2 idle", "100 idle", "300 idle"], bench.each(catalog_of(names), plan, measure))
+          ["alone", "2 idle", "100 idle", "300 idle", "MB at most / beside 300"], bench.each(catalog_of(names), plan, measure))
 
 
 def start(bench):

@@ -22,11 +22,12 @@ class Client:
 
 
 class Primary:
-    """Zones at one address, which a thread of its own serves until `close`. `mode` says how transfers go."""
+    """Zones at one address, which a thread of its own serves until `close`. `mode` says how transfers go. Who changes a
+    zone holds `lock`, which primaries of the same zones share."""
 
-    def __init__(self, port, address="127.0.0.1"):
+    def __init__(self, port, address="127.0.0.1", lock=None):
         self.zones, self.mode, self.transfers = {}, GOOD, 0
-        self.lock, self.random, self.stopped = threading.Lock(), random.Random(port), False
+        self.lock, self.random, self.stopped = lock or threading.Lock(), random.Random(port), False
         self.datagrams = socket.socket(socket.AF_INET, socket.SOCK_DGRAM)
         self.datagrams.bind((address, port))
         self.listener = socket.create_server((address, port), backlog=1000)

@@ -177,17 +177,17 @@ def run(count, seed, folder):
     primary = Primary(PRIMARY_PORT)
     primary.hold(zones.catalog("catalog.test.", [APEX]), zone())
     server = servers.Catzd(servers.Plan("catalog.test.", PRIMARY_PORT), folder, PORT).start()
-    ask.Asker(PORT).wait(f"www.{APEX}", limit=20)
-    attack, begun, before = Attack(seed), time.monotonic(), server.memory()[1]
-    while attack.sent < count and server.is_running() and len(attack.faults) < 10:
-        attack.batch()
-    print(f"{attack.sent} datagrams in {time.monotonic() - begun:.0f} s, seed {seed}: {attack.replies} replies were read")
-    if not server.is_running():
-        return attack.faults + [f"catzd ended with status {server.process.returncode}"]
-    print(f"VmRSS {before:.1f} MB before, {server.memory()[1]:.1f} MB after")
-    seconds, status = server.stop()
+    try:
+        ask.Asker(PORT).wait(f"www.{APEX}", limit=20)
+        attack, begun, before = Attack(seed), time.monotonic(), server.memory()[1]
+        while attack.sent < count and server.is_running() and len(attack.faults) < 10:
+            attack.batch()
+        print(f"{attack.sent} datagrams in {time.monotonic() - begun:.0f} s, seed {seed}: {attack.replies} replies, all "
+              f"of which were read; VmRSS {before:.1f} MB before, {server.memory()[1]:.1f} MB after")
+    finally:
+        seconds, status = server.stop()
     print(f"catzd ended {seconds:.1f} s after SIGTERM with status {status}")
-    return attack.faults + ([] if status == 0 else [f"status {status}"])
+    return attack.faults + ([] if status == 0 else [f"catzd ended with status {status}"])
 
 
 def main():
