@@ -222,8 +222,9 @@ def main():
     words.add_argument("--catzd", default=servers.Catzd.program, help="the program (default: %(default)s)")
     words.add_argument("--seconds", type=int, default=10, help="how long each load lasts (default: %(default)s)")
     chosen = words.parse_args()
-    servers.Catzd.program = os.path.abspath(chosen.catzd)
     kinds = [servers.KINDS[one] for one in chosen.servers.split(",")]
+    if servers.Catzd in kinds:
+        servers.Catzd.choose(chosen.catzd)
     for kind in kinds:
         if not kind.is_installed():
             print(f"{kind.label} isn't installed.")

@@ -4,6 +4,7 @@ import pathlib
 import shutil
 import signal
 import subprocess
+import sys
 import time
 from dataclasses import dataclass, field
 
@@ -115,6 +116,13 @@ class Server:
 
 class Catzd(Server):
     label, program, verifies = "catzd", str(ROOT / "crates/catzd/out/catzd"), True
+
+    @classmethod
+    def choose(cls, program):
+        """Takes this program, which must be there."""
+        cls.program = os.path.abspath(program)
+        if not cls.is_installed():
+            sys.exit(f"there is no program {cls.program}; `rt run -- answer < stdin` in crates/catzd builds it")
 
     def words(self):
         return ["env", "--block-signal=TERM,INT,HUP", self.program, "serve"]

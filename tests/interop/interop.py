@@ -8,7 +8,6 @@ above 5300 of 127.0.0.1. The same questions go to both; then a zone changes, and
 DIFFERENCES doesn't explain fails the run. A peer or a tool that isn't installed is left out, and that is said.
 """
 import argparse
-import os
 import pathlib
 import shutil
 import subprocess
@@ -27,8 +26,9 @@ PEER_PORT, CATZD_PORT = 5350, 5360
 
 # (peers, questions, part): why a reply of catzd differs there. "*" stands for any.
 DIFFERENCES = {
-    ("*", ("apex NS", "apex MX"), "additional"):
-        "catzd adds no address that wasn't asked for, but the glue of a referral (RFC 1034 section 4.3.2 leaves it free)",
+    ("*", ("apex NS", "apex MX"), "additional"): "catzd adds addresses to a referral alone",
+    **{("*", ("the catalog",), part): "catzd takes orders from a catalog, and doesn't answer for it"
+       for part in ("status", "flags", "answer")},
 }
 
 
@@ -71,8 +71,8 @@ class Run:
     def compare(self, when):
         """Asks both all questions in all ways."""
         same, explained, unexplained = 0, {}, {}
-        for what, labels, kind in questions.QUESTIONS:
-            owner = f"{labels}.a.test." if labels else "a.test."
+        for what, name, kind in questions.QUESTIONS:
+            owner = questions.owner_of(name)
             for way in questions.ways():
                 theirs = questions.ask(way, self.peer.port, owner, kind)
                 ours = questions.ask(way, self.catzd.port, owner, kind)
@@ -81,14 +81,14 @@ class Run:
                 for part in parts:
                     reason = reason_of(self.peer.label, what, part)
                     if reason is not None:
-                        explained.setdefault((reason, part), set()).add(what)
+                        explained.setdefault((what, reason), set()).add(part)
                     if reason is None or self.verbose:
                         seen = (what, part, getattr(theirs, part), getattr(ours, part), reason)
                         unexplained.setdefault(seen, []).append(str(way))
         total = len(questions.QUESTIONS) * len(questions.ways())
         self.say(f"{when}: {same} of {total} replies are the same record by record")
-        for (reason, part), where in explained.items():
-            self.say(f"  {part} differs at {', '.join(sorted(where))}: {reason}")
+        for (what, reason), parts in explained.items():
+            self.say(f"  {what}: another {', '.join(sorted(parts))}, since {reason}")
         self.judge(unexplained)
 
     def judge(self, seen):
@@ -163,7 +163,7 @@ def main():
     words.add_argument("--peers", default=",".join(peers.PEERS))
     words.add_argument("--verbose", action="store_true", help="shows the explained differences too")
     chosen = words.parse_args()
-    servers.Catzd.program = os.path.abspath(chosen.catzd)
+    servers.Catzd.choose(chosen.catzd)
     for tool in questions.TOOLS:
         if not shutil.which(tool):
             print(f"{tool} isn't installed, and asks nothing.")

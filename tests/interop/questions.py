@@ -7,7 +7,7 @@ from dataclasses import dataclass
 TOOLS = ("dig", "kdig", "drill")
 SECTIONS = ("answer", "authority", "additional")
 
-# What is asked, its name within a.test, and its type.
+# What is asked, its name, within a.test where it doesn't end with a dot, and its type.
 QUESTIONS = (
     ("address", "www", "A"),
     ("address of six", "www", "AAAA"),
@@ -30,7 +30,14 @@ QUESTIONS = (
     ("chain, no data", "one", "MX"),
     ("chain to no name", "lost", "A"),
     ("chain out of the zone", "outside", "A"),
+    ("another zone", "www.other.test.", "A"),
+    ("the catalog", "catalog.test.", "SOA"),
 )
+
+
+def owner_of(name):
+    """The whole name of a question."""
+    return name if name.endswith(".") else f"{name}.a.test." if name else "a.test."
 
 
 @dataclass(frozen=True)

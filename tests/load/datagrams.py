@@ -8,7 +8,6 @@ doesn't say another number. Each reply is read to its last octet and compared wi
 ordinary query must be answered right. The seed makes a run again.
 """
 import argparse
-import os
 import pathlib
 import random
 import socket
@@ -196,7 +195,7 @@ def main():
     words.add_argument("--seed", type=int, default=random.randrange(1 << 32))
     words.add_argument("--catzd", default=servers.Catzd.program)
     chosen = words.parse_args()
-    servers.Catzd.program = os.path.abspath(chosen.catzd)
+    servers.Catzd.choose(chosen.catzd)
     with tempfile.TemporaryDirectory(prefix="catzd-datagrams-") as folder:
         faults = run(chosen.count, chosen.seed, folder)
     for fault in faults:

@@ -10,7 +10,6 @@ TCP clients, most of them slow or idle, and one over UDP hold each reply against
 answered within a minute, no worker may have ended, and memory must be flat.
 """
 import argparse
-import os
 import pathlib
 import random
 import statistics
@@ -228,7 +227,7 @@ def main():
     words.add_argument("--seed", type=int, default=random.randrange(1 << 32))
     words.add_argument("--catzd", default=servers.Catzd.program)
     chosen = words.parse_args()
-    servers.Catzd.program = os.path.abspath(chosen.catzd)
+    servers.Catzd.choose(chosen.catzd)
     sys.setswitchinterval(0.001)
     print(f"seed {chosen.seed}")
     with tempfile.TemporaryDirectory(prefix="catzd-hour-") as folder:
