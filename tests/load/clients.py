@@ -45,16 +45,19 @@ class Client:
         try:
             if self.stream is None:
                 self.connect()
-            if not self.unsent and not self.asked:
+            if not self.asked:
                 self.unsent = b"".join(self.query() for _ in range(20 if self.kind == PIPELINING else 1))
-            piece = self.unsent[:1] if self.pace else self.unsent
-            self.unsent = self.unsent[self.stream.send(piece) if piece else 0:]
-        except (OSError, BlockingIOError):
+            self.send(now)
+        except OSError:
             self.drop()
-            return
+
+    def send(self, now):
+        """Sends an octet, or all that is unsent. Behind the last one the replies are waited for."""
+        if self.unsent:
+            piece = self.unsent[:1] if self.pace else self.unsent
+            self.unsent = self.unsent[self.stream.send(piece):]
+            self.asked = [(identity, now, member) for identity, _, member in self.asked]
         self.due = now + (self.pace if self.unsent else 1)
-        if not self.unsent:
-            self.asked = [(*one[:1], now, one[2]) for one in self.asked]
 
     def query(self):
         """A query for a member, as it goes over TCP; it is noted as asked."""
@@ -109,10 +112,9 @@ class Crowd:
         self.socket.settimeout(1)
 
     def turn(self):
-        """A hundredth of a second of all clients."""
-        end = time.monotonic() + 0.01
+        """Each client does what is due, and hears what came within a hundredth of a second."""
         for client in self.clients:
-            client.act(end)
+            client.act(time.monotonic())
         for key, _ in self.selector.select(0.01):
             try:
                 if key.data.stream is key.fileobj:
