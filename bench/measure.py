@@ -37,7 +37,7 @@ class Bench:
             fresh = held()
             primary.hold(*fresh)
             self.runs += 1
-            server = kind(plan, self.folder / f"{self.runs}-{kind.program.rsplit('/', 1)[-1]}", FIRST_PORT + self.runs)
+            server = kind(plan, self.folder / f"{self.runs}-{kind.label}", FIRST_PORT + self.runs)
             try:
                 said[kind.label] = measure(server.start(), primary, {zone.apex: zone for zone in fresh})
             except (ask.TooLate, OSError) as error:
@@ -173,8 +173,9 @@ def new_member(bench):
 
     readers = Bench([kind for kind in bench.kinds if kind.reads_catalogs], bench.folder, bench.seconds)
     readers.runs = 100
+    plan = servers.Plan(CATALOG, PRIMARY_PORT, names)
     table("NOTIFY of a new member to its first answer, milliseconds in the median", ["of 20, 100 members before"],
-          readers.each(catalog_of(names), servers.Plan(CATALOG, PRIMARY_PORT, names), measure))
+          readers.each(catalog_of(names), plan, measure))
 
 
 def large(bench):

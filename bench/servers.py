@@ -90,8 +90,8 @@ class Server:
         return total / TICKS
 
     def memory(self):
-        """Megabytes that it has resident, at the most (VmHWM) and now (VmRSS). Of a server of several processes both are
-        what they have now, each shared page counted once (Pss)."""
+        """Megabytes that it has resident, at the most (VmHWM) and now (VmRSS). Of a server of several processes both
+        are what they have now, each shared page counted once (Pss)."""
         processes = family(self.process.pid)
         if len(processes) > 1:
             now = sum(kilobytes(pid, "smaps_rollup", "Pss:") for pid in processes)
@@ -144,6 +144,18 @@ primaries = ["127.0.0.1:{self.plan.primary}"]
 class Knot(Server):
     label, program, verifies = "Knot", "knotd", True
 
+    def template(self, name):
+        """How its zones are kept: in memory alone, as those of catzd are."""
+        return f"""  - id: {name}
+    storage: {self.folder}
+    master: primary
+    acl: notify
+    zonefile-sync: -1
+    zonefile-load: none
+    journal-content: none
+    zonemd-verify: {"on" if self.plan.verifies and name == "member" else "off"}
+"""
+
     def words(self):
         (self.folder / "db").mkdir(exist_ok=True)
         return ["knotd", "-c", self.write("knot.conf", f"""server:
@@ -165,22 +177,7 @@ acl:
     address: 127.0.0.1
     action: notify
 template:
-  - id: default
-    storage: {self.folder}
-    master: primary
-    acl: notify
-    zonefile-sync: -1
-    zonefile-load: none
-    journal-content: none
-  - id: member
-    storage: {self.folder}
-    master: primary
-    acl: notify
-    zonefile-sync: -1
-    zonefile-load: none
-    journal-content: none
-    zonemd-verify: {"on" if self.plan.verifies else "off"}
-zone:
+{self.template("default")}{self.template("member")}zone:
   - domain: {self.plan.catalog}
     catalog-role: interpret
     catalog-template: member

@@ -69,7 +69,7 @@ def ways():
 
 @dataclass(frozen=True)
 class Reply:
-    """A reply as a tool prints it: code, AA and TC, the sections' records in their order by text, and whether OPT is."""
+    """A reply as a tool prints it: code, AA and TC, the sections' records sorted by text, and whether OPT came."""
     status: str
     flags: str
     answer: tuple

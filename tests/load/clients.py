@@ -22,6 +22,9 @@ class Client:
         self.pace = crowd.random.uniform(0.02, 0.6) if kind == SLOW else 0  # seconds from one octet to the next
         self.stream, self.due = None, time.monotonic() + crowd.random.random() * 3
 
+    def is_fast(self):
+        return self.kind in (FAST, PIPELINING)
+
     def connect(self):
         self.stream = socket.create_connection(("127.0.0.1", self.crowd.port), timeout=5)
         self.stream.setblocking(False)
@@ -37,7 +40,7 @@ class Client:
 
     def act(self, now):
         """Sends what is due."""
-        if self.kind in (FAST, PIPELINING) and self.stream is not None and self.asked and now - self.asked[0][1] > LIMIT:
+        if self.is_fast() and self.stream is not None and self.asked and now - self.asked[0][1] > LIMIT:
             self.crowd.faults.append(f"a {self.kind} client got no reply in {LIMIT} s")
             self.drop()
         if now < self.due:
@@ -92,7 +95,7 @@ class Client:
         cursor = self.cursors.setdefault(member.zone.apex, story.Cursor(member))
         cursor.see(story.said_by(message))
         self.crowd.replies += 1
-        if self.kind in (FAST, PIPELINING):
+        if self.is_fast():
             self.crowd.waits.append(now - asked_at)
         if not self.asked:
             self.due = now + RESTS[self.kind]

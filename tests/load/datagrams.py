@@ -181,8 +181,8 @@ def run(count, seed, folder):
         attack, begun, before = Attack(seed), time.monotonic(), server.memory()[1]
         while attack.sent < count and server.is_running() and len(attack.faults) < 10:
             attack.batch()
-        print(f"{attack.sent} datagrams in {time.monotonic() - begun:.0f} s, seed {seed}: {attack.replies} replies, all "
-              f"of which were read; VmRSS {before:.1f} MB before, {server.memory()[1]:.1f} MB after")
+        print(f"{attack.sent} datagrams in {time.monotonic() - begun:.0f} s, seed {seed}: {attack.replies} replies; "
+              f"VmRSS {before:.1f} MB before, {server.memory()[1] if server.is_running() else 0:.1f} MB after")
     finally:
         seconds, status = server.stop()
     print(f"catzd ended {seconds:.1f} s after SIGTERM with status {status}")

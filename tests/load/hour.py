@@ -3,11 +3,11 @@
 
     hour.py [SECONDS] [--clients N] [--seed N] [--catzd PROGRAM]
 
-Two primaries serve two catalogs and their members, on ports above 5300 of 127.0.0.1. Members get new versions, whose TXT
-records hold their serial, and are removed, added and reset; each primary now and then misbehaves for some seconds. 300
-TCP clients, most of them slow or idle, and one over UDP hold each reply against what the primaries gave in their order
-(story.py): the replies of a connection never go back. At the end, with primaries that behave, the last versions must be
-answered within a minute, no worker may have ended, and memory must be flat.
+Two primaries serve two catalogs and their members, on ports above 5300 of 127.0.0.1. Members get new versions, whose
+TXT records hold their serial, and are removed, added and reset; each primary now and then misbehaves for some seconds.
+300 TCP clients, most of them slow or idle, and one over UDP hold each reply against what the primaries gave in their
+order (story.py): the replies of a connection never go back. At the end, with primaries that behave, the last versions
+must be answered within a minute, no worker may have ended, and memory must be flat.
 """
 import argparse
 import pathlib

@@ -59,7 +59,8 @@ class Story(unittest.TestCase):
             self.cursor.see(one)
 
     def test_whole_story(self):
-        self.see(story.REFUSED, story.WAITING, story.WAITING, 1, 1, 4, story.REFUSED, story.WAITING, 4, 9, story.WAITING, 9)
+        self.see(story.REFUSED, story.WAITING, story.WAITING, 1, 1, 4)
+        self.see(story.REFUSED, story.WAITING, 4, 9, story.WAITING, 9)
 
     def test_skipped(self):
         self.see(3, story.WAITING, 5, story.WAITING)
