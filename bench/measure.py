@@ -136,7 +136,8 @@ def latency(bench):
 
     plan = servers.Plan(CATALOG, PRIMARY_PORT, names)
     table("A query over a new TCP connection, milliseconds in the median, beside idle clients",
-          ["alone", "2 idle", "100 idle", "300 idle", "MB at most / beside 300"], bench.each(catalog_of(names), plan, measure))
+          ["alone", "2 idle", "100 idle", "300 idle", "MB at most / beside 300"],
+          bench.each(catalog_of(names), plan, measure))
 
 
 def start(bench):
