@@ -108,8 +108,8 @@ class Maker:
         return base[:4] + struct.pack(">4H", 1, 0, 0, count) + base[12:] + record * count
 
 
-def judge(request, reply):
-    """What is wrong with a reply, or None."""
+def judge(request, reply, limits=(512, 1232)):
+    """What is wrong with a reply, or None. The limits are those of its octets, without OPT and with it."""
     if len(request) < 12 or request[2] & 0x80:
         return "a reply to what is no request"
     try:
@@ -122,7 +122,7 @@ def judge(request, reply):
     if message.code not in CODES:
         return f"code {message.code}"
     has_opt = any(record.kind == wire.OPT for record in message.additional)
-    if len(reply) > (1232 if has_opt else 512):
+    if len(reply) > limits[has_opt]:
         return f"{len(reply)} octets"
     if message.question is None:
         return None if len(reply) == 12 and message.code in (wire.FORMERR, wire.NOTIMP) else "no question"
@@ -171,13 +171,19 @@ class Attack:
                 self.faults.append(f"{fault}: {request.hex()} got {reply.hex()}")
 
 
-def run(count, seed, folder):
-    """Sends the datagrams; the faults."""
+def attacked(folder):
+    """A primary, and catzd behind it, which answers."""
     primary = Primary(PRIMARY_PORT)
     primary.hold(zones.catalog("catalog.test.", [APEX]), zone())
     server = servers.Catzd(servers.Plan("catalog.test.", PRIMARY_PORT), folder, PORT).start()
+    ask.Asker(PORT).wait(f"www.{APEX}", limit=20)
+    return primary, server
+
+
+def run(count, seed, folder):
+    """Sends the datagrams; the faults."""
+    _primary, server = attacked(folder)
     try:
-        ask.Asker(PORT).wait(f"www.{APEX}", limit=20)
         attack, begun, before = Attack(seed), time.monotonic(), server.memory()[1]
         while attack.sent < count and server.is_running() and len(attack.faults) < 10:
             attack.batch()
@@ -189,15 +195,16 @@ def run(count, seed, folder):
     return attack.faults + ([] if status == 0 else [f"catzd ended with status {status}"])
 
 
-def main():
-    words = argparse.ArgumentParser(description=__doc__, formatter_class=argparse.RawDescriptionHelpFormatter)
-    words.add_argument("count", type=int, nargs="?", default=1_000_000)
+def main(text, count, work):
+    """The command line of an attack: runs `work` and prints its faults."""
+    words = argparse.ArgumentParser(description=text, formatter_class=argparse.RawDescriptionHelpFormatter)
+    words.add_argument("count", type=int, nargs="?", default=count)
     words.add_argument("--seed", type=int, default=random.randrange(1 << 32))
     words.add_argument("--catzd", default=servers.Catzd.program)
     chosen = words.parse_args()
     servers.Catzd.choose(chosen.catzd)
-    with tempfile.TemporaryDirectory(prefix="catzd-datagrams-") as folder:
-        faults = run(chosen.count, chosen.seed, folder)
+    with tempfile.TemporaryDirectory(prefix="catzd-load-") as folder:
+        faults = work(chosen.count, chosen.seed, folder)
     for fault in faults:
         print(f"FAULT: {fault}")
     print(f"{len(faults)} faults")
@@ -205,4 +212,4 @@ def main():
 
 
 if __name__ == "__main__":
-    main()
+    main(__doc__, 1_000_000, run)
