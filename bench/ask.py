@@ -115,7 +115,7 @@ def idle_clients(port, owner, count):
 
 
 def dnsperf(server, queries, seconds, connections=0):
-    """Queries a second by dnsperf, and microseconds of the server's CPU for each, or not a number where few were
+    """Queries a second by dnsperf, and microseconds of the server's CPU for each, or infinity where few were
     answered: over UDP, or TCP connections."""
     words = ["dnsperf", "-s", "127.0.0.1", "-p", str(server.port), "-d", queries, "-l", str(seconds), "-e", "-q", "200"]
     words += ["-m", "tcp", "-c", str(connections)] if connections else ["-c", "20"]
@@ -125,4 +125,4 @@ def dnsperf(server, queries, seconds, connections=0):
     found = re.search(r"Queries completed:\s+(\d+)", done.stdout)
     count = int(found.group(1)) if found else 0
     rate = re.search(r"Queries per second:\s+([\d.]+)", done.stdout)
-    return (float(rate.group(1)) if rate else 0.0), (spent / count * 1e6 if count > 10_000 else float("nan"))
+    return (float(rate.group(1)) if rate else 0.0), (spent / count * 1e6 if count > 10_000 else float("inf"))

@@ -17,6 +17,7 @@ from primary import Primary
 
 PRIMARY_PORT, FIRST_PORT = 5300, 5310
 CATALOG, LARGE = "catalog.test.", "large.test."
+BURSTS, STARTS = 4, 3  # how often a load and a start are measured; the least is told
 
 
 def members(count):
@@ -111,7 +112,8 @@ def cpu(bench):
         settle(server, names)
         cells = []
         for connections in (0, 2, 20, 200):
-            rate, cost = ask.dnsperf(server, queries, bench.seconds, connections)
+            bursts = [ask.dnsperf(server, queries, bench.seconds, connections) for _ in range(BURSTS)]
+            rate, cost = min(bursts, key=lambda burst: burst[1])
             cells.append(f"{cost:.2f} ({rate / 1000:.0f})")
         return cells + [megabytes(server)]
 
@@ -150,9 +152,15 @@ def start(bench):
             return [f"{seconds:.2f}", f"{server.cpu():.2f}", megabytes(server), f"{server.stop()[0]:.2f}"]
 
         plan = servers.Plan(CATALOG, PRIMARY_PORT, names)
-        for label, cells in bench.each(catalog_of(names), plan, measure).items():
-            rows[f"{label}, {count} members"] = cells
+        rounds = [bench.each(catalog_of(names), plan, measure) for _ in range(STARTS)]
+        for label in rounds[0]:
+            rows[f"{label}, {count} members"] = min((one[label] for one in rounds), key=seconds_of)
     table("Start to all members answered", ["seconds", "CPU seconds", "MB at most / then", "stop, seconds"], rows)
+
+
+def seconds_of(cells):
+    """The first number of a row; none is less than that of a run that failed."""
+    return float("inf") if isinstance(cells, str) else float(cells[0])
 
 
 def new_member(bench):
@@ -222,7 +230,7 @@ def main():
     words.add_argument("--only", default=",".join(MEASURES), help="the measures, by commas: %(default)s")
     words.add_argument("--servers", default=",".join(servers.KINDS), help="the servers, by commas: %(default)s")
     words.add_argument("--catzd", default=servers.Catzd.program, help="the program (default: %(default)s)")
-    words.add_argument("--seconds", type=int, default=10, help="how long each load lasts (default: %(default)s)")
+    words.add_argument("--seconds", type=int, default=5, help="how long each load of `cpu` lasts (default: %(default)s)")
     chosen = words.parse_args()
     kinds = [servers.KINDS[one] for one in chosen.servers.split(",")]
     if servers.Catzd in kinds:
