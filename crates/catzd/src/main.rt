@@ -19,7 +19,7 @@ mod zone_line;
 use crate::running::{Ended, Status, run};
 use dz_advice::{Kept, advise};
 use dz_desk::{Desk, DeskError, open_desk};
-use dz_edge::{HostClock, HostPorts, ReadSource, Stop, WriteSink};
+use dz_edge::{Bell, HostClock, HostPorts, ReadSource, WriteSink};
 use dz_words::{Command, Words, read_words};
 use std::alloc::{AllocError, Global};
 use std::env;
@@ -54,9 +54,9 @@ fn main(rt: HostRuntime) -> ExitCode {
     let words = Words { list };
     let mut input = Kept::new(alloc, ReadSource::new(rt.stdin()));
     let output = WriteSink::new(rt.stdout());
-    let stop = Stop::new();
-    let mut ports = HostPorts::new(&rt, &stop);
-    let clock = HostClock::new(&rt, &stop);
+    let bell = Bell::new();
+    let mut ports = HostPorts::new(&rt, alloc, &bell);
+    let clock = HostClock::new(&rt, &bell);
     let Ended {
         status,
         output: _,

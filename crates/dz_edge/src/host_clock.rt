@@ -1,10 +1,12 @@
 //! The clock of the host.
 ghost use Rattle.std.specs.Prelude.{true, None};
 
-use crate::Stop;
+use crate::Bell;
+use crate::watch::Watch;
 use dz_io::{Clock, Rest};
 use std::alloc::{AllocError, Global};
 use std::fs::Files;
+use std::sync::Wait;
 use std::thread::sleep;
 use std::time;
 use std::time::Duration;
@@ -12,46 +14,67 @@ use std::time::Duration;
 /// The first moment that is too late.
 const MOMENTS: u64 = 1 << 40;
 
+/// How many seconds a worker rests where the bell doesn't ring.
+const REST_SECONDS: u64 = 1;
+
+/// How many milliseconds lie at least between two rests that the bell ended, and between two rings for help.
+const BRAKE_MILLIS: u64 = 10;
+
 /// The host's clock, in seconds of Unix time. It may give every moment, and tells none. It stops its worker once the
 /// server is to stop.
 #[derive(Drop)]
 pub struct HostClock<'a, R> {
-    rt: &'a R,
-    stop: &'a Stop,
+    watch: Watch<'a, R>,
     /// The last moment that it gave.
     moment: u64,
-    /// The second in which it last looked for a signal.
-    looked: u64,
+    /// How often the bell had rung as its worker went on last.
+    heard: u64,
+    /// When the bell last ended a rest of its worker.
+    woken: Duration,
+    /// When it last rang the bell.
+    rang: Duration,
 }
 
 impl<'a, R> HostClock<'a, R> {
     /// A clock that has given no moment.
-    pub fn new(rt: &'a R, stop: &'a Stop) -> HostClock<'a, R> {
+    pub fn new(rt: &'a R, bell: &'a Bell) -> HostClock<'a, R> {
         HostClock {
-            rt,
-            stop,
+            watch: Watch::new(rt, bell),
             moment: 0,
-            looked: 0,
+            heard: 0,
+            woken: Duration::ZERO,
+            rang: Duration::ZERO,
         }
     }
 }
 
-impl<'a, R: time::Clock + Files> HostClock<'a, R> {
-    /// Whether the server is to stop. It looks for a signal at most once a second.
-    fn is_to_stop(&mut self) -> bool {
-        let second = match self.rt.monotonic() {
-            Ok(time) => time.as_secs(),
-            Err(_) => self.looked,
-        };
-        if second == self.looked {
-            return self.stop.is_set();
+impl<'a, R: time::Clock + Files + Wait> HostClock<'a, R> {
+    /// Waits for the bell, a second at most. The bell ends two such rests only so many milliseconds from each other.
+    fn wait(&mut self) {
+        let (rt, bell) = (self.watch.rt, self.watch.bell);
+        let limit = Duration::from_secs(REST_SECONDS);
+        if bell.wait(rt, self.heard, limit) != self.heard {
+            let gone = self.watch.time().saturating_sub(self.woken);
+            let brake = Duration::from_millis(BRAKE_MILLIS).saturating_sub(gone);
+            if !brake.is_zero() {
+                sleep(rt, brake);
+            }
+            self.woken = self.watch.time();
         }
-        self.looked = second;
-        self.stop.look(self.rt)
+        self.heard = bell.count(rt);
+    }
+
+    /// Rings for the other workers that rest, where it hasn't done so just now.
+    fn call(&mut self) {
+        let time = self.watch.time();
+        if time.saturating_sub(self.rang) >= Duration::from_millis(BRAKE_MILLIS) {
+            self.rang = time;
+            self.heard = self.watch.bell.ring(self.watch.rt);
+        }
     }
 }
 
-impl<'a, R: time::Clock + Files> Clock for HostClock<'a, R> {
+impl<'a, R: time::Clock + Files + Wait> Clock for HostClock<'a, R> {
     ghost may_give = { λ _ _. true };
 
     ghost may_stop = { λ _. true };
@@ -59,23 +82,28 @@ impl<'a, R: time::Clock + Files> Clock for HostClock<'a, R> {
     ghost given = { λ _. None };
 
     fn twin(&self, _alloc: Global) -> Result<HostClock<'a, R>, AllocError> {
-        Ok(HostClock::new(self.rt, self.stop))
+        Ok(HostClock::new(self.watch.rt, self.watch.bell))
     }
 
     /// The last moment again where the host doesn't tell the time.
     fn now(&mut self) -> u64 {
-        if let Ok(time) = self.rt.since_1970() {
+        if let Ok(time) = self.watch.rt.since_1970() {
             self.moment = time.as_secs();
         }
         self.moment.min(MOMENTS - 1)
     }
 
-    /// Rests a second where the worker is idle.
+    /// Where the worker is idle, rests until the bell rings, a second at most. Where it isn't, rings for the others.
     fn rest(&mut self, idle: bool) -> Rest {
-        if idle && !self.stop.is_set() {
-            sleep(self.rt, Duration::from_secs(1));
+        if self.watch.bell.is_to_stop() {
+            return Rest::Stop;
         }
-        if self.is_to_stop() {
+        if idle {
+            self.wait();
+        } else {
+            self.call();
+        }
+        if self.watch.is_to_stop() {
             Rest::Stop
         } else {
             Rest::Go

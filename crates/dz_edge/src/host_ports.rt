@@ -1,18 +1,23 @@
 //! The ports of the host.
 ghost use Rattle.std.specs.Prelude.{◌≡◌, None};
 
-use crate::tcp_acceptor::bind_tcp;
+use crate::tcp_acceptor::{accept_at, bind_tcp};
 use crate::udp_datagrams::bind_udp;
-use crate::{Stop, TcpAcceptor, TcpDialer, UdpDatagrams};
+use crate::{Bell, TcpAcceptor, TcpDialer, UdpDatagrams};
 use dz_io::{Failed, Peer, Ports};
+use std::alloc::Global;
+use std::fs::Files;
 use std::net::{Net, TcpListener, TcpStream, UdpSocket};
+use std::sync::Wait;
+use std::time::Clock;
 
 /// What opens sockets. It tells neither where it opened them nor what came back. The devices of one kind at one address
 /// share a socket.
 #[derive(Drop)]
 pub struct HostPorts<'a, R> {
     rt: &'a R,
-    stop: &'a Stop,
+    alloc: Global,
+    bell: &'a Bell,
     socket: Option<(Peer, UdpSocket)>,
     listener: Option<(Peer, TcpListener)>,
     datagrams_out: u64,
@@ -22,8 +27,8 @@ pub struct HostPorts<'a, R> {
 }
 
 impl<'a, R> HostPorts<'a, R> {
-    /// Ports that have opened nothing.
-    pub fn new(rt: &'a R, stop: &'a Stop) -> HostPorts<'a, R>
+    /// Ports that have opened nothing. Their devices ring the bell.
+    pub fn new(rt: &'a R, alloc: Global, bell: &'a Bell) -> HostPorts<'a, R>
         ensures datagrams { result.datagrams_out ≡ 0 }
         ensures acceptors { result.acceptors_out ≡ 0 }
         ensures dialers { result.dialers_out ≡ 0 }
@@ -31,7 +36,8 @@ impl<'a, R> HostPorts<'a, R> {
     {
         HostPorts {
             rt,
-            stop,
+            alloc,
+            bell,
             socket: None,
             listener: None,
             datagrams_out: 0,
@@ -42,10 +48,10 @@ impl<'a, R> HostPorts<'a, R> {
     }
 }
 
-impl<'a, R: Net<Listener = TcpListener, Stream = TcpStream> + Sync> Ports for HostPorts<'a, R> {
-    type D = UdpDatagrams<'a>;
+impl<'a, R: Net<Stream = TcpStream> + Clock + Files + Wait + Sync> Ports for HostPorts<'a, R> {
+    type D = UdpDatagrams<'a, R>;
 
-    type A = TcpAcceptor<'a>;
+    type A = TcpAcceptor<'a, R>;
 
     type L = TcpDialer<'a, R>;
 
@@ -57,12 +63,16 @@ impl<'a, R: Net<Listener = TcpListener, Stream = TcpStream> + Sync> Ports for Ho
 
     ghost faults = { λ ports. ports.faults };
 
-    fn open_datagrams(&mut self, listen: &Peer, _worker: u8) -> Result<UdpDatagrams<'a>, Failed> {
+    fn open_datagrams(
+        &mut self,
+        listen: &Peer,
+        _worker: u8,
+    ) -> Result<UdpDatagrams<'a, R>, Failed> {
         let socket = share_socket(self.rt, &mut self.socket, listen);
         match (socket, self.datagrams_out.checked_add(1)) {
             (Some(socket), Some(out)) => {
                 self.datagrams_out = out;
-                Ok(UdpDatagrams::new(socket, self.stop))
+                Ok(UdpDatagrams::new(self.rt, self.bell, socket))
             }
             _ => {
                 self.faults = self.faults.saturating_add(1);
@@ -71,12 +81,13 @@ impl<'a, R: Net<Listener = TcpListener, Stream = TcpStream> + Sync> Ports for Ho
         }
     }
 
-    fn open_acceptor(&mut self, listen: &Peer, _worker: u8) -> Result<TcpAcceptor<'a>, Failed> {
+    fn open_acceptor(&mut self, listen: &Peer, _worker: u8) -> Result<TcpAcceptor<'a, R>, Failed> {
         let listener = share_listener(self.rt, &mut self.listener, listen);
-        match (listener, self.acceptors_out.checked_add(1)) {
-            (Some(listener), Some(out)) => {
+        let acceptor = accept_at(self.rt, self.alloc, self.bell, listener);
+        match (acceptor, self.acceptors_out.checked_add(1)) {
+            (Some(acceptor), Some(out)) => {
                 self.acceptors_out = out;
-                Ok(TcpAcceptor::new(listener, self.stop))
+                Ok(acceptor)
             }
             _ => {
                 self.faults = self.faults.saturating_add(1);
@@ -89,7 +100,7 @@ impl<'a, R: Net<Listener = TcpListener, Stream = TcpStream> + Sync> Ports for Ho
         match self.dialers_out.checked_add(1) {
             Some(out) => {
                 self.dialers_out = out;
-                Ok(TcpDialer::new(self.rt, self.stop))
+                Ok(TcpDialer::new(self.rt, self.bell))
             }
             None => {
                 self.faults = self.faults.saturating_add(1);
@@ -98,14 +109,14 @@ impl<'a, R: Net<Listener = TcpListener, Stream = TcpStream> + Sync> Ports for Ho
         }
     }
 
-    fn close_datagrams(&mut self, device: UdpDatagrams<'a>) {
+    fn close_datagrams(&mut self, device: UdpDatagrams<'a, R>) {
         self.datagrams_out -= 1;
         if device.faults > 0 {
             self.faults = self.faults.saturating_add(1);
         }
     }
 
-    fn close_acceptor(&mut self, device: TcpAcceptor<'a>) {
+    fn close_acceptor(&mut self, device: TcpAcceptor<'a, R>) {
         self.acceptors_out -= 1;
         if device.faults > 0 {
             self.faults = self.faults.saturating_add(1);
@@ -134,7 +145,7 @@ fn share_socket<R: Net>(
 }
 
 /// The listener that was kept at this address, or a new one, which it keeps.
-fn share_listener<R: Net<Listener = TcpListener, Stream = TcpStream>>(
+fn share_listener<R: Net>(
     rt: &R,
     kept: &mut Option<(Peer, TcpListener)>,
     listen: &Peer,

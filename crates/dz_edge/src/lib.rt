@@ -2,6 +2,11 @@
 #![tactic(auto)]
 
 mod address;
+mod bell;
+mod buffers;
+mod connection;
+mod crowd;
+mod frames;
 mod host_clock;
 mod host_ports;
 mod standard;
@@ -11,13 +16,19 @@ mod tcp_dialer;
 mod tcp_link;
 #[cfg(test)]
 mod tests;
+#[cfg(test)]
+mod tests_turns;
+mod turn;
+mod turns;
 mod udp_datagrams;
+mod watch;
 
+pub use bell::Bell;
 pub use host_clock::HostClock;
 pub use host_ports::HostPorts;
 pub use standard::{ReadSource, WriteSink};
-pub use stop::Stop;
 pub use tcp_acceptor::TcpAcceptor;
 pub use tcp_dialer::TcpDialer;
 pub use tcp_link::TcpLink;
+pub use turn::Turn;
 pub use udp_datagrams::UdpDatagrams;

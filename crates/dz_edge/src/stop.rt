@@ -12,11 +12,11 @@ const PENDING: &[u8] = b"ShdPnd:";
 /// How many reads take the whole of /proc/self/status.
 const READS: usize = 64;
 
-/// Whether the server is to stop, which its devices and clocks share. Once set, it stays so.
+/// Whether the server is to stop. Once set, it stays so.
 ///
 /// A signal that the starter has blocked stays pending and ends nothing by itself; `look` finds it.
 #[derive(Drop)]
-pub struct Stop {
+pub(crate) struct Stop {
     flag: AtomicBool,
 }
 

@@ -1,52 +1,56 @@
 //! An acceptor over TCP.
-ghost use Rattle.std.specs.Prelude.{◌≡◌, false, None, ⊤, IfSome};
-ghost use Rattle.dz_io.specs.Links.{IsAccepted};
+ghost use Rattle.std.specs.Prelude.{◌≡◌, false, None, IfSome};
 
-use crate::address::{peer_of, socket_address};
-use crate::{Stop, TcpLink};
+use crate::address::socket_address;
+use crate::turns::Turns;
+use crate::{Bell, Turn};
 use dz_io::{Accepted, Acceptor, Failed, Peer};
-use libc::net::{POLLIN, poll};
-use libc::types::pollfd;
-use std::io::ErrorKind;
-use std::net::{Net, SocketAddr, TcpListener, TcpStream};
-use std::os::fd::AsRawFd;
+use std::alloc::Global;
+use std::net::{Net, TcpListener};
+use std::sync::Wait;
+use std::time::Clock;
 
-/// How many milliseconds a listener waits before it looks whether to stop.
-const LOOK_MILLIS: i32 = 200;
-
-/// After how many errors in a row a listener counts as failed.
-const ERRORS: u32 = 100;
-
-/// A TCP listener. It doesn't tell its links, and is closed once the server is to stop.
+/// A TCP listener and the connections that were made to it, of which each link is a turn. It doesn't tell its links, and
+/// is closed once the server is to stop.
 #[derive(Drop)]
-pub struct TcpAcceptor<'a> {
-    pub(crate) listener: TcpListener,
-    stop: &'a Stop,
+pub struct TcpAcceptor<'a, R> {
+    pub(crate) turns: Turns<'a, R>,
     out: Option<Peer>,
     is_closed: bool,
     pub(crate) faults: u64,
 }
 
 /// A listener at this address and port, whose `accept` doesn't wait.
-pub(crate) fn bind_tcp<R: Net<Listener = TcpListener, Stream = TcpStream>>(
-    rt: &R,
-    listen: &Peer,
-) -> Option<TcpListener> {
-    let listener = TcpListener::bind(rt, socket_address(listen)).ok()?;
-    listener.set_nonblocking(true).ok()?;
-    Some(listener)
+pub(crate) fn bind_tcp<R: Net>(rt: &R, listen: &Peer) -> Option<TcpListener> {
+    let listener = mio::net::TcpListener::bind(rt, socket_address(listen)).ok()?;
+    Some(TcpListener::from(listener))
 }
 
-impl<'a> TcpAcceptor<'a> {
+/// An acceptor at a listener, if there is one, that has given no link; none where the system or memory refuses.
+pub(crate) fn accept_at<'a, R: Net + Clock>(
+    rt: &'a R,
+    alloc: Global,
+    bell: &'a Bell,
+    listener: Option<TcpListener>,
+) -> Option<TcpAcceptor<'a, R>>
+    ensures out { IfSome result (λ acceptor. acceptor.out ≡ None) }
+    ensures closed { IfSome result (λ acceptor. acceptor.is_closed ≡ false) }
+    ensures faults { IfSome result (λ acceptor. acceptor.faults ≡ 0) }
+{
+    let listener = mio::net::TcpListener::from_std(listener?);
+    let turns = Turns::new(rt, alloc, bell, listener)?;
+    Some(TcpAcceptor::new(turns))
+}
+
+impl<'a, R> TcpAcceptor<'a, R> {
     /// An acceptor that has given no link.
-    pub(crate) fn new(listener: TcpListener, stop: &'a Stop) -> TcpAcceptor<'a>
+    pub(crate) fn new(turns: Turns<'a, R>) -> TcpAcceptor<'a, R>
         ensures out { result.out ≡ None }
         ensures closed { result.is_closed ≡ false }
         ensures faults { result.faults ≡ 0 }
     {
         TcpAcceptor {
-            listener,
-            stop,
+            turns,
             out: None,
             is_closed: false,
             faults: 0,
@@ -54,8 +58,8 @@ impl<'a> TcpAcceptor<'a> {
     }
 }
 
-impl<'a> Acceptor for TcpAcceptor<'a> {
-    type L = TcpLink<'a>;
+impl<'a, R: Clock + Wait> Acceptor for TcpAcceptor<'a, R> {
+    type L = Turn;
 
     ghost links = { λ _. None };
 
@@ -66,15 +70,15 @@ impl<'a> Acceptor for TcpAcceptor<'a> {
     ghost faults = { λ acceptor. acceptor.faults };
 
     /// Fails after a run of errors only, since a later connection may come well.
-    fn accept(&mut self) -> Result<Accepted<TcpLink<'a>>, Failed> {
-        match accept_next(&self.listener, self.stop) {
+    fn accept(&mut self) -> Result<Accepted<Turn>, Failed> {
+        match self.turns.next() {
             Some(Accepted::Closed) => {
                 self.is_closed = true;
                 Ok(Accepted::Closed)
             }
-            Some(Accepted::One(link, peer)) => {
+            Some(Accepted::One(turn, peer)) => {
                 self.out = Some(peer);
-                Ok(Accepted::One(link, peer))
+                Ok(Accepted::One(turn, peer))
             }
             None => {
                 self.faults = self.faults.saturating_add(1);
@@ -83,44 +87,8 @@ impl<'a> Acceptor for TcpAcceptor<'a> {
         }
     }
 
-    fn done(&mut self, _link: TcpLink<'a>) {
+    fn done(&mut self, link: Turn) {
+        self.turns.done(link);
         self.out = None;
     }
-}
-
-/// The next connection, or that the server is to stop; none after a run of errors.
-fn accept_next<'a>(listener: &TcpListener, stop: &'a Stop) -> Option<Accepted<TcpLink<'a>>>
-    ensures { IfSome result (λ a. IsAccepted a (λ link peer. link.faults ≡ 0) ⊤) }
-{
-    let mut errors = 0_u32;
-    'callers: for _ in 0..u64::MAX {
-        if stop.is_set() {
-            return Some(Accepted::Closed);
-        }
-        wait_for(listener);
-        match listener.accept() {
-            Ok((stream, SocketAddr::V4(from))) => {
-                if let Some(link) = TcpLink::new(stream, stop) {
-                    return Some(Accepted::One(link, peer_of(&from)));
-                }
-            }
-            Err(error) if error.kind() == ErrorKind::Interrupted => {}
-            Err(error) if error.kind() == ErrorKind::WouldBlock => errors = 0,
-            _ => errors = errors.saturating_add(1),
-        }
-        if errors == ERRORS {
-            break;
-        }
-    }
-    None
-}
-
-/// Waits a little until the listener may have a connection.
-fn wait_for(listener: &TcpListener) {
-    let mut waited = [pollfd {
-        fd: listener.as_raw_fd(),
-        events: POLLIN,
-        revents: 0,
-    }];
-    let _ready = poll(&mut waited, LOOK_MILLIS);
 }

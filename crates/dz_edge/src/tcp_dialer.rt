@@ -2,38 +2,42 @@
 ghost use Rattle.std.specs.Prelude.{◌≡◌, None, IfSome};
 
 use crate::address::socket_address;
-use crate::tcp_link::LIMIT_SECONDS;
-use crate::{Stop, TcpLink};
+use crate::{Bell, TcpLink};
 use dz_io::{Dialer, Failed, Peer};
+use std::fs::Files;
 use std::net::{Net, TcpStream};
-use std::time::Duration;
+use std::sync::Wait;
+use std::time::{Clock, Duration};
+
+/// How many seconds a connection waits for the peer to take it.
+const LIMIT_SECONDS: u64 = 5;
 
 /// What makes TCP connections. It doesn't tell its links.
 #[derive(Drop)]
 pub struct TcpDialer<'a, R> {
     rt: &'a R,
-    stop: &'a Stop,
+    bell: &'a Bell,
     out: Option<Peer>,
     faults: u64,
 }
 
 impl<'a, R> TcpDialer<'a, R> {
     /// A dialer that has made no link.
-    pub(crate) fn new(rt: &'a R, stop: &'a Stop) -> TcpDialer<'a, R>
+    pub(crate) fn new(rt: &'a R, bell: &'a Bell) -> TcpDialer<'a, R>
         ensures out { result.out ≡ None }
         ensures faults { result.faults ≡ 0 }
     {
         TcpDialer {
             rt,
-            stop,
+            bell,
             out: None,
             faults: 0,
         }
     }
 }
 
-impl<'a, R: Net<Stream = TcpStream>> Dialer for TcpDialer<'a, R> {
-    type L = TcpLink<'a>;
+impl<'a, R: Net<Stream = TcpStream> + Clock + Files + Wait + Sync> Dialer for TcpDialer<'a, R> {
+    type L = TcpLink<'a, R>;
 
     ghost links = { λ _. None };
 
@@ -41,8 +45,8 @@ impl<'a, R: Net<Stream = TcpStream>> Dialer for TcpDialer<'a, R> {
 
     ghost faults = { λ dialer. dialer.faults };
 
-    fn dial(&mut self, peer: &Peer) -> Result<TcpLink<'a>, Failed> {
-        match connect(self.rt, peer, self.stop) {
+    fn dial(&mut self, peer: &Peer) -> Result<TcpLink<'a, R>, Failed> {
+        match connect(self.rt, self.bell, peer) {
             Some(link) => {
                 self.out = Some(*peer);
                 Ok(link)
@@ -54,7 +58,7 @@ impl<'a, R: Net<Stream = TcpStream>> Dialer for TcpDialer<'a, R> {
         }
     }
 
-    fn done(&mut self, link: TcpLink<'a>) {
+    fn done(&mut self, link: TcpLink<'a, R>) {
         self.out = None;
         if link.faults > 0 {
             self.faults = self.faults.saturating_add(1);
@@ -64,13 +68,13 @@ impl<'a, R: Net<Stream = TcpStream>> Dialer for TcpDialer<'a, R> {
 
 /// A new connection to a peer; none where it doesn't answer within the limit.
 fn connect<'a, R: Net<Stream = TcpStream>>(
-    rt: &R,
+    rt: &'a R,
+    bell: &'a Bell,
     peer: &Peer,
-    stop: &'a Stop,
-) -> Option<TcpLink<'a>>
+) -> Option<TcpLink<'a, R>>
     ensures { IfSome result (λ link. link.faults ≡ 0) }
 {
     let limit = Duration::from_secs(LIMIT_SECONDS);
     let stream = TcpStream::connect_timeout(rt, &socket_address(peer), limit).ok()?;
-    TcpLink::new(stream, stop)
+    TcpLink::new(rt, bell, stream)
 }

@@ -1,26 +1,33 @@
 //! Links over TCP.
 ghost use Rattle.std.specs.Prelude.{◌≡◌, ◌≤◌, refl, length, None, IfSome};
 
-use crate::Stop;
+use crate::Bell;
+use crate::watch::Watch;
 use dz_io::{Failed, Link, Sink, Source};
+use std::fs::Files;
 use std::io::{ErrorKind, Read, Write};
 use std::net::TcpStream;
-use std::time::Duration;
+use std::sync::Wait;
+use std::time::{Clock, Duration};
 
 /// How many seconds a read or a write waits for the peer.
-pub(crate) const LIMIT_SECONDS: u64 = 10;
+const LIMIT_SECONDS: u64 = 10;
 
-/// A TCP connection. It doesn't tell its octets. A read that waits fails soon after the server is to stop.
+/// How often a read is made that a signal interrupts, or that waits.
+const TRIES: usize = 1000;
+
+/// A TCP connection to a primary. It doesn't tell its octets. Its reads look each second whether the server is to stop, and
+/// fail then.
 #[derive(Drop)]
-pub struct TcpLink<'a> {
+pub struct TcpLink<'a, R> {
+    watch: Watch<'a, R>,
     stream: TcpStream,
-    stop: &'a Stop,
     pub(crate) faults: u64,
 }
 
-impl<'a> TcpLink<'a> {
+impl<'a, R> TcpLink<'a, R> {
     /// A link of a new connection; none where its limits can't be set.
-    pub(crate) fn new(stream: TcpStream, stop: &'a Stop) -> Option<TcpLink<'a>>
+    pub(crate) fn new(rt: &'a R, bell: &'a Bell, stream: TcpStream) -> Option<TcpLink<'a, R>>
         ensures { IfSome result (λ link. link.faults ≡ 0) }
     {
         stream.set_nodelay(true).ok()?;
@@ -29,14 +36,14 @@ impl<'a> TcpLink<'a> {
         let limit = Some(Duration::from_secs(LIMIT_SECONDS));
         stream.set_write_timeout(limit).ok()?;
         Some(TcpLink {
+            watch: Watch::new(rt, bell),
             stream,
-            stop,
             faults: 0,
         })
     }
 }
 
-impl<'a> Source for TcpLink<'a> {
+impl<'a, R: Clock + Files + Wait> Source for TcpLink<'a, R> {
     ghost given = { λ _. None };
 
     ghost left = { λ _. None };
@@ -46,7 +53,7 @@ impl<'a> Source for TcpLink<'a> {
     ghost faults = { λ link. link.faults };
 
     fn read(&mut self, buffer: &mut [u8]) -> Result<usize, Failed> {
-        match read_within(&mut self.stream, self.stop, buffer) {
+        match read_within(&mut self.watch, &mut self.stream, buffer) {
             Some(count) => Ok(count),
             None => {
                 self.faults = self.faults.saturating_add(1);
@@ -56,7 +63,7 @@ impl<'a> Source for TcpLink<'a> {
     }
 }
 
-impl<'a> Sink for TcpLink<'a> {
+impl<'a, R: Clock + Files + Wait> Sink for TcpLink<'a, R> {
     ghost held = { λ _. None };
 
     ghost beside = { λ _. record { given = None; left = None } };
@@ -74,7 +81,7 @@ impl<'a> Sink for TcpLink<'a> {
     }
 }
 
-impl<'a> Link for TcpLink<'a> {
+impl<'a, R: Clock + Files + Wait> Link for TcpLink<'a, R> {
     ghost one_count = { λ _. refl };
 
     ghost reads_leave = { λ _. refl };
@@ -83,18 +90,25 @@ impl<'a> Link for TcpLink<'a> {
 }
 
 /// Reads, for as many seconds as the limit has, and no longer where the server is to stop.
-fn read_within(stream: &mut TcpStream, stop: &Stop, buffer: &mut [u8]) -> Option<usize>
+fn read_within<R: Clock + Files + Wait>(
+    watch: &mut Watch<'_, R>,
+    stream: &mut TcpStream,
+    buffer: &mut [u8],
+) -> Option<usize>
     ensures { IfSome result (λ n. n ≤ length buffer.old) }
 {
-    'seconds: for _ in 0..LIMIT_SECONDS {
+    let mut seconds = 0_u64;
+    'tries: for _ in 0..TRIES {
+        if seconds >= LIMIT_SECONDS || watch.is_to_stop() {
+            break;
+        }
         match stream.read(buffer) {
             Ok(count) => return Some(count),
             Err(error) if error.kind() == ErrorKind::Interrupted => {}
-            Err(error) if error.kind() == ErrorKind::WouldBlock => {}
+            Err(error) if error.kind() == ErrorKind::WouldBlock => {
+                seconds = seconds.saturating_add(1);
+            }
             Err(_) => break,
-        }
-        if stop.is_set() {
-            break;
         }
     }
     None

@@ -2,11 +2,13 @@
 ghost use Rattle.std.specs.Prelude.{◌≡◌, ◌≤◌, length, false, None, IfSome};
 ghost use Rattle.dz_io.specs.Packets.{Receives};
 
-use crate::Stop;
+use crate::Bell;
 use crate::address::{peer_of, socket_address};
+use crate::frames::takes_notify;
 use dz_io::{Datagrams, Failed, Peer, Received};
 use std::io::ErrorKind;
-use std::net::{Net, SocketAddr, UdpSocket};
+use std::net::{Net, UdpSocket};
+use std::sync::Wait;
 use std::time::Duration;
 
 /// How many milliseconds a socket waits before it looks whether to stop.
@@ -15,11 +17,15 @@ const LOOK_MILLIS: u64 = 200;
 /// After how many errors in a row a socket counts as failed.
 const ERRORS: u32 = 100;
 
+/// How often a packet is sent that a signal interrupts.
+const TRIES: usize = 1000;
+
 /// A UDP socket. It doesn't tell its packets, and is closed once the server is to stop.
 #[derive(Drop)]
-pub struct UdpDatagrams<'a> {
+pub struct UdpDatagrams<'a, R> {
+    rt: &'a R,
+    bell: &'a Bell,
     pub(crate) socket: UdpSocket,
-    stop: &'a Stop,
     is_closed: bool,
     pub(crate) faults: u64,
 }
@@ -32,22 +38,23 @@ pub(crate) fn bind_udp<R: Net>(rt: &R, listen: &Peer) -> Option<UdpSocket> {
     Some(socket)
 }
 
-impl<'a> UdpDatagrams<'a> {
+impl<'a, R> UdpDatagrams<'a, R> {
     /// A device that has received and sent nothing.
-    pub(crate) fn new(socket: UdpSocket, stop: &'a Stop) -> UdpDatagrams<'a>
+    pub(crate) fn new(rt: &'a R, bell: &'a Bell, socket: UdpSocket) -> UdpDatagrams<'a, R>
         ensures closed { result.is_closed ≡ false }
         ensures faults { result.faults ≡ 0 }
     {
         UdpDatagrams {
+            rt,
+            bell,
             socket,
-            stop,
             is_closed: false,
             faults: 0,
         }
     }
 }
 
-impl<'a> Datagrams for UdpDatagrams<'a> {
+impl<'a, R: Wait> Datagrams for UdpDatagrams<'a, R> {
     ghost received = { λ _. None };
 
     ghost sent = { λ _. None };
@@ -58,7 +65,7 @@ impl<'a> Datagrams for UdpDatagrams<'a> {
 
     /// Fails after a run of errors only, since a later packet may come well.
     fn receive(&mut self, buffer: &mut [u8]) -> Result<Received, Failed> {
-        match receive_next(&self.socket, self.stop, buffer) {
+        match receive_next(&self.socket, self.bell, buffer) {
             Some(Received::Closed) => {
                 self.is_closed = true;
                 Ok(Received::Closed)
@@ -71,38 +78,55 @@ impl<'a> Datagrams for UdpDatagrams<'a> {
         }
     }
 
+    /// Rings the bell behind the reply to a NOTIFY that was taken: then the zone that it tells of is due.
     fn send(&mut self, peer: &Peer, piece: &[u8]) -> Result<(), Failed> {
-        match self.socket.send_to(piece, socket_address(peer)) {
-            Ok(count) if count == piece.len() => Ok(()),
-            _ => {
-                self.faults = self.faults.saturating_add(1);
-                Err(Failed)
-            }
+        let is_sent = send_whole(&self.socket, peer, piece);
+        if takes_notify(piece) {
+            self.bell.ring(self.rt);
+        }
+        if is_sent {
+            Ok(())
+        } else {
+            self.faults = self.faults.saturating_add(1);
+            Err(Failed)
         }
     }
 }
 
 /// The next packet, or that the server is to stop; none after a run of errors.
-fn receive_next(socket: &UdpSocket, stop: &Stop, buffer: &mut [u8]) -> Option<Received>
+fn receive_next(socket: &UdpSocket, bell: &Bell, buffer: &mut [u8]) -> Option<Received>
     ensures { IfSome result (λ r. Receives r buffer.new None None) }
 {
     let mut errors = 0_u32;
     'packets: for _ in 0..u64::MAX {
-        if stop.is_set() {
+        if bell.is_to_stop() {
             return Some(Received::Closed);
         }
         match socket.recv_from(buffer) {
-            Ok((length, SocketAddr::V4(from))) => {
-                let peer = peer_of(&from);
-                return Some(Received::Packet { length, peer });
+            Ok((length, from)) => {
+                if let Some(peer) = peer_of(&from) {
+                    return Some(Received::Packet { length, peer });
+                }
             }
             Err(error) if error.kind() == ErrorKind::Interrupted => {}
             Err(error) if error.kind() == ErrorKind::WouldBlock => errors = 0,
-            _ => errors = errors.saturating_add(1),
+            Err(_) => errors = errors.saturating_add(1),
         }
-        if errors == ERRORS {
+        if errors >= ERRORS {
             break;
         }
     }
     None
+}
+
+/// Sends a packet, again where a signal interrupts. It answers whether the whole of it went.
+fn send_whole(socket: &UdpSocket, peer: &Peer, piece: &[u8]) -> bool {
+    'tries: for _ in 0..TRIES {
+        match socket.send_to(piece, socket_address(peer)) {
+            Ok(count) => return count == piece.len(),
+            Err(error) if error.kind() == ErrorKind::Interrupted => {}
+            Err(_) => return false,
+        }
+    }
+    false
 }

@@ -1,0 +1,74 @@
+//! The bell that wakes the workers that rest.
+use crate::stop::Stop;
+use std::fs::Files;
+use std::sync::{Condvar, CondvarTimeouts, Mutex, Wait};
+use std::time::{Clock, Duration};
+
+/// What the devices and clocks of a server share: a bell, and whether the server is to stop.
+///
+/// The bell rings where a NOTIFY was taken, where a worker has found work, and where the server is to stop. A worker that
+/// rests keeps in mind how often it had rung as it went on last, so it misses no ring.
+#[derive(Drop)]
+pub struct Bell {
+    /// How often it has rung, modulo 2^64.
+    rung: Mutex<u64>,
+    turned: Condvar,
+    stop: Stop,
+}
+
+impl Bell {
+    /// A bell that has never rung, of a server that isn't to stop.
+    pub fn new() -> Bell {
+        Bell {
+            rung: Mutex::new(0),
+            turned: Condvar::new(),
+            stop: Stop::new(),
+        }
+    }
+
+    /// Rings once more, and answers how often it has rung.
+    pub fn ring<R: Wait>(&self, rt: &R) -> u64 {
+        let mut rung = self.rung.lock(rt);
+        *rung = rung.wrapping_add(1);
+        let count = *rung;
+        self.turned.notify_all();
+        count
+    }
+
+    /// How often it has rung.
+    pub(crate) fn count<R: Wait>(&self, rt: &R) -> u64 {
+        *self.rung.lock(rt)
+    }
+
+    /// Waits while it has rung so often, until the limit at most, and answers how often it has rung.
+    pub(crate) fn wait<R: Wait + Clock>(&self, rt: &R, heard: u64, limit: Duration) -> u64 {
+        let rung = self.rung.lock(rt);
+        let (rung, _) = self
+            .turned
+            .wait_timeout_while(rt, rung, limit, |rung| *rung == heard);
+        *rung
+    }
+
+    /// Whether the server is to stop.
+    pub fn is_to_stop(&self) -> bool {
+        self.stop.is_set()
+    }
+
+    /// The server is to stop, which it rings for.
+    pub fn stop<R: Wait>(&self, rt: &R) {
+        self.stop.set();
+        self.ring(rt);
+    }
+
+    /// Whether the server is to stop. It stops it where SIGHUP, SIGINT or SIGTERM is pending.
+    pub(crate) fn look<R: Wait + Files>(&self, rt: &R) -> bool {
+        if self.stop.is_set() {
+            return true;
+        }
+        let stops = self.stop.look(rt);
+        if stops {
+            self.ring(rt);
+        }
+        stops
+    }
+}

@@ -1,0 +1,49 @@
+//! The messages of a connection as it carries them: each is a frame, behind its length (RFC 1035 section 4.2.2).
+ghost use Rattle.std.specs.Prelude.{◌≤◌, length, IfSome};
+
+/// How many octets the length in front of a message has.
+pub(crate) const LENGTH_OCTETS: usize = 2;
+
+/// The most octets of a frame.
+pub(crate) const FRAME_OCTETS: usize = LENGTH_OCTETS + 65_535;
+
+/// QR and the opcode, in the third octet of a message (RFC 1035 section 4.1.1).
+const KIND: u8 = 0xf8;
+
+/// QR set, and the opcode of a NOTIFY (RFC 1996 section 3.2).
+const NOTIFY_REPLY: u8 = 0xa0;
+
+/// The response code, in the fourth octet of a message.
+const CODE: u8 = 0x0f;
+
+/// Where the frame that begins at `at` ends; none where it isn't whole.
+pub(crate) fn frame_end(octets: &[u8], at: usize) -> Option<usize>
+    ensures { IfSome result (λ end. end ≤ length octets.now) }
+{
+    let Some([high, low, ..]) = octets.get(at..) else {
+        return None;
+    };
+    let size = LENGTH_OCTETS + u16::from_be_bytes([*high, *low]) as usize;
+    let end = at.saturating_add(size);
+    if end <= octets.len() { Some(end) } else { None }
+}
+
+/// Where the whole frames at the front of these octets end.
+pub(crate) fn whole_frames(octets: &[u8]) -> usize {
+    let mut at = 0_usize;
+    'frames: for _ in 0..octets.len() {
+        match frame_end(octets, at) {
+            Some(end) => at = end,
+            None => break,
+        }
+    }
+    at
+}
+
+/// Whether a message is the reply to a NOTIFY that was taken: with no error (RFC 1996 section 4.7).
+pub(crate) fn takes_notify(message: &[u8]) -> bool {
+    match message {
+        [_, _, kind, code, ..] => kind & KIND == NOTIFY_REPLY && code & CODE == 0,
+        _ => false,
+    }
+}
