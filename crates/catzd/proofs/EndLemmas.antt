@@ -10,7 +10,7 @@ use Rattle.dz_io.specs.declared.lines.TheConstants.{LIMIT}
 use Rattle.dz_io.specs.declared.run.ScriptError.{ScriptError}
 use Rattle.dz_io.specs.declared.run.ScriptError.TheVariants as errors
 use Rattle.dz_name.specs.Words.{Octets}
-use Rattle.catzd.specs.Running.{status_of}
+use Rattle.catzd.specs.Running.{status_of, HasEnded}
 use Rattle.catzd.specs.declared.answering.End.{End}
 use Rattle.catzd.specs.declared.answering.End.TheVariants as endings
 use Rattle.catzd.specs.declared.running.Status.{Status}
@@ -79,8 +79,8 @@ done_leaves rules before start input (Err errors.Write) state left held after ru
 done_leaves rules before start input (Err errors.OutOfMemory) state left held after run is = cc
 
 -- after Done the state is the script's last one
-pub done_state : {S : Type 0} (rules : Rules S End) (start : S) (input : Octets) (result : Result End ScriptError) (state : S) (left held after : Option Octets) → IsRun rules start input result state left held after → status_of result ≡ Done → state ≡ (said_of rules start input).state
-done_state rules start input (Ok ending) state left held after run is = sym run.0.1
-done_state rules start input (Err errors.Read) state left held after run is = absurd (cc is)
-done_state rules start input (Err errors.Write) state left held after run is = absurd (cc is)
-done_state rules start input (Err errors.OutOfMemory) state left held after run is = absurd (cc is)
+pub ended_state : {S : Type 0} (rules : Rules S End) (start : S) (input : Octets) (result : Result End ScriptError) (state : S) (left held after : Option Octets) → IsRun rules start input result state left held after → HasEnded (status_of result) → state ≡ (said_of rules start input).state
+ended_state rules start input (Ok ending) state left held after run is = sym run.0.1
+ended_state rules start input (Err errors.Read) state left held after run is = absurd is
+ended_state rules start input (Err errors.Write) state left held after run is = absurd is
+ended_state rules start input (Err errors.OutOfMemory) state left held after run is = absurd is

@@ -3,6 +3,7 @@ pub mod Answering
 pub mod Flight
 pub mod Kept
 pub mod Phase
+pub mod Rehearsing
 pub mod Replaying
 pub mod Running
 pub mod Taken

@@ -15,7 +15,7 @@ use Rattle.catzd.specs.Replaying as replaying
 use Rattle.catzd.specs.declared.answering.End.{End}
 use Rattle.catzd.specs.declared.answering.End.TheVariants as endings
 use Rattle.catzd.specs.declared.running.Status.{Status}
-use Rattle.catzd.specs.declared.running.Status.TheVariants.{Done, Usage, BadInput, ReadFault, WriteFault, PortFault, NoMemory, Unbuilt}
+use Rattle.catzd.specs.declared.running.Status.TheVariants.{Done, Usage, BadInput, ReadFault, WriteFault, PortFault, NoMemory}
 use Rattle.dz_words.specs.declared.words.Command.{Command}
 use Rattle.dz_words.specs.declared.words.Command.TheVariants as commands
 use Rattle.dz_words.specs.declared.words.WordsError.{WordsError}
@@ -67,13 +67,13 @@ Says text own status before after = ((status ≡ own) × Gains text before after
 abbrev pub usage : Octets
 usage = codes "usage: catzd answer | replay | rehearse N | serve\n"
 
--- what the words decide, whatever the input: no words but those of a command to come, and those that are none of the four
--- forms, say a line of their own; the other commands never say Usage
+-- what the words decide, whatever the input: words that are none of the four forms say a line of their own; the commands
+-- never say Usage
 abbrev pub Decides : Result Command WordsError → Status → Option Octets → Option Octets → Type 0
 Decides (Ok commands.Answer) status before after = status ≢ Usage
 Decides (Ok commands.Replay) status before after = status ≢ Usage
 Decides (Ok commands.Serve) status before after = status ≢ Usage
-Decides (Ok (commands.Rehearse number)) status before after = Says (codes "unbuilt 0\n") Unbuilt status before after
+Decides (Ok (commands.Rehearse number)) status before after = status ≢ Usage
 Decides (Err errors_of_words.Usage) status before after = Says usage Usage status before after
 
 -- the status tells of no fault and of no want of memory
@@ -81,11 +81,20 @@ abbrev pub IsWithoutFault : Status → Type 0
 IsWithoutFault Done = ⊤
 IsWithoutFault Usage = ⊤
 IsWithoutFault BadInput = ⊤
-IsWithoutFault Unbuilt = ⊤
 IsWithoutFault PortFault = ⊤
 IsWithoutFault ReadFault = ⊥
 IsWithoutFault WriteFault = ⊥
 IsWithoutFault NoMemory = ⊥
+
+-- the status is that of a script that was read to its end, or to a bad line
+abbrev pub HasEnded : Status → Type 0
+HasEnded Done = ⊤
+HasEnded BadInput = ⊤
+HasEnded Usage = ⊥
+HasEnded PortFault = ⊥
+HasEnded ReadFault = ⊥
+HasEnded WriteFault = ⊥
+HasEnded NoMemory = ⊥
 
 -- the count of faults didn't fall, it stands where the status tells of no fault, and it rose where the status is this one
 pub record HasCauseIn (before now : ℕ) (status fault : Status) : Type 0 where

@@ -7,6 +7,7 @@ mod desk_tests;
 mod ends;
 mod events;
 mod opening;
+mod rehearsing;
 #[cfg(test)]
 mod replay_tests;
 mod replaying;

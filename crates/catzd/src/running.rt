@@ -1,16 +1,19 @@
 //! The program's commands.
 
-ghost use Rattle.std.specs.Prelude.{◌≡◌, ◌≢◌, ◌≤◌, [], Some, Ok, Err, IfSome};
+ghost use Rattle.std.specs.Prelude.{◌≡◌, ◌≢◌, ◌≤◌, ℕ, [], Some, Ok, Err, IfSome};
 ghost use Rattle.dz_io.specs.Counts.{HasRisen};
 ghost use Rattle.dz_name.specs.Words.{Octets};
-ghost use Rattle.catzd.specs.Running.{status_of, status_after, Answers, Replays, Says, Decides, IsWithoutFault, HasCauseIn, IsNewDesk, list_of_script};
+ghost use Rattle.catzd.specs.Running.{status_of, status_after, Answers, Replays, Says, Decides, IsWithoutFault, HasEnded, HasCauseIn, IsNewDesk, list_of_script};
 ghost use Rattle.dz_serve.specs.Command.{IsServe};
 ghost use Rattle.dz_serve.specs.Rows.{rows};
 ghost use Rattle.catzd.specs.Taken.{CanStart};
+ghost use Rattle.dz_gen.specs.Script.{script};
 ghost use Rattle.dz_words.specs.Words.{command_of};
+ghost use Rattle.catzd.specs.Rehearsing.{Rehearses};
 
 use crate::answering::{Answering, End};
 use crate::ends::Ends;
+use crate::rehearsing::rehearse;
 use crate::replaying::Replaying;
 use crate::script::run_answering;
 use dz_desk::{Desk, Reading};
@@ -40,8 +43,6 @@ pub enum Status {
     PortFault = 6,
     /// Want of memory.
     NoMemory = 7,
-    /// The command isn't built yet.
-    Unbuilt = 9,
 }
 
 /// The status at the end, with the output and the desk.
@@ -61,6 +62,9 @@ pub struct Ended<K> {
 /// `replay` reads lines: first the configuration, and then events at their moments. It writes what each job asks for and
 /// what comes of it, and the reply to each request at the whole list so far. A bad line ends it. What is taken is published
 /// at the desk.
+///
+/// `rehearse N` runs `replay` on a generated script with so many zones, and writes a summary of what that writes. What is
+/// taken is published at the desk.
 ///
 /// `serve` reads a configuration as TOML. It opens the ports, makes transfers, answers requests and hears NOTIFY, each
 /// worker in a thread of its own, until the devices close and the clock stops it, and writes the log. What is taken is
@@ -87,13 +91,17 @@ pub fn run<R: Threads + Wait + Sync, S: Source, K: Sink + Send, P: Ports, C: Clo
     ensures published { command_of words.now ≡ Ok Command.Replay →
         (octets : Octets) → S.left input.old ≡ Some octets → result.status ≡ Status.Done →
         result.desk.publisher.list ≡ list_of_script octets }
+    ensures rehearses { (number : ℕ) → command_of words.now ≡ Ok (Command.Rehearse number) →
+        Rehearses number result.status (K.held output) (K.held result.output) }
+    ensures rehearsed { (number : ℕ) → command_of words.now ≡ Ok (Command.Rehearse number) →
+        result.status ≡ Status.Done → result.desk.publisher.list ≡ list_of_script (script number) }
     ensures serves { command_of words.now ≡ Ok Command.Serve → (how : ServeEnd) × (result.status ≡ status_after how)
         × IsServe how ((k : K) × HasRisen 0 (K.faults k)) (C.may_give clock.now) (C.may_stop clock.now)
         (S.left input.old) (K.held result.output) result.desk.publisher.list
         (rows (P.datagrams ports.old) (P.acceptors ports.old) (P.dialers ports.old))
         (rows (P.datagrams ports.new) (P.acceptors ports.new) (P.dialers ports.new)) }
     ensures desk { command_of words.now ≢ Ok Command.Replay → command_of words.now ≢ Ok Command.Serve →
-        result.desk ≡ desk }
+        ((number : ℕ) → command_of words.now ≢ Ok (Command.Rehearse number)) → result.desk ≡ desk }
     ensures ports { command_of words.now ≢ Ok Command.Serve → ports.new ≡ ports.old }
     ensures words { Decides (command_of words.now) result.status (K.held output) (K.held result.output) }
     ensures usage { result.status ≡ Status.Usage → command_of words.now ≡ Err WordsError.Usage }
@@ -115,6 +123,7 @@ pub fn run<R: Threads + Wait + Sync, S: Source, K: Sink + Send, P: Ports, C: Clo
     match read_words(words) {
         Ok(Command::Replay) => run_replay(rt, alloc, input, output, desk),
         Ok(Command::Serve) => run_serve(rt, alloc, input, output, desk, ports, clock),
+        Ok(Command::Rehearse(number)) => rehearse(rt, alloc, number, output, desk),
         command => {
             let mut output = output;
             let status = run_command(alloc, command, input, &mut output);
@@ -136,6 +145,7 @@ fn run_command<S: Source, K: Sink>(
 ) -> Status
     requires replay { command ≢ Ok Command.Replay }
     requires serve { command ≢ Ok Command.Serve }
+    requires rehearse { (number : ℕ) → command ≢ Ok (Command.Rehearse number) }
     ensures ends { command ≡ Ok Command.Answer →
         (octets : Octets) → S.left input.old ≡ Some octets →
         Answers octets result (S.left input.new) (K.held output.old) (K.held output.new) }
@@ -150,8 +160,7 @@ fn run_command<S: Source, K: Sink>(
 {
     match command {
         Ok(Command::Answer) => answer(alloc, input, output),
-        Ok(Command::Replay | Command::Serve) => unreachable!(),
-        Ok(Command::Rehearse(_)) => say(b"unbuilt 0\n", Status::Unbuilt, output),
+        Ok(Command::Replay | Command::Serve | Command::Rehearse(_)) => unreachable!(),
         Err(WordsError::Usage) => say(
             b"usage: catzd answer | replay | rehearse N | serve\n",
             Status::Usage,
@@ -210,7 +219,7 @@ fn status_after(end: ServeEnd) -> Status
 }
 
 /// Runs `replay` over the publisher and one of the readings of a desk.
-fn run_replay<R: Wait, S: Source, K: Sink>(
+pub(crate) fn run_replay<R: Wait, S: Source, K: Sink>(
     rt: &R,
     alloc: Global,
     input: &mut S,
@@ -222,7 +231,7 @@ fn run_replay<R: Wait, S: Source, K: Sink>(
     requires faultless { K.faults output ≡ 0 }
     ensures ends { (octets : Octets) → S.left input.old ≡ Some octets →
         Replays octets result.status (S.left input.new) (K.held output) (K.held result.output) }
-    ensures published { (octets : Octets) → S.left input.old ≡ Some octets → result.status ≡ Status.Done →
+    ensures published { (octets : Octets) → S.left input.old ≡ Some octets → HasEnded result.status →
         result.desk.publisher.list ≡ list_of_script octets }
     ensures other { (result.status ≢ Status.Usage) × (result.status ≢ Status.PortFault) }
     ensures done { (octets : Octets) → S.left input.old ≡ Some octets →
@@ -302,7 +311,7 @@ pub fn replay<R: Wait, S: Source, K: Sink, J: Naming>(
     requires { CanStart J.publisher (K.held ends.output) (K.faults ends.output) ends.publisher ends.reading }
     ensures ends { (octets : Octets) → S.left input.old ≡ Some octets →
         Replays octets result.status (S.left input.new) (K.held ends.output) (K.held result.ends.output) }
-    ensures published { (octets : Octets) → S.left input.old ≡ Some octets → result.status ≡ Status.Done →
+    ensures published { (octets : Octets) → S.left input.old ≡ Some octets → HasEnded result.status →
         result.ends.publisher.list ≡ list_of_script octets }
     ensures other { (result.status ≢ Status.Usage) × (result.status ≢ Status.PortFault) }
     ensures done { (octets : Octets) → S.left input.old ≡ Some octets →

@@ -357,11 +357,35 @@ fn each_reason_has_its_words(rt: HostRuntime) -> Result<(), AllocError> {
     Ok(())
 }
 
+/// Rehearsals by the number of their zones, and all lines of their summaries but the last.
 #[test]
-fn commands_that_are_not_built_say_so(rt: HostRuntime) -> Result<(), AllocError> {
+fn rehearsals_are_summed_up(rt: HostRuntime) -> Result<(), AllocError> {
     let alloc = rt.alloc();
-    let ended = run_on(&rt, alloc, &["rehearse", "1"], &[], no_faults(alloc))?;
-    assert!(rt; is_end(alloc, &ended, Status::Unbuilt, &[b"unbuilt 0"])?);
+    let rows: [(&str, &[u8]); 4] = [
+        (
+            "1",
+            b"jobs 4\npublished 4\nrefused 0\nadded 1\nreset 1\nnoerror 1\nservfail 1\nrefused-replies 1\ndigest ",
+        ),
+        (
+            "10",
+            b"jobs 22\npublished 21\nrefused 1\nadded 10\nreset 1\nnoerror 10\nservfail 10\nrefused-replies 1\ndigest ",
+        ),
+        (
+            "37",
+            b"jobs 76\npublished 73\nrefused 3\nadded 37\nreset 1\nnoerror 37\nservfail 37\nrefused-replies 1\ndigest ",
+        ),
+        (
+            "1000",
+            b"jobs 2002\npublished 1902\nrefused 100\nadded 1000\nreset 1\nnoerror 1000\nservfail 1000\nrefused-replies 1\ndigest ",
+        ),
+    ];
+    'rows: for (number, want) in rows {
+        let ended = run_on(&rt, alloc, &["rehearse", number], &[], no_faults(alloc))?;
+        assert!(rt; ended.status == Status::Done, "{number}");
+        let text = ended.output.written();
+        assert!(rt; text.starts_with(want), "{number}");
+        assert_eq!(rt; text.len(), want.len() + 97, "{number}");
+    }
     Ok(())
 }
 

@@ -166,17 +166,17 @@ pub(crate) fn changes_of(alloc: Global, id: u16, k: u16) -> Result<Vec<u8>, Allo
     ensures { IfOk result (λ octets. octets.items ≡ changes_of id k) }
 {
     let apex = zone(alloc, k)?;
-    let mut answers = Vec::new(alloc);
-    answers.push(soa(alloc, &apex, 2)?)?;
-    answers.push(soa(alloc, &apex, 1)?)?;
+    let mut changes = Vec::new(alloc);
+    changes.push(soa(alloc, &apex, 2)?)?;
+    changes.push(soa(alloc, &apex, 1)?)?;
     if is_strict(k) {
-        answers.push(first_digest(alloc, k)?)?;
+        changes.push(first_digest(alloc, k)?)?;
     }
-    answers.push(soa(alloc, &apex, 2)?)?;
-    answers.push(mail(alloc, k)?)?;
+    changes.push(soa(alloc, &apex, 2)?)?;
+    changes.push(mail(alloc, k)?)?;
     if is_strict(k) {
-        answers.push(second_digest(alloc, k)?)?;
+        changes.push(second_digest(alloc, k)?)?;
     }
-    answers.push(soa(alloc, &apex, 2)?)?;
-    response(alloc, id, question(alloc, &apex, TYPE_IXFR)?, answers)
+    changes.push(soa(alloc, &apex, 2)?)?;
+    response(alloc, id, question(alloc, &apex, TYPE_IXFR)?, changes)
 }

@@ -1,8 +1,9 @@
 -- How the run of the script ends is how the program ends.
-use Rattle.std.proofs.Common.{[], sym, ◌∙◌, ap}
+use Rattle.std.proofs.Common.{[], sym, ◌∙◌, ap, subst}
 use Rattle.catzd.specs.Kept.{list_in}
+use Rattle.catzd.specs.Running.{HasEnded}
 use Rattle.catzd.specs.Replaying.{opening, replay_rules}
-use Rattle.catzd.proofs.EndLemmas.{no_memory, done_leaves, done_state}
+use Rattle.catzd.proofs.EndLemmas.{no_memory, done_leaves, ended_state}
 use Rattle.catzd.proofs.ReplayLemmas.{replay_ends}
 use Rattle.catzd.proofs.running.replay.Goals as goal
 
@@ -16,7 +17,7 @@ returns-in-Ok-clause-ends g c octets told =
 pub returns-in-Ok-clause-published : goal.returns-in-Ok-clause-published
 returns-in-Ok-clause-published g c octets told is =
     let run = rw c.new-replaying.ensures at c.run_script-ended.ensures.ends octets told in
-    c.close.ensures.ends.list ∙ ap list_in (done_state replay_rules (opening []) octets c.run_script-ended.result c.run_script-ended.new.script.state _ _ _ run (sym c.status_of.ensures ∙ is))
+    c.close.ensures.ends.list ∙ ap list_in (ended_state replay_rules (opening []) octets c.run_script-ended.result c.run_script-ended.new.script.state _ _ _ run (subst HasEnded c.status_of.ensures is))
 
 pub returns-in-Ok-clause-done : goal.returns-in-Ok-clause-done
 returns-in-Ok-clause-done g c octets told is =
