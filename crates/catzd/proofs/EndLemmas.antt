@@ -78,9 +78,16 @@ done_leaves rules before start input (Err errors.Read) state left held after run
 done_leaves rules before start input (Err errors.Write) state left held after run is = cc
 done_leaves rules before start input (Err errors.OutOfMemory) state left held after run is = cc
 
--- after Done the state is the script's last one
+-- at the end of a script the state is its last one
 pub ended_state : {S : Type 0} (rules : Rules S End) (start : S) (input : Octets) (result : Result End ScriptError) (state : S) (left held after : Option Octets) → IsRun rules start input result state left held after → HasEnded (status_of result) → state ≡ (said_of rules start input).state
 ended_state rules start input (Ok ending) state left held after run is = sym run.0.1
 ended_state rules start input (Err errors.Read) state left held after run is = absurd is
 ended_state rules start input (Err errors.Write) state left held after run is = absurd is
 ended_state rules start input (Err errors.OutOfMemory) state left held after run is = absurd is
+
+-- and all of its text was written
+pub ended_text : {S : Type 0} (rules : Rules S End) (start : S) (input : Octets) (result : Result End ScriptError) (state : S) (left : Option Octets) (written : Octets) → IsRun rules start input result state left (Some []) (Some written) → HasEnded (status_of result) → written ≡ (said_of rules start input).text
+ended_text rules start input (Ok ending) state left written run is = cc run.0.2
+ended_text rules start input (Err errors.Read) state left written run is = absurd is
+ended_text rules start input (Err errors.Write) state left written run is = absurd is
+ended_text rules start input (Err errors.OutOfMemory) state left written run is = absurd is

@@ -1,57 +1,23 @@
 -- Meaning: what `rehearse` writes: a summary of what `replay` writes of the generated script.
-use Rattle.std.specs.Prelude.{◌≡◌, ◌⊎◌, ℕ, Bool, ◌==◌, ◌&&◌, nat_eq, List, [], ◌∷◌, ◌++◌, length, drop, filter, codes, decimal, Option}
-use Rattle.std.specs.List.{slice_split, starts_with}
-use Rattle.hex.specs.Hex.{encode_lower}
-use Rattle.sha2.specs.Sha512.{sha384}
+use Rattle.std.specs.Prelude.{◌≡◌, ℕ, [], Option}
 use Rattle.dz_io.specs.Device.{Gains, GainsPrefix}
 use Rattle.dz_io.specs.Run.{said_of}
 use Rattle.dz_gen.specs.Script.{script}
+use Rattle.dz_gen.specs.Summary.{summary}
 use Rattle.dz_name.specs.Words.{Octets}
 use Rattle.catzd.specs.Replaying.{opening, replay_rules}
 use Rattle.catzd.specs.declared.running.Status.{Status}
 use Rattle.catzd.specs.declared.running.Status.TheVariants.{Done, WriteFault, NoMemory}
 
--- how many lines pass a test
-abbrev pub count_of : (Octets → Bool) → Octets → ℕ
-count_of test text = length (filter test (slice_split (λ octet. octet == 10) text))
-
--- a line begins with a word and a space
-abbrev pub begins : Octets → Octets → Bool
-begins word line = starts_with nat_eq line word
-
--- a line is a reply of a response code, by its digit: the eighth behind `reply ` (RFC 1035 section 4.1.1)
-abbrev pub has_code : Octets → Octets → Bool
-has_code digit line = starts_with nat_eq line (codes "reply ") && starts_with nat_eq (drop 13 line) digit
-
--- a word and a number on a line
-abbrev pub tally : Octets → ℕ → Octets
-tally word n = word ++ (decimal n ++ 10 ∷ [])
-
--- how many jobs were asked for, what came of them, how many replies had the codes NOERROR, SERVFAIL and REFUSED, and the
--- SHA-384 of the whole text
-abbrev pub events : Octets → Octets
-events text =
-    (((tally (codes "jobs ") (count_of (begins (codes "job ")) text)
-    ++ tally (codes "published ") (count_of (begins (codes "published ")) text))
-    ++ tally (codes "refused ") (count_of (begins (codes "refused ")) text))
-    ++ tally (codes "added ") (count_of (begins (codes "added ")) text))
-    ++ tally (codes "reset ") (count_of (begins (codes "reset ")) text)
-
-abbrev pub replies : Octets → Octets
-replies text =
-    (tally (codes "noerror ") (count_of (has_code (codes "0")) text)
-    ++ tally (codes "servfail ") (count_of (has_code (codes "2")) text))
-    ++ tally (codes "refused-replies ") (count_of (has_code (codes "5")) text)
-
-abbrev pub summary : Octets → Octets
-summary text = (events text ++ replies text) ++ (codes "digest " ++ (encode_lower (sha384 text) ++ 10 ∷ []))
-
 -- what `replay` writes of the script with so many zones
 abbrev pub text_of : ℕ → Octets
 text_of number = (said_of replay_rules (opening []) (script number)).text
 
--- the summary was written, or a write failed behind a prefix of it, or nothing was written for want of memory
+-- the summary of a text was written, or a write failed behind a prefix of it, or nothing was written for want of memory
+abbrev pub SumsUp : Octets → Status → Option Octets → Option Octets → Type 0
+SumsUp text Done before after = Gains (summary text) before after
+SumsUp text WriteFault before after = GainsPrefix (summary text) before after
+SumsUp text status before after = (status ≡ NoMemory) × (after ≡ before)
+
 abbrev pub Rehearses : ℕ → Status → Option Octets → Option Octets → Type 0
-Rehearses number Done before after = Gains (summary (text_of number)) before after
-Rehearses number WriteFault before after = GainsPrefix (summary (text_of number)) before after
-Rehearses number status before after = (status ≡ NoMemory) × (after ≡ before)
+Rehearses number status before after = SumsUp (text_of number) status before after

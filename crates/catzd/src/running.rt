@@ -107,7 +107,8 @@ pub fn run<R: Threads + Wait + Sync, S: Source, K: Sink + Send, P: Ports, C: Clo
     ensures usage { result.status ≡ Status.Usage → command_of words.now ≡ Err WordsError.Usage }
     ensures unread { command_of words.now ≢ Ok Command.Answer → command_of words.now ≢ Ok Command.Replay →
         command_of words.now ≢ Ok Command.Serve → input.new ≡ input.old }
-    ensures done { (octets : Octets) → S.left input.old ≡ Some octets →
+    ensures done { ((number : ℕ) → command_of words.now ≢ Ok (Command.Rehearse number)) →
+        (octets : Octets) → S.left input.old ≡ Some octets →
         result.status ≡ Status.Done → S.left input.new ≡ Some [] }
     ensures read_later { S.faults input.old ≤ S.faults input.new }
     ensures write_later { K.faults output ≤ K.faults result.output }
