@@ -2,3 +2,4 @@ pub mod Texts
 pub mod Records
 pub mod Messages
 pub mod Script
+pub mod Reading

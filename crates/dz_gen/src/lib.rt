@@ -1,6 +1,7 @@
 //! A generated life of a server, as a script.
 #![tactic(auto)]
 
+mod laws;
 mod messages;
 mod records;
 mod script;
@@ -8,4 +9,5 @@ mod script;
 mod tests;
 mod texts;
 
+pub use laws::is_readable;
 pub use script::{ZONES, generate};
