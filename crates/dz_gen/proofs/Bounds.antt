@@ -1,5 +1,5 @@
 -- The numbers of the zones are small.
-use Rattle.std.proofs.Common.{◌≡◌, ◌≤◌, ◌<◌, ◌+◌, ℕ, Bool, List, length, filter, arith}
+use Rattle.std.proofs.Common.{◌≤◌, ℕ, Bool, filter, arith}
 use Rattle.std.specs.List.{All, range_with_len}
 use Rattle.std.proofs.lemmas.List.Elements.{All-filter}
 use Rattle.std.proofs.lemmas.List.FromFn.{get_or-range_with_len, length-range_with_len}

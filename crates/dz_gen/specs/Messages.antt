@@ -3,14 +3,13 @@ use Rattle.std.specs.Prelude.{ℕ, ◌++◌, List, [], ◌∷◌, length, codes}
 use Rattle.dz_name.specs.Words.{Name, Kind, Octets}
 use Rattle.dz_name.specs.declared.dns.TheConstants.{TYPE_A, TYPE_NS, TYPE_AXFR, TYPE_IXFR, CLASS_IN}
 use Rattle.dz_name.specs.Name.{wire_of}
-use Rattle.dz_header.specs.declared.header.Header.{Header}
 use Rattle.dz_header.specs.declared.question.Question.{Question}
 use Rattle.dz_record.specs.Record.{Record}
 use Rattle.dz_message.specs.Message.{Content}
 use Rattle.dz_message.specs.Writing.{message_octets}
 use Rattle.dz_message.specs.Frame.{frame}
 use Rattle.dz_gen.specs.Texts.{named}
-use Rattle.dz_gen.specs.Records.{hourly, soa, catalog, version_property, node, group, member, zone, www, first_records, first_digest, second_digest, mail}
+use Rattle.dz_gen.specs.Records.{hourly, soa, catalog, version_property, node, group, member, zone, first_records, first_digest, second_digest, mail}
 
 abbrev pub question : Name → Kind → Question
 question name kind = record { name = name; kind = kind; class = CLASS_IN }

@@ -1,5 +1,5 @@
 -- Meaning: the names and lines of a generated script.
-use Rattle.std.specs.Prelude.{ℕ, ◌++◌, List, [], drop, length, codes, decimal, Result, Ok, Err}
+use Rattle.std.specs.Prelude.{ℕ, ◌++◌, [], drop, length, codes, decimal, Result, Ok, Err}
 use Rattle.hex.specs.Hex.{encode_lower}
 use Rattle.dz_name.specs.Text.{name_of_text}
 use Rattle.dz_name.specs.Words.{Name, Octets}

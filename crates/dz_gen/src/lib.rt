@@ -1,6 +1,7 @@
 //! A generated life of a server, as a script, and a summary of what the server wrote.
 #![tactic(auto)]
 
+mod laws;
 mod messages;
 mod records;
 mod script;
@@ -9,5 +10,6 @@ mod summary;
 mod tests;
 mod texts;
 
+pub use laws::is_readable;
 pub use script::{ZONES, generate};
 pub use summary::sum_up;
