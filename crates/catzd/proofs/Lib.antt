@@ -9,3 +9,4 @@ pub mod PhaseLemmas
 pub mod ReplayLemmas
 pub mod StepLemmas
 pub mod TakingLemmas
+pub mod RehearseLemmas
