@@ -128,6 +128,17 @@ const fn refused(what: &'static str, openings: &'static [u64]) -> Case {
     }
 }
 
+/// Calls of the first datagram device fail, and so many replies are sent.
+const fn packets(what: &'static str, packets: &'static [u64], replies: usize) -> Case {
+    Case {
+        what,
+        packets,
+        end: ServeEnd::PortFault,
+        replies,
+        ..FAULTLESS
+    }
+}
+
 /// Ports at which two queries come to the first datagram device and one over a link to the first acceptor.
 fn ports(alloc: Global, case: &Case) -> Result<MemoryPorts, AllocError> {
     let mut queries = Vec::new(alloc);
@@ -239,87 +250,92 @@ fn a_job_whose_dial_fails_is_made_again(rt: HostRuntime) -> Result<(), AllocErro
     Ok(())
 }
 
-/// Each device fails at each place.
-#[test]
-fn a_fault_ends_its_worker_and_tells_the_status(rt: HostRuntime) -> Result<(), AllocError> {
-    let alloc = rt.alloc();
-    let cases = [
-        FAULTLESS,
-        refused("the first datagram device", &[0]),
-        refused("the second", &[1]),
-        refused("the first acceptor", &[2]),
-        refused("the second acceptor", &[3]),
-        refused("the first dialer", &[4]),
-        refused("the second dialer", &[5]),
-        Case {
-            what: "the first receive",
-            packets: &[0],
-            end: ServeEnd::PortFault,
-            replies: 0,
-            ..FAULTLESS
-        },
-        Case {
-            what: "the second receive",
-            packets: &[2],
-            end: ServeEnd::PortFault,
-            replies: 1,
-            ..FAULTLESS
-        },
-        Case {
-            what: "the first send of two",
-            packets: &[1],
-            end: ServeEnd::PortFault,
-            replies: 1,
-            ..FAULTLESS
-        },
-        Case {
-            what: "the first accept",
-            accepts: &[0],
-            end: ServeEnd::PortFault,
-            has_written: false,
-            ..FAULTLESS
-        },
-        Case {
-            what: "the first read of a link",
-            link: &[0],
-            has_written: false,
-            ..FAULTLESS
-        },
-        Case {
-            what: "a dial",
-            dials: &[0],
-            ..FAULTLESS
-        },
-        Case {
-            what: "the first write of the log",
-            writes: &[0],
-            end: ServeEnd::WriteFault,
-            ..FAULTLESS
-        },
-        Case {
-            what: "the log and the second receive",
-            packets: &[2],
-            writes: &[0],
-            end: ServeEnd::WriteFault,
-            replies: 1,
-            ..FAULTLESS
-        },
-    ];
-    'cases: for case in &cases {
-        let what = case.what;
-        let mut ports = ports(alloc, case)?;
-        let sink = MemorySink::new(alloc, case.writes.to_vec(alloc)?);
-        let text = CONFIG.to_vec(alloc)?;
-        let (end, output) = play(&rt, alloc, text, sink, &mut ports, &clock(alloc));
-        assert!(rt; end == case.end, "{what}");
-        assert_eq!(rt; replies_of(&ports), case.replies, "{what}");
-        assert!(rt; has_written(&ports) == case.has_written, "{what}");
-        assert!(rt;
-            case.openings.is_empty() || output.written().is_empty(),
-            "{what}"
-        );
-    }
+/// Serves as a case says, and holds what comes of it to what is expected.
+fn expect<R: Abort + Threads + Wait + Sync>(
+    rt: &R,
+    alloc: Global,
+    case: &Case,
+) -> Result<(), AllocError> {
+    let what = case.what;
+    let mut ports = ports(alloc, case)?;
+    let sink = MemorySink::new(alloc, case.writes.to_vec(alloc)?);
+    let text = CONFIG.to_vec(alloc)?;
+    let (end, output) = play(rt, alloc, text, sink, &mut ports, &clock(alloc));
+    assert!(rt; end == case.end, "{what}");
+    assert_eq!(rt; replies_of(&ports), case.replies, "{what}");
+    assert!(rt; has_written(&ports) == case.has_written, "{what}");
+    assert!(rt;
+        case.openings.is_empty() || output.written().is_empty(),
+        "{what}"
+    );
     Ok(())
+}
+
+#[test]
+fn an_opening_that_is_refused_starts_no_worker(rt: HostRuntime) -> Result<(), AllocError> {
+    let alloc = rt.alloc();
+    expect(&rt, alloc, &refused("the first datagram device", &[0]))?;
+    expect(&rt, alloc, &refused("the second datagram device", &[1]))?;
+    expect(&rt, alloc, &refused("the first acceptor", &[2]))?;
+    expect(&rt, alloc, &refused("the second acceptor", &[3]))?;
+    expect(&rt, alloc, &refused("the first dialer", &[4]))?;
+    expect(&rt, alloc, &refused("the second dialer", &[5]))
+}
+
+#[test]
+fn a_device_that_fails_ends_its_worker_alone(rt: HostRuntime) -> Result<(), AllocError> {
+    let alloc = rt.alloc();
+    expect(&rt, alloc, &FAULTLESS)?;
+    expect(&rt, alloc, &packets("the first receive", &[0], 0))?;
+    expect(&rt, alloc, &packets("the second receive", &[2], 1))?;
+    expect(&rt, alloc, &packets("the first send of two", &[1], 1))?;
+    let case = Case {
+        what: "the first accept",
+        accepts: &[0],
+        end: ServeEnd::PortFault,
+        has_written: false,
+        ..FAULTLESS
+    };
+    expect(&rt, alloc, &case)
+}
+
+#[test]
+fn a_link_or_a_dial_that_fails_changes_no_status(rt: HostRuntime) -> Result<(), AllocError> {
+    let alloc = rt.alloc();
+    let case = Case {
+        what: "the first read of a link",
+        link: &[0],
+        has_written: false,
+        ..FAULTLESS
+    };
+    expect(&rt, alloc, &case)?;
+    let case = Case {
+        what: "a dial",
+        dials: &[0],
+        ..FAULTLESS
+    };
+    expect(&rt, alloc, &case)
+}
+
+#[test]
+fn a_log_that_fails_stands_before_other_faults(rt: HostRuntime) -> Result<(), AllocError> {
+    let alloc = rt.alloc();
+    let case = Case {
+        what: "the first write of the log",
+        writes: &[0],
+        end: ServeEnd::WriteFault,
+        ..FAULTLESS
+    };
+    expect(&rt, alloc, &case)?;
+    let case = Case {
+        what: "the log and the second receive",
+        packets: &[2],
+        writes: &[0],
+        end: ServeEnd::WriteFault,
+        replies: 1,
+        ..FAULTLESS
+    };
+    expect(&rt, alloc, &case)
 }
 
 #[test]
