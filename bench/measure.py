@@ -29,6 +29,7 @@ class Bench:
 
     def __init__(self, kinds, folder, seconds):
         self.kinds, self.folder, self.seconds, self.runs = kinds, pathlib.Path(folder), seconds, 0
+        self.stolen, self.ticks = servers.stolen()
 
     def each(self, held, plan, measure):
         """Serves the zones, and gives what `measure` says of each kind of server, by its label."""
@@ -49,6 +50,14 @@ class Bench:
                 primary.close()
             print(f"  {kind.label}: {said[kind.label]}", file=sys.stderr)
         return said
+
+
+    def say_stolen(self):
+        """Prints which part of the processors' time the host of a virtual machine took meanwhile."""
+        stolen, ticks = servers.stolen()
+        share = (stolen - self.stolen) / (ticks - self.ticks)
+        self.stolen, self.ticks = stolen, ticks
+        print(f"\nThe host of this machine took {100 * share:.0f} % of its processors' time meanwhile.")
 
 
 def catalog_of(names):
@@ -244,7 +253,8 @@ def main():
         bench = Bench([kind for kind in kinds if kind.is_installed()], folder, chosen.seconds)
         for one in chosen.only.split(","):
             MEASURES[one](bench)
-    print(f"\nLoad of the machine at the end: {os.getloadavg()[0]:.1f} (the bench itself makes 2 to 4).")
+            bench.say_stolen()
+    print(f"\nLoad of the machine at the end: {os.getloadavg()[0]:.1f}; the bench itself makes 2 to 4.")
 
 
 if __name__ == "__main__":

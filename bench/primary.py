@@ -19,6 +19,7 @@ class Client:
     heard: bytes = b""
     unsent: memoryview = field(default_factory=lambda: memoryview(b""))
     ending: str = GOOD
+    wanted: int = selectors.EVENT_READ
 
 
 class Primary:
@@ -66,13 +67,16 @@ class Primary:
                     self._go_on(key.data, events)
 
     def _accept(self):
+        """Accepts a connection, and hears at once what came with it."""
         try:
             stream, _ = self.listener.accept()
         except OSError:
             return
         stream.setblocking(False)
         stream.setsockopt(socket.IPPROTO_TCP, socket.TCP_NODELAY, 1)
-        self.selector.register(stream, selectors.EVENT_READ, Client(stream))
+        client = Client(stream)
+        self.selector.register(stream, selectors.EVENT_READ, client)
+        self._go_on(client, selectors.EVENT_READ)
 
     def _answer_datagram(self):
         try:
@@ -91,7 +95,10 @@ class Primary:
             self._drop(client)
 
     def _hear(self, client):
-        octets = client.stream.recv(65_536)
+        try:
+            octets = client.stream.recv(65_536)
+        except BlockingIOError:
+            return
         if not octets:
             raise OSError("closed")
         client.heard += octets
@@ -122,7 +129,9 @@ class Primary:
                 client.stream.setsockopt(socket.SOL_SOCKET, socket.SO_LINGER, struct.pack("ii", 1, 0))
             raise OSError("ended by the mode")
         wanted = selectors.EVENT_READ | (selectors.EVENT_WRITE if client.unsent else 0)
-        self.selector.modify(client.stream, wanted, client)
+        if wanted != client.wanted:
+            self.selector.modify(client.stream, wanted, client)
+            client.wanted = wanted
 
     def _drop(self, client):
         self.selector.unregister(client.stream)

@@ -28,6 +28,12 @@ def pin(processors):
         os.sched_setaffinity(0, processors)
 
 
+def stolen():
+    """How many ticks of the processors the host of a virtual machine has taken so far, and how many there were."""
+    ticks = [int(field) for field in pathlib.Path("/proc/stat").read_text().splitlines()[0].split()[1:9]]
+    return ticks[7], sum(ticks)
+
+
 def family(pid):
     """A process and its descendants."""
     found = [pid]

@@ -13,6 +13,7 @@ $TTL 3600
 @ SOA invalid. invalid. {serial} 3600 600 86400 0
 @ NS invalid.
 version TXT "2"
+group.ma.zones TXT "checked"
 {members}
 """
 
@@ -58,6 +59,7 @@ class Peer:
     """A primary at a port of 127.0.0.1, which notifies another port."""
     label, programs = "", ()
     has_differences = True  # whether it answers IXFR with differences
+    has_digests = False  # whether it makes the ZONEMD records of a.test, which catzd then requires
     refusals = ()  # lines of catzd's log that are expected of its transfers
 
     def __init__(self, folder, port, secondary):
@@ -102,11 +104,12 @@ class Peer:
 
 
 class Knot(Peer):
-    label, programs = "Knot", ("knotd", "knotc")
+    label, programs, has_digests = "Knot", ("knotd", "knotc"), True
 
     def words(self):
         (self.folder / "db").mkdir()
-        zones = "".join(f"  - domain: {one}\n" for one in ZONES)
+        zones = "".join(f"  - domain: {one}\n" for one in ZONES).replace(
+            "a.test\n", "a.test\n    zonemd-generate: zonemd-sha384\n")
         return ["knotd", "-c", self.config("knot.conf", f"""server:
     listen: 127.0.0.1@{self.port}
     rundir: {self.folder}

@@ -7,7 +7,7 @@ Two primaries serve two catalogs and their members, on ports above 5300 of 127.0
 TXT records hold their serial, and are removed, added and reset; each primary now and then misbehaves for some seconds.
 300 TCP clients, most of them slow or idle, and one over UDP hold each reply against what the primaries gave in their
 order (story.py): the replies of a connection never go back. At the end, with primaries that behave, the last versions
-must be answered within a minute, no worker may have ended, and memory must be flat.
+must be answered within 90 seconds, no worker may have ended, and memory must be flat.
 """
 import argparse
 import pathlib
@@ -163,8 +163,9 @@ class Health:
                (["a worker ended"] if len(set(self.tasks)) > 1 else [])
 
 
-def last_states(world, limit=60):
-    """The members whose last state isn't answered in time, though all primaries behave."""
+def last_states(world, limit=90):
+    """The members whose last state isn't answered in time, though all primaries behave. A member that has no version
+    is asked for again a minute after a failure."""
     world.mend(at_once=True)
     asker, end, left = ask.Asker(PORT), time.monotonic() + limit, list(world.members)
     while left and time.monotonic() < end:
