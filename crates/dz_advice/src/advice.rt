@@ -1,4 +1,7 @@
 //! What to mend.
+ghost use Rattle.std.specs.Prelude.{IfSome, Err};
+ghost use Rattle.dz_config.specs.Config.{Reads};
+
 use crate::key::{Key, Place};
 use crate::reading::Reading;
 use dz_config::{ConfigError, ConfigFault, read_config};
@@ -66,7 +69,9 @@ impl fmt::Display for Advice {
 }
 
 /// What to mend in a configuration that can't be read. None where it can, or where memory is wanting.
-pub fn advise(alloc: Global, text: &[u8]) -> Option<Advice> {
+pub fn advise(alloc: Global, text: &[u8]) -> Option<Advice>
+    ensures faulty { IfSome result (λ _. (fault : ConfigFault) × Reads text.now (Err (ConfigError.Fault fault))) }
+{
     match read_config(alloc, text) {
         Ok(_) | Err(ConfigError::OutOfMemory) => None,
         Err(ConfigError::Fault(ConfigFault::NotToml)) => of_toml(alloc, text),
