@@ -128,7 +128,7 @@ class Catzd(Server):
         """Takes this program, which must be there."""
         cls.program = os.path.abspath(program)
         if not cls.is_installed():
-            sys.exit(f"there is no program {cls.program}; `rt run -- answer < stdin` in crates/catzd builds it")
+            sys.exit(f"there is no program {cls.program}; `rt run -- replay < stdin` in crates/catzd builds it")
 
     def words(self):
         return ["env", "--block-signal=TERM,INT,HUP", self.program, "serve"]

@@ -1,10 +1,9 @@
 -- What `replay` shows before and after each step of a line.
-use Rattle.std.proofs.Common.{◌≡◌, ◌⊎◌, ℕ, ◌≤◌, Bool, true, false, List, [], ◌∷◌, ◌++◌, length, refl, sym, ◌∙◌, ap, subst, arith, inl, inr, Option, None, Some, Result, Ok, Err}
+use Rattle.std.proofs.Common.{◌≡◌, ℕ, Bool, true, false, List, [], ◌∷◌, ◌++◌, length, refl, sym, ◌∙◌, ap, arith, inl, inr, Option, None, Some, Result, Ok, Err}
 use Rattle.std.specs.Prelude.{is_some, ◌==◌, MatchResult, IfSome}
 use Rattle.std.proofs.lemmas.Bool.{eqb-true, cases_Bool}
-use Rattle.dz_io.specs.Counts.{HasRisen}
 use Rattle.dz_io.specs.Device.{Gains, GainsPrefix, HasCauseOf}
-use Rattle.dz_io.specs.Script.{Turn, goes_on, ends, turn_text, DoesTurn, Said, Says}
+use Rattle.dz_io.specs.Script.{Turn, goes_on, turn_text, DoesTurn, Said, Says}
 use Rattle.dz_io.specs.declared.script.TurnError.{TurnError}
 use Rattle.dz_io.specs.declared.script.TurnError.TheVariants as stops
 use Rattle.dz_name.specs.Words.{Name, Octets}
@@ -19,8 +18,8 @@ use Rattle.dz_provision.specs.Held.{Held}
 use Rattle.catzd.specs.Answering.{bad}
 use Rattle.catzd.specs.Phase.{IsPut, IsGrouped}
 use Rattle.catzd.specs.Replaying.{State, opening, running, left, bad_line, catalog_line, group_line, grouped, grouped_with, opened_with, event_line, event_turn, line_turn, replay_finish}
-use Rattle.catzd.specs.Taken.{Goes, Stops, IsTaken}
-use Rattle.catzd.specs.Kept.{Shown, shown, state_in, IsKept, IsClosed, HasTurned, HasEnded, HasBegun, HasConfig, HasRun, IsRunning}
+use Rattle.catzd.specs.Taken.{IsTaken}
+use Rattle.catzd.specs.Kept.{Shown, shown, state_in, IsKept, IsClosed, HasTurned, HasEnded, HasConfig, HasRun, IsRunning}
 use Rattle.catzd.specs.declared.answering.End.{End}
 use Rattle.catzd.specs.declared.answering.End.TheVariants.{Done, BadInput}
 use Rattle.catzd.specs.declared.events.Took.{Took}

@@ -1,12 +1,10 @@
 -- How each event is taken, by what the provisioner's call leaves.
-use Rattle.std.proofs.Common.{◌≡◌, ◌≢◌, ◌⊎◌, ℕ, ◌+◌, ◌<◌, ◌≤◌, Bool, true, false, List, [], ◌∷◌, ◌++◌, take, length, append_assoc, length-append, refl, sym, ◌∙◌, ap, subst, arith, inl, inr, Option, None, Some, Result, Ok, Err}
+use Rattle.std.proofs.Common.{◌≡◌, ◌≢◌, ℕ, ◌+◌, false, [], ◌∷◌, ◌++◌, take, length, append_assoc, length-append, refl, sym, ◌∙◌, ap, subst, arith, inl, inr, Option, None, Some, Result, Ok, Err}
 use Rattle.std.specs.Prelude.{codes}
-use Rattle.std.specs.Option.{option_map}
 use Rattle.std.proofs.lemmas.List.{append-nil, take-append-le}
 use Rattle.std.proofs.Math.Seq.{take-append-add}
-use Rattle.dz_io.specs.Counts.{HasRisen}
 use Rattle.dz_io.specs.Device.{Gains, GainsPrefix}
-use Rattle.dz_io.specs.Script.{Turn, goes_on, ends, turn_text}
+use Rattle.dz_io.specs.Script.{Turn, goes_on, turn_text}
 use Rattle.dz_io.specs.declared.peer.Peer.{Peer}
 use Rattle.dz_io.specs.declared.script.TurnError.{TurnError}
 use Rattle.dz_io.specs.declared.script.TurnError.TheVariants as stops
@@ -24,17 +22,15 @@ use Rattle.dz_desk.specs.Seen.{Page}
 use Rattle.dz_fleet.specs.declared.due.Due.{Due}
 use Rattle.dz_fleet.specs.declared.due.Due.TheVariants as due
 use Rattle.dz_fleet.specs.Quiet.{QuietOf}
-use Rattle.dz_fleet.specs.Core.{Core, IsDue, IsOffered, due_of, after_due, others, failed_core, failure_of, ended_of, heard_of, after_notify, verdict_of, settled}
+use Rattle.dz_fleet.specs.Core.{Core, IsOffered, others, failed_core, failure_of, ended_of, heard_of, after_notify}
 use Rattle.dz_fleet.specs.Sound.{IsFlying}
-use Rattle.dz_provision.specs.Log.{due_lines, settled_lines}
 use Rattle.dz_provision.specs.Held.{Held, Logs, Breaks, Stays, IsHandedOut, IsSettled, IsFailed, IsHeard, IsSaid}
 use Rattle.dz_provision.specs.declared.provisioner.LogFault.{LogFault}
 use Rattle.dz_provision.specs.declared.provisioner.Unmade.{Unmade}
 use Rattle.dz_provision.specs.declared.provisioner.Unmade.TheVariants as unmades
-use Rattle.catzd.specs.Answering.{bad}
 use Rattle.catzd.specs.Flight.{job_in}
-use Rattle.catzd.specs.Replaying.{State, running, bad_line, due_text, job_turn, take_turn, fail_turn, notify_turn, reply_text}
-use Rattle.catzd.specs.Taken.{Goes, Stops, IsTaken, IsMade, by_saying, by_failing, by_verdict, by_settling}
+use Rattle.catzd.specs.Replaying.{State, running, bad_line, job_turn, take_turn, fail_turn, notify_turn, reply_text}
+use Rattle.catzd.specs.Taken.{Goes, Stops, IsTaken, IsMade, by_saying, by_failing, by_settling}
 use Rattle.catzd.specs.declared.answering.End.{End}
 use Rattle.catzd.specs.declared.events.Took.{Took}
 use Rattle.catzd.specs.declared.events.Took.TheVariants as took

@@ -1,5 +1,5 @@
 -- Meaning: how an event was taken, and what stands before and after it.
-use Rattle.std.specs.Prelude.{⊤, ◌≡◌, ◌≤◌, ℕ, Bool, false, List, [], Option, None, Result, Ok, Err, IfSome}
+use Rattle.std.specs.Prelude.{⊤, ◌≡◌, ◌≤◌, ℕ, false, [], Option, None, Result, Ok, Err, IfSome}
 use Rattle.dz_io.specs.Counts.{HasRisen}
 use Rattle.dz_io.specs.Device.{GainsPrefix}
 use Rattle.dz_io.specs.Script.{Turn, turn_text, DoesTurn}

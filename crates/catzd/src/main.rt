@@ -8,8 +8,6 @@ mod ends;
 mod events;
 mod opening;
 mod rehearsing;
-#[cfg(test)]
-mod replay_tests;
 mod replaying;
 mod running;
 mod script;

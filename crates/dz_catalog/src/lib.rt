@@ -7,8 +7,6 @@ mod laws;
 mod listing;
 mod names;
 mod reading;
-#[cfg(test)]
-mod tests;
 
 pub use fault::CatalogError;
 pub use laws::order_is_free;

@@ -3,3 +3,4 @@ pub mod ChunkLemmas
 pub mod JoinLemmas
 pub mod UptoLemmas
 pub mod CutLemmas
+pub mod NumberLemmas

@@ -13,7 +13,7 @@ use Rattle.std.proofs.lemmas.Bool.{false≢true, cases_Bool}
 use Rattle.std.proofs.lemmas.Cmp.{alike_right}
 use Rattle.std.proofs.lemmas.List.Elements.{filter-append}
 use Rattle.dz_chunks.specs.Map.{is_upto, last_upto}
-use Rattle.dz_chunks.specs.inner.Chunked.{flat, begins_upto, AreChunks, IsChunked}
+use Rattle.dz_chunks.specs.inner.Chunked.{flat, begins_upto, IsUptoAt, IsBehindAt, AreChunks, IsChunked}
 use Rattle.dz_chunks.proofs.EntryLemmas.{less_of, first_of_both, second_of_both, true_of, below_at}
 
 last_append : {A : Type 0} (o : Option A) (xs ys : List A) → last_or o (xs ++ ys) ≡ last_or (last_or o xs) ys
@@ -44,6 +44,10 @@ module _ {K : Type 0} (R : K → K → Ordering) (o : IsTotalOrder R) where
       go Greater e h = absurd (false≢true h)
 
 module _ {K X : Type 0} (R : K → K → Ordering) where
+  pub none_of : (k : K) (es : List (K × X)) → length es ≡ 0 → None ≡ last_upto R k es
+  none_of k [] e = refl
+  none_of k (x ∷ es) e = absurd (omega (arith, e))
+
   last_any : (k : K) (c : List (K × X)) (a b : Option (K × X)) → begins_upto R k c ≡ true → last_or a (filter (is_upto R k) c) ≡ last_or b (filter (is_upto R k) c)
   last_any k [] a b h = absurd (false≢true h)
   last_any k (x ∷ c) a b h = rw h refl
@@ -65,6 +69,22 @@ module _ {K X : Type 0} (R : K → K → Ordering) (o : IsTotalOrder R) where
       upto_before R o x.0 (get_or xs j d).0 k (below_at R o x.0 xs (first_of_both _ (is_sorted R xs) s) j d (omega arith)) h
   upto_partitioned k (x ∷ xs) s (suc i) (suc j) d le lt h =
       upto_partitioned k xs (second_of_both (below_all R x.0 xs) _ s) i j d (omega arith) (omega arith) h
+
+  -- where an entry is behind the key, all that come later are
+  later_behind : (k : K) (es : List (K × X)) (i j : ℕ) (d : K × X) → T (is_sorted R es) → IsBehindAt R k es i → i ≤ j → j < length es → is_upto R k (get_or es j d) ≡ false
+  later_behind k es i j d s b le lt = elim (cases_Bool (is_upto R k (get_or es j d))) [
+    | inl t ↦ absurd (false≢true (sym (b d) ∙ upto_partitioned k es s i j d le lt t))
+    | inr f ↦ f
+  ]
+
+  -- where the first entry is behind the key, none is up to it
+  pub none_behind : (k : K) (es : List (K × X)) (d : K × X) → T (is_sorted R es) → is_upto R k (get_or es 0 d) ≡ false → None ≡ last_upto R k es
+  none_behind k [] d s b = refl
+  none_behind k (x ∷ es) d s b = sym (none_passes (is_upto R k) (x ∷ es) None (λ j e low lt. later_behind k (x ∷ es) 0 j e s (λ e'. b) low lt))
+
+  -- an entry up to the key is the last where the next one is behind it
+  pub found_last : (k : K) (es : List (K × X)) (n : ℕ) (d : K × X) → T (is_sorted R es) → n < length es → IsUptoAt R k es n → (n + 1 < length es → IsBehindAt R k es (n + 1)) → Some (get_or es n d) ≡ last_upto R k es
+  found_last k es n d s lt u b = last_at (is_upto R k) es n d None lt (u d) (λ j e low l. later_behind k es (n + 1) j e s (b (omega arith)) (omega arith) l)
 
   none_below : (x k : K) (es : List (K × X)) (a : Option (K × X)) → T (below_all R x es) → not (is_gt (R x k)) ≡ false → last_or a (filter (is_upto R k) es) ≡ a
   none_below x k [] a b h = refl

@@ -8,7 +8,7 @@ ghost use Rattle.dz_chunks.specs.inner.Chunked.{flat, AllBefore, AllBehind, ends
 
 use crate::entries::{last_of, value_of};
 use crate::entry::Entry;
-use crate::lead::Lead;
+use crate::lead::{Lead, compare_leads};
 use crate::share::Share;
 use dz_steps::Steps;
 use std::alloc::{AllocError, Global};
@@ -73,7 +73,7 @@ impl<K: Lead + Copy, V> Chunk<K, V> {
     fn begins_upto(&self, key: &K) -> bool
         ensures { result ≡ begins_upto K.cmp key.now self.now }
     {
-        match self.lead[..].cmp(&key.lead()[..]) {
+        match compare_leads(&self.lead, &key.lead()) {
             Ordering::Equal => self.first_is_upto(key),
             order => !order.is_gt(),
         }

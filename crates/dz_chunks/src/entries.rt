@@ -4,7 +4,7 @@ ghost use Rattle.std.specs.Prelude.{◌≡◌, ℕ, ◌+◌, ◌-◌, ◌<◌, �
 ghost use Rattle.std.specs.FinMap.{is_sorted, find, put};
 ghost use Rattle.std.specs.Option.{option_map};
 ghost use Rattle.dz_chunks.specs.Map.{last_upto, without_key};
-ghost use Rattle.dz_chunks.specs.inner.Chunked.{AllBefore, NotBefore, begins_at};
+ghost use Rattle.dz_chunks.specs.inner.Chunked.{AllBefore, NotBefore, begins_at, IsUptoAt, IsBehindAt};
 
 use crate::entry::Entry;
 use crate::lead::Lead;
@@ -12,6 +12,9 @@ use crate::share::Share;
 use dz_steps::Steps;
 use std::alloc::{AllocError, Global};
 use std::sync::ledger::Ledger;
+
+/// How many entries stand from one that is read first to the next.
+const RUN: usize = 16;
 
 /// Copies entries behind others. All entries are copied here, and each is counted.
 pub(crate) fn copy_entries<K: Lead + Copy, V: Drop, L: Ledger>(
@@ -60,7 +63,36 @@ pub(crate) fn value_of<'a, K: Lead + Copy, V>(entries: &'a [Entry<K, V>], key: &
     }
 }
 
-/// The last entry whose key doesn't come after a key.
+/// The last of the places `begin`, `begin + step` and so on in front of `end` whose key doesn't come after a key. It
+/// reads all of them, without waiting for one to know which comes next: what is not in the cache comes at once.
+fn last_step<K: Lead + Copy, V>(
+    entries: &[Entry<K, V>],
+    key: &K,
+    begin: usize,
+    end: usize,
+    step: usize,
+) -> usize
+    requires begin { begin < end }
+    requires end { end ≤ length entries.now }
+    requires step { 0 < step }
+    requires upto { IsUptoAt K.cmp key.now entries.now begin }
+    ensures within { result < end }
+    ensures from { begin ≤ result }
+    ensures upto { IsUptoAt K.cmp key.now entries.now result }
+    ensures last { result + step < end → IsBehindAt K.cmp key.now entries.now (result + step) }
+{
+    let mut found = begin;
+    let mut place = begin;
+    'steps: while step < end - place {
+        place += step;
+        if !entries[place].compare(key).is_gt() {
+            found = place;
+        }
+    }
+    found
+}
+
+/// The last entry whose key doesn't come after a key: it is sought among each sixteenth entry, and then among sixteen.
 pub(crate) fn last_of<'a, K: Lead + Copy, V>(
     entries: &'a [Entry<K, V>],
     key: &K,
@@ -69,13 +101,14 @@ pub(crate) fn last_of<'a, K: Lead + Copy, V>(
     ensures { option_map (λ entry. (entry.0.now, entry.1.now)) result
         ≡ last_upto K.cmp key.now entries.now }
 {
-    let count = entries.partition_point(|entry| !entry.compare(key).is_gt());
-    if count == 0 {
-        None
-    } else {
-        let entry = &entries[count - 1];
-        Some((entry.key(), entry.value()))
+    if entries.is_empty() || entries[0].compare(key).is_gt() {
+        return None;
     }
+    let run = last_step(entries, key, 0, entries.len(), RUN);
+    let end = run + RUN.min(entries.len() - run);
+    let last = last_step(entries, key, run, end, 1);
+    let entry = &entries[last];
+    Some((entry.key(), entry.value()))
 }
 
 /// The entries with another value at a place.

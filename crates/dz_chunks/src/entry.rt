@@ -2,7 +2,7 @@
 
 ghost use Rattle.std.specs.Prelude.{◌≡◌, IfOk};
 
-use crate::lead::Lead;
+use crate::lead::{Lead, compare_leads};
 use crate::share::Share;
 use std::alloc::{AllocError, Global};
 use std::cmp::Ordering;
@@ -56,7 +56,7 @@ impl<K: Lead + Copy, V> Entry<K, V> {
     pub(crate) fn compare(&self, key: &K) -> Ordering
         ensures { result ≡ K.Ord.cmp self.now.0 key.now }
     {
-        match self.lead[..].cmp(&key.lead()[..]) {
+        match compare_leads(&self.lead, &key.lead()) {
             Ordering::Equal => self.both.0.cmp(key),
             order => order,
         }

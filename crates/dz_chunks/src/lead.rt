@@ -5,6 +5,8 @@ ghost use Rattle.std.specs.Cmp.Lexicographic.{slice_cmp};
 ghost use Rattle.std.specs.Ordering.{nat_cmp};
 ghost use Rattle.std.specs.declared.cmp.Ordering.TheVariants.{Equal};
 
+use std::cmp::Ordering;
+
 /// A key with first octets, which stand beside it in a map and tell most keys apart, so that few searches read keys.
 pub trait Lead: Ord {
     /// The first octets.
@@ -17,4 +19,11 @@ pub trait Lead: Ord {
     /// Where the first octets of two keys differ, the keys stand as these do.
     ghost decides: { (a b : Self) → slice_cmp nat_cmp (lead a) (lead b) ≢ Equal
         → Self.Ord.cmp a b ≡ slice_cmp nat_cmp (lead a) (lead b) };
+}
+
+/// How first octets stand to others. They are compared as numbers, so that a search has no branch for each octet.
+pub(crate) fn compare_leads(left: &[u8; 16], right: &[u8; 16]) -> Ordering
+    ensures { result ≡ slice_cmp nat_cmp left.now right.now }
+{
+    u128::from_be_bytes(*left).cmp(&u128::from_be_bytes(*right))
 }

@@ -11,8 +11,6 @@ mod open;
 mod publisher;
 mod reading;
 mod showing;
-#[cfg(test)]
-mod tests;
 mod told;
 
 pub use ear::{Ear, Hearing};

@@ -16,8 +16,6 @@ mod tcp_dialer;
 mod tcp_link;
 #[cfg(test)]
 mod tests;
-#[cfg(test)]
-mod tests_turns;
 mod turn;
 mod turns;
 mod udp_datagrams;

@@ -6,6 +6,7 @@ use crate::turns::Turns;
 use crate::{Bell, Turn};
 use dz_io::{Accepted, Acceptor, Failed, Peer};
 use std::alloc::Global;
+use std::fs::Files;
 use std::net::{Net, TcpListener};
 use std::sync::Wait;
 use std::time::Clock;
@@ -58,7 +59,7 @@ impl<'a, R> TcpAcceptor<'a, R> {
     }
 }
 
-impl<'a, R: Clock + Wait> Acceptor for TcpAcceptor<'a, R> {
+impl<'a, R: Clock + Files + Wait> Acceptor for TcpAcceptor<'a, R> {
     type L = Turn;
 
     ghost links = { λ _. None };

@@ -9,10 +9,12 @@ use crate::connection::{Connection, Fetched};
 use crate::crowd::Crowd;
 use crate::frames::whole_frames;
 use crate::turn::{Frames, Turn};
+use crate::watch::Watch;
 use dz_io::{Accepted, Peer};
 use mio::net::{TcpListener, TcpStream};
 use mio::{Events, Interest, Poll, Token};
 use std::alloc::Global;
+use std::fs::Files;
 use std::io::ErrorKind;
 use std::net::Net;
 use std::sync::Wait;
@@ -55,7 +57,7 @@ enum Door {
 #[derive(Drop)]
 pub(crate) struct Turns<'a, R> {
     rt: &'a R,
-    bell: &'a Bell,
+    watch: Watch<'a, R>,
     alloc: Global,
     poll: Poll,
     events: Events,
@@ -90,7 +92,7 @@ impl<'a, R: Net + Clock> Turns<'a, R> {
         let now = time(rt, Duration::ZERO);
         Some(Turns {
             rt,
-            bell,
+            watch: Watch::new(rt, bell),
             alloc,
             poll,
             events: Events::with_capacity(alloc, EVENTS).ok()?,
@@ -106,14 +108,14 @@ impl<'a, R: Net + Clock> Turns<'a, R> {
     }
 }
 
-impl<'a, R: Clock + Wait> Turns<'a, R> {
+impl<'a, R: Clock + Files + Wait> Turns<'a, R> {
     /// The next turn, or that the server is to stop; none after a run of errors.
     pub fn next(&mut self) -> Option<Accepted<Turn>>
         ensures { IfSome result (λ a. IsAccepted a (λ turn peer. turn.faults ≡ 0) ⊤) }
     {
         let mut errors = 0_u32;
         'turns: for _ in 0..u64::MAX {
-            if self.bell.is_to_stop() {
+            if self.watch.is_to_stop() {
                 return Some(Accepted::Closed);
             }
             if self.round > 0 {
@@ -159,7 +161,7 @@ impl<'a, R: Clock + Wait> Turns<'a, R> {
             self.crowd.release(place);
         }
         if rings {
-            self.bell.ring(self.rt);
+            self.watch.bell.ring(self.rt);
         }
     }
 

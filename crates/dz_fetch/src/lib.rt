@@ -6,8 +6,6 @@ mod fetching;
 mod frames;
 mod query;
 mod taking;
-#[cfg(test)]
-mod tests;
 
 pub use fetched::Fetched;
 pub use fetching::fetch;

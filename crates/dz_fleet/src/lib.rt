@@ -11,10 +11,6 @@ mod handing;
 mod laws;
 mod places;
 mod settling;
-#[cfg(test)]
-mod tests;
-#[cfg(test)]
-mod tests_absent;
 mod weighed;
 mod weighing;
 

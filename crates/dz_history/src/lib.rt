@@ -12,8 +12,6 @@ mod past;
 mod relisting;
 mod slots;
 mod taking;
-#[cfg(test)]
-mod tests;
 
 pub use aftermath::Aftermath;
 pub use entry::{Entry, Step, Taken};

@@ -26,6 +26,8 @@ mod setup;
 mod shelf;
 mod sure;
 mod tape;
+#[cfg(test)]
+mod tests;
 mod window;
 
 pub use acceptor::{Accepted, Acceptor};
@@ -50,8 +52,3 @@ pub use script::{Script, TurnError, put};
 pub use setup::{Caller, Setup, Stream};
 pub use sure::{SureLink, SureSink, SureSource};
 pub use window::Window;
-
-#[cfg(test)]
-mod tests;
-#[cfg(test)]
-mod tests_devices;

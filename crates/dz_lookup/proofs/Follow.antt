@@ -37,6 +37,10 @@ next_within apex aliases (Some target) name h =
     let w = chosen (is_within target apex && not (was_looked_up aliases target)) target name h in
     rw w.1 at (first (is_within target apex) (not (was_looked_up aliases target)) w.0)
 
+pub next_target : (apex : List (List ℕ)) (aliases : Aliases) (target : Option (List (List ℕ))) (name : List (List ℕ)) → next_name apex aliases target ≡ Some name → target ≡ Some name
+next_target apex aliases None name h = absurd (cc)
+next_target apex aliases (Some target) name h = ap Some (chosen (is_within target apex && not (was_looked_up aliases target)) target name h).1
+
 -- what is found ends the chain, or its alias joins it
 pub followed_end : (next : Aliases → List (List ℕ) → Chased) (apex : List (List ℕ)) (aliases : Aliases) (name : List (List ℕ)) (f : Found) → alias_of f ≡ None
     → continuation next apex aliases name f ≡ record { aliases = aliases; ending = ended f name }

@@ -6,3 +6,4 @@ pub mod Walk
 pub mod Within
 pub mod NodeLemmas
 pub mod CountedLemmas
+mod LinkLemmas

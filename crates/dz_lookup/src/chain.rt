@@ -1,11 +1,11 @@
 //! Chains of aliases.
 
 ghost use Rattle.std.specs.Prelude.{◌≡◌, ◌<◌, ◌≤◌, [], ◌∷◌, ◌++◌, length, true, slice_index_or};
-ghost use Rattle.std.specs.List.{list_any};
 ghost use Rattle.dz_name.specs.Name.{same_name, is_within};
 ghost use Rattle.dz_name.specs.Words.{Name};
 ghost use Rattle.dz_record.specs.Record.{Record, target_of};
 ghost use Rattle.dz_lookup.specs.Chain.{was_looked_up, next_name, chain_of, ending_of};
+ghost use Rattle.dz_lookup.specs.inner.Links.{behind, IsNext};
 
 use crate::found::{Found, find};
 use arrayvec::ArrayVec;
@@ -27,40 +27,25 @@ pub enum Last<'a> {
     Stopped,
 }
 
-/// A name that was looked up, and the CNAME record that was found for it. A blank link has none.
-#[derive(Clone, Copy)]
-struct Link<'a> {
-    name: Name,
-    alias: Option<&'a Rr>,
-}
-
-impl<'a> Default for Link<'a> {
-    fn default() -> Link<'a> {
-        Link {
-            name: Name::root(),
-            alias: None,
-        }
-    }
-}
-
 /// The CNAME records that lead on from a name, at most 16, each with the name that it was found for. Contracts see it
-/// as the list of these pairs.
+/// as the list of these pairs. Only the first name is kept: each other one is the target of the record before.
 #[derive(Drop)]
 pub struct Chain<'a> {
-    links: ArrayVec<Link<'a>, ALIASES>,
+    first: Name,
+    records: ArrayVec<Option<&'a Rr>, ALIASES>,
 }
 
 impl<'a> Model for Chain<'a> {
     ghost use Rattle.std.specs.Prelude.{◌≤◌, length};
     ghost use Rattle.dz_name.specs.declared.dns.TheConstants.{ALIASES};
     ghost use Rattle.dz_lookup.specs.Chain.{Aliases};
-    ghost use Rattle.dz_lookup.specs.inner.Links.{pairs_of, AreWhole};
+    ghost use Rattle.dz_lookup.specs.inner.Links.{pairs_of, AreThere};
 
     ghost Value = { Aliases };
 
-    ghost view = { λ c. pairs_of c.links.items };
+    ghost view = { λ c. pairs_of c.first c.records.items };
 
-    ghost invariant = { λ c. (length c.links.items ≤ ALIASES) × AreWhole c.links.items };
+    ghost invariant = { λ c. (length c.records.items ≤ ALIASES) × AreThere c.records.items };
 }
 
 impl<'a> Chain<'a> {
@@ -69,7 +54,8 @@ impl<'a> Chain<'a> {
         ensures { result ≡ [] }
     {
         Chain {
-            links: ArrayVec::new(),
+            first: Name::root(),
+            records: ArrayVec::new(),
         }
     }
 
@@ -78,17 +64,19 @@ impl<'a> Chain<'a> {
         ensures value { result ≡ length self.now }
         ensures few { result ≤ ALIASES }
     {
-        self.links.len()
+        self.records.len()
     }
 
     /// The name that a CNAME record was found for, 0 being the first; where the record is a wildcard's, it isn't the
     /// record's owner.
-    pub fn name(&self, number: usize) -> &Name
+    pub fn name(&self, number: usize) -> Name
         requires { number < length self.now }
-        ensures { (d : Name × Record) → result.now ≡ (slice_index_or self.now number d).0 }
+        ensures { (d : Name × Record) → result ≡ (slice_index_or self.now number d).0 }
     {
-        let links = self.links.as_slice();
-        &links[number].name
+        if number == 0 {
+            return self.first;
+        }
+        behind(self.record(number - 1))
     }
 
     /// A CNAME record, 0 being the first.
@@ -96,44 +84,53 @@ impl<'a> Chain<'a> {
         requires { number < length self.now }
         ensures { (d : Name × Record) → result.now ≡ (slice_index_or self.now number d).1 }
     {
-        let links = self.links.as_slice();
-        match links[number].alias {
+        let records = self.records.as_slice();
+        match records[number] {
             Some(alias) => alias,
             None => unreachable!(),
         }
     }
 
-    /// Takes all links away.
+    /// Takes all records away.
     fn clear(&mut self)
         ensures { self.new ≡ [] }
     {
-        self.links.clear();
+        self.records.clear();
     }
 
-    /// Puts a name and its CNAME record behind the others.
+    /// Puts a CNAME record behind the others, found for a name that is the first, or that the last record leads to.
     fn push(&mut self, name: &Name, alias: &'a Rr)
-        requires { length self.old < ALIASES }
+        requires room { length self.old < ALIASES }
+        requires next { IsNext name.now self.old }
         ensures { self.new ≡ self.old ++ (name.now, alias.now) ∷ [] }
     {
-        self.links.push(Link {
-            name: *name,
-            alias: Some(alias),
-        });
+        if self.records.is_empty() {
+            self.first = *name;
+        }
+        self.records.push(Some(alias));
     }
 
     /// Whether a name was looked up.
     fn contains(&self, name: &Name) -> bool
         ensures { result ≡ was_looked_up self.now name.now }
     {
-        some_has(self.links.as_slice(), name)
+        'names: for number in 0..self.len() {
+            if self.name(number).same(name) {
+                return true;
+            }
+        }
+        false
     }
 }
 
-/// Whether a link has this name.
-fn some_has(links: &[Link], name: &Name) -> bool
-    ensures { result ≡ list_any (λ link. same_name link.name name.now) links.now }
+/// The name that a CNAME record leads to, the root where it isn't one.
+fn behind(alias: &Rr) -> Name
+    ensures { result ≡ behind alias.now }
 {
-    links.iter().any(|link| link.name.same(name))
+    match alias.target() {
+        Some(target) => target,
+        None => Name::root(),
+    }
 }
 
 /// Follows CNAME records from a name within the apex on, from name to name (RFC 1034 section 4.3.2): the chain becomes

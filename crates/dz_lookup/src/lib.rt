@@ -7,8 +7,6 @@
 mod chain;
 mod found;
 mod runs;
-#[cfg(test)]
-mod tests;
 
 pub use chain::{Chain, Last, chase};
 pub use found::{Found, find};

@@ -17,6 +17,8 @@ mod number;
 mod peer;
 mod process;
 mod sorting;
+#[cfg(test)]
+mod tests;
 mod walking;
 
 pub use change::{Change, Changes, What};
@@ -30,8 +32,3 @@ pub use membership::{Member, Membership};
 pub use number::read_number;
 pub use peer::{DNS_PORT, cut, read_host, read_peer, read_policy, read_word};
 pub use sorting::has_zone_twice;
-
-#[cfg(test)]
-mod tests;
-#[cfg(test)]
-mod tests_peer;

@@ -11,11 +11,7 @@ mod order;
 mod parts;
 mod reading;
 #[cfg(test)]
-mod tests_parts;
-#[cfg(test)]
-mod tests_reading;
-#[cfg(test)]
-mod tests_text;
+mod tests;
 mod text;
 mod wire;
 

@@ -10,8 +10,6 @@ mod fate;
 mod incoming;
 mod links;
 mod stream;
-#[cfg(test)]
-mod tests;
 
 pub use answer::answer_one;
 pub use datagrams::{SessionEnd, serve_datagrams};

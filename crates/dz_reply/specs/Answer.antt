@@ -1,4 +1,4 @@
--- Meaning: what a reply says of a question (RFC 1034 section 4.3.2, RFC 2308 sections 2 and 3, RFC 6604 section 2), and its
+-- Meaning: what a reply says of a question (RFC 1034 section 4.3.2, RFC 2308 sections 2 and 3, RFC 6604 section 3), and its
 -- octets.
 use Rattle.std.specs.Prelude.{◌≡◌, ℕ, ◌+◌, Bool, true, false, ◌==◌, min, not, List, [], ◌∷◌, ◌++◌, map, length, Option, Some, None, if◌then◌else◌}
 use Rattle.std.specs.List.{flat_map}

@@ -142,14 +142,9 @@ fn put_aliases(writer: &mut Writer, question: &Name, chain: &Chain<'_>)
     ensures { writer.new.writing ≡ also writer.old.writing (entries_octets question.now (alias_entries chain.now)) }
 {
     'aliases: for number in 0..chain.len() {
+        let name = chain.name(number);
         let alias = chain.record(number);
-        put_entry(
-            writer,
-            question,
-            &chain.name(number).as_ref(),
-            alias.ttl(),
-            alias,
-        );
+        put_entry(writer, question, &name.as_ref(), alias.ttl(), alias);
     }
 }
 

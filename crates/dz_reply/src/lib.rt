@@ -8,8 +8,6 @@ mod layout;
 mod reply;
 #[cfg(test)]
 mod tests;
-#[cfg(test)]
-mod tests_reply;
 
 pub use dz_request::Transport;
 pub use reply::{Turn, reply_into, reply_to};

@@ -9,8 +9,6 @@ mod laws;
 mod outcome;
 mod state;
 mod taking;
-#[cfg(test)]
-mod tests;
 mod transfer;
 
 pub use ask::Ask;

@@ -4,8 +4,6 @@
 
 mod report;
 mod serving;
-#[cfg(test)]
-mod tests;
 mod working;
 
 pub use report::Report;

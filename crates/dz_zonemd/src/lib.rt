@@ -4,8 +4,6 @@
 mod acceptance;
 mod algorithm;
 mod digest;
-#[cfg(test)]
-mod tests;
 mod verification;
 
 pub use acceptance::{Standing, accepts};

@@ -1,9 +1,10 @@
 -- Inner: entries in the order of their keys, cut into chunks.
-use Rattle.std.specs.Prelude.{◌≡◌, ℕ, zero, suc, ◌+◌, ◌≤◌, Bool, false, not, T, List, [], ◌∷◌, ◌++◌, length}
+use Rattle.std.specs.Prelude.{◌≡◌, ℕ, zero, suc, ◌+◌, ◌≤◌, Bool, true, false, not, T, List, [], ◌∷◌, ◌++◌, length, slice_index_or}
 use Rattle.std.specs.Ordering.{is_lt, is_gt, is_eq}
 use Rattle.std.specs.FinMap.{is_sorted}
 use Rattle.std.specs.declared.cmp.Ordering.{Ordering}
 use Rattle.std.specs.declared.cmp.Ordering.TheVariants.{Less, Greater}
+use Rattle.dz_chunks.specs.Map.{is_upto}
 
 -- the entries of all chunks
 abbrev pub flat : {A : Type 0} → List (List A) → List A
@@ -66,6 +67,13 @@ module _ {K X : Type 0} (R : K → K → Ordering) where
   abbrev pub NotBefore : K → List (K × X) → Type 0
   NotBefore k [] = Unit {0}
   NotBefore k (e ∷ es) = is_gt (R k e.0) ≡ false
+
+  -- the key at a place doesn't come after this one, or it does
+  abbrev pub IsUptoAt : K → List (K × X) → ℕ → Type 0
+  IsUptoAt k es place = (d : K × X) → is_upto R k (slice_index_or es place d) ≡ true
+
+  abbrev pub IsBehindAt : K → List (K × X) → ℕ → Type 0
+  IsBehindAt k es place = (d : K × X) → is_upto R k (slice_index_or es place d) ≡ false
 
   -- the first key is this one
   abbrev pub begins_at : K → List (K × X) → Bool

@@ -1,17 +1,28 @@
-use Rattle.std.proofs.Common.{◌-◌, rules, arith, None, sym}
-use Rattle.std.proofs.lemmas.Fn.{always_returns_same}
+use Rattle.std.proofs.Common.{rules, arith, ◌≡◌, ◌<◌, ◌+◌, length, inl, inr, subst, sym, false}
+use Rattle.std.proofs.lemmas.Bool.{cases_lt}
 use Rattle.dz_chunks.specs.Map.{is_upto}
-use Rattle.dz_chunks.proofs.UptoLemmas.{none_passes, last_at, upto_partitioned}
+use Rattle.dz_chunks.specs.inner.Chunked.{IsBehindAt}
+use Rattle.dz_chunks.proofs.UptoLemmas.{none_of, none_behind, found_last}
+use Rattle.dz_chunks.proofs.entries.last_of.Goals.{then-is_empty-via-then-is_empty, then-is_empty-via-else-is_empty+then-is_gt}
 use Rattle.dz_chunks.proofs.entries.last_of.Goals as goal
 
-pub returns-then-count-eq0 : goal.returns-then-count-eq0
-returns-then-count-eq0 g c =
-    let point = c.partition_point-count.ensures.partitioned (is_upto g.K.Ord.cmp c.args.key.now) (always_returns_same _ _ _ (λ a r f h. search rules)) (upto_partitioned g.K.Ord.cmp g.met.K.Ord.total c.args.key.now c.args.entries.now c.requires) in
-    sym (none_passes (is_upto g.K.Ord.cmp c.args.key.now) c.args.entries.now None (λ j d low lt. point.1 j d (omega (arith, c.if-count-eq0.true)) lt))
+pub returns-then-is_empty : goal.returns-then-is_empty
+returns-then-is_empty g c = elim c.then-is_empty.branch [
+  | then-is_empty-via-then-is_empty w ↦ none_of g.K.Ord.cmp c.args.key.now c.args.entries.now (search rules)
+  | then-is_empty-via-else-is_empty+then-is_gt w ↦
+      let behind : is_upto g.K.Ord.cmp c.args.key.now w.index-entries-0.result ≡ false = search rules in
+      none_behind g.K.Ord.cmp g.met.K.Ord.total c.args.key.now c.args.entries.now w.index-entries-0.result c.requires (rw (← w.index-entries-0.is) behind)
+]
 
-pub returns-else-count-eq0 : goal.returns-else-count-eq0
-returns-else-count-eq0 g c =
-    let point = c.partition_point-count.ensures.partitioned (is_upto g.K.Ord.cmp c.args.key.now) (always_returns_same _ _ _ (λ a r f h. search rules)) (upto_partitioned g.K.Ord.cmp g.met.K.Ord.total c.args.key.now c.args.entries.now c.requires) in
-    rw (c.key.ensures, c.value.ensures) (rw (← c.index-entries-count.is) at (last_at (is_upto g.K.Ord.cmp c.args.key.now) c.args.entries.now (c.partition_point-count.result - 1) c.index-entries-count.result None (omega (arith, c.if-count-eq0.false, c.partition_point-count.ensures.bound))
-    (point.0 (c.partition_point-count.result - 1) c.index-entries-count.result (omega arith) (omega (arith, c.if-count-eq0.false)))
-    (λ j e low lt. point.1 j e (omega (arith, c.if-count-eq0.false)) lt)))
+pub returns : goal.returns
+returns g c =
+    let last = c.last_step-last.result in
+    let run = c.last_step-run.result in
+    let within : last < length c.args.entries.now = search rules in
+    rw (c.key.ensures, c.value.ensures) (rw (← c.index-entries-last.is) at (found_last g.K.Ord.cmp g.met.K.Ord.total c.args.key.now c.args.entries.now last c.index-entries-last.result c.requires within c.last_step-last.ensures.upto
+    (λ lt. elim (cases_lt (last + 1) (run + c.min.result)) [
+      | inl near ↦ c.last_step-last.ensures.last near
+      | inr far ↦
+          let at : last + 1 ≡ run + 16 = omega (arith, lt, far, c.min.ensures, c.last_step-last.ensures.within, c.last_step-run.ensures.within) in
+          subst (λ place. IsBehindAt g.K.Ord.cmp c.args.key.now c.args.entries.now place) (sym at) (c.last_step-run.ensures.last (omega (arith, lt, at)))
+    ])))

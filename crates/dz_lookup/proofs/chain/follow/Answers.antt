@@ -1,5 +1,6 @@
 use Rattle.std.proofs.Common.{◌≡◌, ◌∙◌, ◌-◌, ◌+◌, sym, ap, arith, length, length-append}
 use Rattle.dz_lookup.specs.Found.{meaning}
+use Rattle.dz_lookup.proofs.LinkLemmas.{leads_next, next_behind}
 use Rattle.dz_lookup.proofs.Follow.{chain_begins, chain_ends, chain_full, links_lead, next_within}
 use Rattle.dz_lookup.proofs.chain.follow.Goals as goal
 
@@ -7,6 +8,7 @@ pub aliases-init : goal.aliases-init
 aliases-init g c = record {
   few = rw c.requires.empty (omega arith);
   within = c.requires.within;
+  next = rw c.requires.empty tt;
   rest = chain_begins c.args.version.now.apex c.args.version.now.records c.args.name.now c.args.kind c.args.chain.now c.requires.empty;
 }
 
@@ -40,6 +42,7 @@ aliases-preserved g c =
     let left : 16 - length c.push.new.self ≡ 16 - length c.aliases.chain - 1 = omega arith in
     record {
       few = omega arith;
+      next = rw c.push.ensures (leads_next c.aliases.chain c.aliases.asked c.in-Some-next_name.target c.in-Some.alias.now (next_behind c.args.version.now.apex c.push.new.self c.in-Some.alias.now c.in-Some-next_name.target (sym (rw c.apex.ensures at c.next_name.ensures) ∙ c.in-Some-next_name.is)));
       within = next_within c.args.version.now.apex _ _ c.in-Some-next_name.target (sym (rw c.apex.ensures at c.next_name.ensures) ∙ c.in-Some-next_name.is);
       rest = rw left (rw c.in-Some-next_name.is at leads);
     }

@@ -1,4 +1,4 @@
-use Rattle.std.proofs.Common.{rules, refl, ap}
+use Rattle.std.proofs.Common.{refl, ap}
 use Rattle.dz_io.specs.Script.{goes_on}
 use Rattle.catzd.specs.Replaying.{running, answer_text}
 use Rattle.catzd.proofs.StepLemmas.{silent_taken}

@@ -1,7 +1,6 @@
-use Rattle.std.proofs.Common.{◌≡◌, sym, ◌∙◌, ap, Option, Some, None, List, slice_index_or}
+use Rattle.std.proofs.Common.{◌≡◌, sym, ◌∙◌, ap, Option, Some, None, List}
 use Rattle.std.specs.Prelude.{slice_get}
 use Rattle.dz_job.specs.Job.{JobOf}
-use Rattle.dz_fleet.specs.Core.{Core}
 use Rattle.dz_fleet.proofs.FlyingLemmas.{flies}
 use Rattle.catzd.specs.Flight.{job_in}
 use Rattle.catzd.specs.Replaying.{fail_turn}

@@ -1,6 +1,5 @@
-use Rattle.std.proofs.Common.{List, ap, sym, ◌∙◌, ◌∷◌, ◌++◌, [], rules, refl}
+use Rattle.std.proofs.Common.{List, ap, sym, ◌∙◌, ◌∷◌, ◌++◌, [], refl}
 use Rattle.dz_job.specs.Job.{JobOf}
-use Rattle.dz_fleet.specs.declared.due.Due.TheVariants as due
 use Rattle.dz_provision.specs.Log as asides
 use Rattle.catzd.proofs.StepLemmas.{unhanded_failed, unhanded_taken, handed_taken, handed_flight, handed_open, idle_flight, full_flight, idle_then, full_then, starving_flight, starving_taken, wanting}
 use Rattle.catzd.proofs.events.Running.hand_out.Goals as goal

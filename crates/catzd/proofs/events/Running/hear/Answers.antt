@@ -1,4 +1,4 @@
-use Rattle.std.proofs.Common.{List, ap, sym, ◌∙◌, rules}
+use Rattle.std.proofs.Common.{sym, ◌∙◌}
 use Rattle.catzd.proofs.StepLemmas.{heard_flight, heard_open, unheard_taken, heard_then}
 use Rattle.catzd.proofs.events.Running.hear.Goals as goal
 

@@ -1,4 +1,4 @@
-use Rattle.std.proofs.Common.{rules, refl}
+use Rattle.std.proofs.Common.{refl}
 use Rattle.dz_provision.specs.Log as asides
 use Rattle.catzd.proofs.events.Running.reply_heard.Goals as goal
 

@@ -1,4 +1,4 @@
-use Rattle.std.proofs.Common.{List, ap, sym, ◌∙◌}
+use Rattle.std.proofs.Common.{ap, sym, ◌∙◌}
 use Rattle.dz_fleet.specs.Core.{Core}
 use Rattle.catzd.proofs.StepLemmas.{said_taken, said_core}
 use Rattle.catzd.proofs.events.Running.say.Goals as goal

@@ -1,4 +1,4 @@
-use Rattle.std.proofs.Common.{rules, ◌∙◌, sym, ap}
+use Rattle.std.proofs.Common.{rules}
 use Rattle.dz_provision.specs.Log as asides
 use Rattle.catzd.proofs.StepLemmas.{wanting}
 use Rattle.catzd.proofs.events.Running.say_reply.Goals as goal

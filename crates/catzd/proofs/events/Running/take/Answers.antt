@@ -1,7 +1,6 @@
 use Rattle.std.proofs.Common.{◌≡◌, sym, ◌∙◌, ap, subst, Option, Some, None, List}
 use Rattle.std.specs.Prelude.{slice_get}
 use Rattle.dz_job.specs.Job.{JobOf, transfer_for}
-use Rattle.dz_fleet.specs.Core.{Core}
 use Rattle.dz_fleet.proofs.FlyingLemmas.{flies}
 use Rattle.dz_stream.specs.Stream.{IsReadOf}
 use Rattle.catzd.specs.Flight.{job_in}

@@ -1,4 +1,3 @@
-use Rattle.std.proofs.Common.{sym, ◌∙◌}
 use Rattle.catzd.proofs.KeptLemmas.{config_some}
 use Rattle.catzd.proofs.replaying.Replaying.begin.Goals as goal
 

@@ -1,6 +1,5 @@
-use Rattle.std.proofs.Common.{ap, ◌∙◌}
+use Rattle.std.proofs.Common.{ap}
 use Rattle.std.specs.Option.{option_map}
-use Rattle.catzd.specs.declared.ends.Ends.{Ends}
 use Rattle.catzd.proofs.KeptLemmas.{end_so}
 use Rattle.catzd.proofs.replaying.Replaying.end_at.Goals as goal
 

@@ -1,4 +1,4 @@
-use Rattle.std.proofs.Common.{refl, sym, ◌∙◌, ap}
+use Rattle.std.proofs.Common.{sym, ◌∙◌, ap}
 use Rattle.catzd.specs.Kept.{Shown}
 use Rattle.catzd.specs.Replaying.{bad_line}
 use Rattle.catzd.proofs.KeptLemmas.{run_done, run_stopped, run_same, runs_core, turned_from}

@@ -1,6 +1,6 @@
-use Rattle.std.proofs.Common.{◌≡◌, rules, refl, sym, ◌∙◌, ap, Some}
+use Rattle.std.proofs.Common.{◌≡◌, rules, ◌∙◌, ap, Some}
 use Rattle.std.specs.Option.{option_map}
-use Rattle.catzd.specs.Kept.{Shown, state_in}
+use Rattle.catzd.specs.Kept.{Shown}
 use Rattle.catzd.specs.Replaying.{running}
 use Rattle.catzd.proofs.KeptLemmas.{run_of, run_still}
 use Rattle.catzd.proofs.replaying.Replaying.run_event.Goals as goal

@@ -1,4 +1,4 @@
-use Rattle.std.proofs.Common.{refl, sym, ◌∙◌, ap, subst}
+use Rattle.std.proofs.Common.{sym, ◌∙◌, ap, subst}
 use Rattle.dz_io.specs.Script.{Said}
 use Rattle.catzd.specs.Kept.{Shown, HasEnded}
 use Rattle.catzd.specs.Replaying.{State}

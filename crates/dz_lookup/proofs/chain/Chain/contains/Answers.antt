@@ -1,21 +1,14 @@
-use Rattle.std.proofs.Common.{◌≡◌, ◌∙◌, List, [], ◌∷◌, refl, ap}
-use Rattle.std.specs.Prelude.{◌||◌}
-use Rattle.std.specs.List.{list_any}
-use Rattle.dz_name.specs.Words.{Name}
-use Rattle.dz_name.specs.Name.{same_name}
-use Rattle.dz_lookup.specs.Chain.{was_looked_up}
-use Rattle.dz_lookup.specs.inner.Links.{pairs_of}
-use Rattle.dz_lookup.specs.declared.chain.Link.{Link}
+use Rattle.std.proofs.Common.{arith, ◌∙◌, sym, []}
+use Rattle.dz_lookup.specs.inner.Links.{no_record}
+use Rattle.dz_lookup.proofs.LinkLemmas.{seen_here, seen_later}
 use Rattle.dz_lookup.proofs.chain.Chain.contains.Goals as goal
 
-looked_up : (links : List Link) (name : Name)
-    → list_any (λ link. same_name link.name name) links ≡ was_looked_up (pairs_of links) name
-looked_up [] name = refl
-looked_up (link ∷ links) name = ap (λ b. same_name link.name name || b) (looked_up links name)
+pub returns-then-same : goal.returns-then-same
+returns-then-same c =
+    sym (seen_here c.args.self.now c.names.number c.args.name.now c.name.result ([], no_record) (omega (arith, c.names-test.true, c.len-number-end.ensures.value)) (c.name.ensures ([], no_record)) (sym c.same.ensures.value ∙ c.if-same.true))
+    ∙ c.names.invariant
 
-pub returns : goal.returns
-returns c =
-    c.some_has.ensures
-    ∙ (ap (λ (links : List Link). list_any (λ link. same_name link.name c.args.name.now) links) c.as_slice.ensures.value
-    ∙ (looked_up c.self.inside.links.items c.args.name.now
-    ∙ ap (λ aliases. was_looked_up aliases c.args.name.now) c.self.view_is))
+pub names-preserved : goal.names-preserved
+names-preserved c =
+    sym (seen_later c.args.self.now c.names.number c.args.name.now c.name.result ([], no_record) (omega (arith, c.names-test.true, c.len-number-end.ensures.value)) (c.name.ensures ([], no_record)) (sym c.same.ensures.value ∙ c.if-same.false))
+    ∙ c.names.invariant

@@ -1,0 +1,77 @@
+# catzd: build, check, install. `make` needs a Rattle kit (`rt` in PATH); the rest needs what stands beside it.
+#
+#   make             proves and builds the program with `rt`, which does again only what changed
+#   make check       the gate, `rt ci`: every proof, wrong bodies, tests, stored runs
+#   make install     puts what was built in its places; builds nothing, and leaves a configuration that is there
+#   make uninstall   takes away what install put there, but for the configuration
+#   make check-man   compares the man pages with the program's definitions
+#   make check-docs  finds in the repository what the documents link to and name
+#   make bench       measures beside the servers that are installed (python3)
+#   make interop     compares replies with those of the servers that are installed (python3)
+#
+# There is no `make clean`: what lies in crates/*/out are proofs, which took hours.
+
+PREFIX     = /usr/local
+SBINDIR    = $(PREFIX)/sbin
+MANDIR     = $(PREFIX)/share/man
+UNITDIR    = $(PREFIX)/lib/systemd/system
+DOCDIR     = $(PREFIX)/share/doc/catzd
+SYSCONFDIR = /etc
+DESTDIR    =
+
+INSTALL = install
+PYTHON  = python3
+RT      = rt
+
+PROGRAM = crates/catzd/out/catzd
+CONFDIR = $(SYSCONFDIR)/catzd
+SAMPLES = knot.conf nsd.conf named.conf pdns.conf pdns-zones.conf catzd.toml \
+	catalog.example.zone a.example.zone b.example.zone c.example.zone
+TEXTS   = OPERATING.md USING.md INTEROP.md PERFORMANCE.md
+
+all:
+	cd crates/catzd && $(RT) run -- rehearse 10
+
+check:
+	$(RT) ci
+
+install:
+	@test -x $(PROGRAM) || { echo "there is no $(PROGRAM): run make first" >&2; exit 1; }
+	$(INSTALL) -d "$(DESTDIR)$(SBINDIR)" "$(DESTDIR)$(MANDIR)/man8" "$(DESTDIR)$(MANDIR)/man5"
+	$(INSTALL) -d "$(DESTDIR)$(UNITDIR)" "$(DESTDIR)$(DOCDIR)/samples" "$(DESTDIR)$(DOCDIR)/docs"
+	$(INSTALL) -d "$(DESTDIR)$(CONFDIR)"
+	$(INSTALL) -m 755 $(PROGRAM) "$(DESTDIR)$(SBINDIR)/catzd"
+	$(INSTALL) -m 644 man/catzd.8 "$(DESTDIR)$(MANDIR)/man8/catzd.8"
+	$(INSTALL) -m 644 man/catzd.toml.5 "$(DESTDIR)$(MANDIR)/man5/catzd.toml.5"
+	sed 's|@SBINDIR@|$(SBINDIR)|g; s|@SYSCONFDIR@|$(SYSCONFDIR)|g' distro/catzd.service.in \
+		> "$(DESTDIR)$(UNITDIR)/catzd.service"
+	chmod 644 "$(DESTDIR)$(UNITDIR)/catzd.service"
+	for one in $(SAMPLES); do \
+		$(INSTALL) -m 644 samples/$$one "$(DESTDIR)$(DOCDIR)/samples/$$one" || exit 1; done
+	for one in $(TEXTS); do $(INSTALL) -m 644 docs/$$one "$(DESTDIR)$(DOCDIR)/docs/$$one" || exit 1; done
+	test -e "$(DESTDIR)$(CONFDIR)/catzd.toml" || \
+		$(INSTALL) -m 644 samples/catzd.toml "$(DESTDIR)$(CONFDIR)/catzd.toml"
+
+uninstall:
+	rm -f "$(DESTDIR)$(SBINDIR)/catzd" "$(DESTDIR)$(UNITDIR)/catzd.service"
+	rm -f "$(DESTDIR)$(MANDIR)/man8/catzd.8" "$(DESTDIR)$(MANDIR)/man5/catzd.toml.5"
+	for one in $(SAMPLES); do rm -f "$(DESTDIR)$(DOCDIR)/samples/$$one"; done
+	for one in $(TEXTS); do rm -f "$(DESTDIR)$(DOCDIR)/docs/$$one"; done
+	-rmdir "$(DESTDIR)$(DOCDIR)/samples" "$(DESTDIR)$(DOCDIR)/docs" "$(DESTDIR)$(DOCDIR)"
+
+check-man:
+	$(PYTHON) tests/man/check.py
+	@if command -v mandoc > /dev/null; then echo mandoc -T lint man/catzd.8 man/catzd.toml.5; \
+		mandoc -T lint -W warning man/catzd.8 man/catzd.toml.5; \
+		else echo "mandoc isn't installed, and checks nothing."; fi
+
+check-docs:
+	$(PYTHON) tests/docs/check.py
+
+bench:
+	$(PYTHON) bench/measure.py
+
+interop:
+	$(PYTHON) tests/interop/interop.py
+
+.PHONY: all check install uninstall check-man check-docs bench interop
