@@ -41,12 +41,12 @@ fn soa(serial: u32) -> Row {
 }
 
 /// Reads the messages up to the end.
-fn take(rt: &impl Abort, mut taking: Taking, messages: &[Vec<u8>]) -> Result<Finished, AllocError>
+fn take(rt: &impl Abort, mut taking: Taking, messages: &[&[u8]]) -> Result<Finished, AllocError>
     requires { decided taking.transfer (messages_in taking.octets) ≡ None }
 {
     'messages: for message in messages {
         assert!(rt; message.len() <= 65_535);
-        match taking.feed(message.as_slice())? {
+        match taking.feed(message)? {
             Progress::More => {}
             Progress::Ended => return taking.finish(),
         }
@@ -99,19 +99,22 @@ fn differences(rt: &impl Abort, alloc: Global, serial: u32) -> Result<Taking, Al
     Ok(Taking::start(alloc, zone, Ask::Ixfr, 4, Some(held)))
 }
 
-/// A vector of these messages.
-fn both(alloc: Global, first: Vec<u8>, second: Vec<u8>) -> Result<Vec<Vec<u8>>, AllocError> {
-    let mut messages = Vec::new(alloc);
-    messages.push(first)?;
-    messages.push(second)?;
-    Ok(messages)
+/// What comes of a whole transfer in this one message.
+fn alone(rt: &impl Abort, alloc: Global, message: &[u8]) -> Result<Finished, AllocError> {
+    take(rt, whole(rt, alloc), &[message])
 }
 
-/// What comes of a whole transfer in this one message.
-fn alone(rt: &impl Abort, alloc: Global, message: Vec<u8>) -> Result<Finished, AllocError> {
-    let mut messages = Vec::new(alloc);
-    messages.push(message)?;
-    take(rt, whole(rt, alloc), messages.as_slice())
+/// That a whole transfer in this one message is refused for this fault.
+fn expect_alone(
+    rt: &impl Abort,
+    alloc: Global,
+    case: &str,
+    message: &[u8],
+    fault: TakeFault,
+) -> Result<(), AllocError> {
+    let finished = alone(rt, alloc, message)?;
+    expect_fault(rt, case, &finished, fault);
+    Ok(())
 }
 
 /// What comes of the one message of the differences from this serial on.
@@ -121,9 +124,30 @@ fn from_serial(
     serial: u32,
     rows: &[Row],
 ) -> Result<Finished, AllocError> {
-    let mut messages = Vec::new(alloc);
-    messages.push(message(rt, alloc, (4, GOOD), IXFR, rows)?)?;
-    take(rt, differences(rt, alloc, serial)?, messages.as_slice())
+    let octets = message(rt, alloc, (4, GOOD), IXFR, rows)?;
+    take(rt, differences(rt, alloc, serial)?, &[octets.as_slice()])
+}
+
+/// The octets of a stream of these messages.
+fn stream(rt: &impl Abort, alloc: Global, messages: &[&[u8]]) -> Result<Vec<u8>, AllocError> {
+    let mut octets = Vec::new(alloc);
+    'messages: for message in messages {
+        push_framed(rt, &mut octets, message)?;
+    }
+    Ok(octets)
+}
+
+/// That a whole transfer in four messages is a zone, and that the last of them isn't read.
+fn expect_three(rt: &impl Abort, alloc: Global, messages: &[&[u8]]) -> Result<(), AllocError> {
+    assert!(rt; messages.len() == 4);
+    let octets = stream(rt, alloc, &messages[..3])?;
+    let finished = take(rt, whole(rt, alloc), messages)?;
+    expect_new(rt, alloc, "three", &finished, &[NS, soa(5), WWW])?;
+    assert!(rt; finished.octets().as_slice() == octets.as_slice());
+    assert_eq!(rt; *finished.apex(), name(rt, "example."));
+    assert!(rt; finished.ask() == Ask::Axfr && finished.id() == 2);
+    assert!(rt; finished.held().is_none());
+    Ok(())
 }
 
 #[test]
@@ -132,22 +156,20 @@ fn a_zone_comes_in_three_messages(rt: HostRuntime) -> Result<(), AllocError> {
     let first = message(&rt, alloc, (2, GOOD), AXFR, &[soa(5), NS])?;
     let second = message(&rt, alloc, (2, GOOD), &[], &[WWW])?;
     let third = message(&rt, alloc, (2, GOOD), &[], &[soa(5)])?;
-    let mut messages = both(alloc, first, second)?;
-    let cut = take(&rt, whole(&rt, alloc), messages.as_slice())?;
+    let fourth = message(&rt, alloc, (9, GOOD), &[], &[])?;
+    let (first, second) = (first.as_slice(), second.as_slice());
+    let messages = [first, second, third.as_slice(), fourth.as_slice()];
+    expect_three(&rt, alloc, &messages)
+}
+
+#[test]
+fn two_of_three_messages_are_not_the_zone(rt: HostRuntime) -> Result<(), AllocError> {
+    let alloc = rt.alloc();
+    let first = message(&rt, alloc, (2, GOOD), AXFR, &[soa(5), NS])?;
+    let second = message(&rt, alloc, (2, GOOD), &[], &[WWW])?;
+    let messages = [first.as_slice(), second.as_slice()];
+    let cut = take(&rt, whole(&rt, alloc), &messages)?;
     expect_fault(&rt, "two of three", &cut, TakeFault::Incomplete);
-    messages.push(third)?;
-    let mut octets = Vec::new(alloc);
-    'messages: for message in &messages {
-        push_framed(&rt, &mut octets, message.as_slice())?;
-    }
-    // what stands behind the message that decides isn't read
-    messages.push(message(&rt, alloc, (9, GOOD), &[], &[])?)?;
-    let finished = take(&rt, whole(&rt, alloc), messages.as_slice())?;
-    expect_new(&rt, alloc, "all", &finished, &[NS, soa(5), WWW])?;
-    assert!(rt; finished.octets().as_slice() == octets.as_slice());
-    assert_eq!(rt; *finished.apex(), name(&rt, "example."));
-    assert!(rt; finished.ask() == Ask::Axfr && finished.id() == 2);
-    assert!(rt; finished.held().is_none());
     Ok(())
 }
 
@@ -231,8 +253,7 @@ fn expect_refused(
 ) -> Result<(), AllocError> {
     let (head, questions) = message_of;
     let octets = message(rt, alloc, head, questions, &[soa(5), NS, soa(5)])?;
-    expect_fault(rt, case, &alone(rt, alloc, octets)?, fault);
-    Ok(())
+    expect_alone(rt, alloc, case, octets.as_slice(), fault)
 }
 
 #[test]
@@ -274,8 +295,7 @@ fn the_first_message_has_the_question_of_the_query(rt: HostRuntime) -> Result<()
     expect_refused(&rt, alloc, "twice", (head, &twice), fault)?;
     // the question comes before the records
     let octets = message(&rt, alloc, head, &[], &[NS])?;
-    expect_fault(&rt, "no zone", &alone(&rt, alloc, octets)?, fault);
-    Ok(())
+    expect_alone(&rt, alloc, "no zone", octets.as_slice(), fault)
 }
 
 /// That a whole transfer of these records is refused for this fault.
@@ -287,8 +307,7 @@ fn expect_no_zone(
     fault: TakeFault,
 ) -> Result<(), AllocError> {
     let octets = message(rt, alloc, (2, GOOD), AXFR, rows)?;
-    expect_fault(rt, case, &alone(rt, alloc, octets)?, fault);
-    Ok(())
+    expect_alone(rt, alloc, case, octets.as_slice(), fault)
 }
 
 #[test]
@@ -328,19 +347,9 @@ fn octets_that_spell_no_message_are_refused(rt: HostRuntime) -> Result<(), Alloc
     octets[7] = 1;
     octets.extend_from_slice(b"\xc0\x19\0\x01\0\x01\0\0\0\0\0\x04\xc0\0\x02\x01")?;
     let wire = TakeFault::Message(MessageFault::Wire);
-    expect_fault(
-        &rt,
-        "a pointer to itself",
-        &alone(&rt, alloc, octets)?,
-        wire,
-    );
+    expect_alone(&rt, alloc, "to itself", octets.as_slice(), wire)?;
     let short = TakeFault::Message(MessageFault::ShortHeader);
-    expect_fault(
-        &rt,
-        "no octets",
-        &alone(&rt, alloc, Vec::new(alloc))?,
-        short,
-    );
+    expect_alone(&rt, alloc, "no octets", &[], short)?;
     let nothing = take(&rt, whole(&rt, alloc), &[])?;
     expect_fault(&rt, "no message", &nothing, TakeFault::Incomplete);
     Ok(())
@@ -355,25 +364,42 @@ fn second(
 ) -> Result<Finished, AllocError> {
     let first = message(rt, alloc, (2, GOOD), AXFR, &[soa(5), NS])?;
     let second = message(rt, alloc, head, questions, &[soa(5)])?;
-    let messages = both(alloc, first, second)?;
-    take(rt, whole(rt, alloc), messages.as_slice())
+    let messages = [first.as_slice(), second.as_slice()];
+    take(rt, whole(rt, alloc), &messages)
+}
+
+/// That a whole transfer in two messages, the second with this head and these questions, is refused for this fault.
+fn expect_second(
+    rt: &impl Abort,
+    alloc: Global,
+    case: &str,
+    second_of: (Head, &[Asked]),
+    fault: TakeFault,
+) -> Result<(), AllocError> {
+    let (head, questions) = second_of;
+    let finished = second(rt, alloc, head, questions)?;
+    expect_fault(rt, case, &finished, fault);
+    Ok(())
 }
 
 #[test]
 fn each_message_is_judged(rt: HostRuntime) -> Result<(), AllocError> {
     let alloc = rt.alloc();
+    let id = TakeFault::WrongId;
+    expect_second(&rt, alloc, "another ID", ((9, GOOD), AXFR), id)?;
+    expect_second(&rt, alloc, "QR is 0", ((2, 0x0400), AXFR), id)?;
+    let code = TakeFault::Rcode(3);
+    expect_second(&rt, alloc, "a code", ((2, 0x8403), AXFR), code)?;
     let other = [("other.", TYPE_AXFR, CLASS_IN)];
-    let id = second(&rt, alloc, (9, GOOD), AXFR)?;
-    expect_fault(&rt, "another ID", &id, TakeFault::WrongId);
-    let query = second(&rt, alloc, (2, 0x0400), AXFR)?;
-    expect_fault(&rt, "QR is 0", &query, TakeFault::WrongId);
-    let code = second(&rt, alloc, (2, 0x8403), AXFR)?;
-    expect_fault(&rt, "a code", &code, TakeFault::Rcode(3));
-    let question = second(&rt, alloc, (2, GOOD), &other)?;
-    expect_fault(&rt, "another name", &question, TakeFault::WrongQuestion);
-    // a later message may repeat the question
-    let again = second(&rt, alloc, (2, GOOD), AXFR)?;
-    expect_new(&rt, alloc, "the question again", &again, &[NS, soa(5)])
+    let question = TakeFault::WrongQuestion;
+    expect_second(&rt, alloc, "another name", ((2, GOOD), &other), question)
+}
+
+#[test]
+fn a_later_message_may_repeat_the_question(rt: HostRuntime) -> Result<(), AllocError> {
+    let alloc = rt.alloc();
+    let finished = second(&rt, alloc, (2, GOOD), AXFR)?;
+    expect_new(&rt, alloc, "the question again", &finished, &[NS, soa(5)])
 }
 
 /// A message of 65,535 octets: one record that fills it.
@@ -436,7 +462,7 @@ fn expect_standing(
     wanted: Standing,
 ) -> Result<(), AllocError> {
     let octets = message(rt, alloc, (2, GOOD), AXFR, rows)?;
-    let finished = alone(rt, alloc, octets)?;
+    let finished = alone(rt, alloc, octets.as_slice())?;
     assert!(rt; matches!(finished.outcome(), Outcome::New(_)), "{case}");
     assert_eq!(rt; finished.standing(), Some(wanted), "{case}");
     Ok(())
@@ -462,15 +488,24 @@ fn a_new_version_has_the_standing_of_its_records(rt: HostRuntime) -> Result<(), 
     expect_standing(&rt, alloc, "no ZONEMD record", &rows, Standing::Absent)
 }
 
+/// The standing after differences from serial 5 on.
+fn standing_of(
+    rt: &impl Abort,
+    alloc: Global,
+    rows: &[Row],
+) -> Result<Option<Standing>, AllocError> {
+    Ok(from_serial(rt, alloc, 5, rows)?.standing())
+}
+
 #[test]
 fn only_a_new_version_has_a_standing(rt: HostRuntime) -> Result<(), AllocError> {
     let alloc = rt.alloc();
-    let same = from_serial(&rt, alloc, 5, &[soa(5)])?;
-    assert!(rt; matches!(same.outcome(), Outcome::UpToDate) && same.standing().is_none());
-    let older = from_serial(&rt, alloc, 5, &[soa(4)])?;
-    assert!(rt; matches!(older.outcome(), Outcome::Refused(_)) && older.standing().is_none());
+    let same = standing_of(&rt, alloc, &[soa(5)])?;
+    assert_eq!(&rt; same, None);
+    let older = standing_of(&rt, alloc, &[soa(4)])?;
+    assert_eq!(&rt; older, None);
     let rows = [soa(6), soa(5), soa(6), MAIL, soa(6)];
-    let newer = from_serial(&rt, alloc, 5, &rows)?;
-    assert_eq!(rt; newer.standing(), Some(Standing::Absent));
+    let newer = standing_of(&rt, alloc, &rows)?;
+    assert_eq!(&rt; newer, Some(Standing::Absent));
     Ok(())
 }

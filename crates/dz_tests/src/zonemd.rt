@@ -393,7 +393,7 @@ fn expect_simple(
     claims: &[Row],
     wanted: Standing,
 ) -> Result<(), AllocError> {
-    expect(rt, alloc, case, &[SIMPLE, claims], wanted)
+    expect(rt, alloc, case, &[SIMPLE, &claims[..]], wanted)
 }
 
 /// That a ZONEMD record of this scheme, algorithm and digest is of no use at that zone.
