@@ -11,9 +11,9 @@ ghost use Rattle.dz_catalog.specs.inner.Below.{below, is_at, coo_among, groups_a
 
 use crate::judging::{is_member, pointer_count};
 use crate::names::{first_of, is_below, is_child, target_of};
-use dz_member::{KeptName, Node, Texts};
+use dz_member::{Node, Texts};
 use dz_name::dns::{TYPE_PTR, TYPE_TXT};
-use dz_name::{Label, Name, NameRef, Octets};
+use dz_name::{KeptName, Label, Name, NameRef, Octets};
 use dz_record::Rr;
 use std::alloc::{AllocError, Global};
 

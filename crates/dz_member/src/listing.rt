@@ -6,8 +6,7 @@ ghost use Rattle.dz_member.specs.Listing.{IsListing};
 ghost use Rattle.dz_member.specs.Process.{in_zone_order};
 ghost use Rattle.dz_member.specs.inner.Places.{ArePlaces};
 
-use crate::kept_name::KeptName;
-use dz_name::{Label, Octets};
+use dz_name::{KeptName, Label, Octets};
 use std::alloc::Global;
 use std::marker::Model;
 

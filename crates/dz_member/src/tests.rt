@@ -2,7 +2,7 @@ ghost use Rattle.std.specs.Prelude.{◌≡◌};
 
 use super::*;
 use dz_io::Peer;
-use dz_name::{Label, Name, Octets};
+use dz_name::{KeptName, Label, Name, Octets};
 use std::alloc::{AllocError, Global};
 use std::process::Abort;
 use std::test::*;

@@ -2,6 +2,7 @@
 #![tactic(auto)]
 
 pub mod dns;
+mod kept_name;
 mod label;
 mod name;
 mod name_ref;
@@ -15,6 +16,7 @@ mod tests;
 mod text;
 mod wire;
 
+pub use kept_name::KeptName;
 pub use label::Label;
 pub use name::Name;
 pub use name_ref::NameRef;

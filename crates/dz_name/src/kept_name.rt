@@ -3,7 +3,7 @@
 ghost use Rattle.std.specs.Prelude.{◌≡◌, IfOk};
 ghost use Rattle.dz_name.specs.Name.{canonical_order};
 
-use dz_name::NameRef;
+use crate::name_ref::NameRef;
 use smallvec::SmallVec;
 use std::alloc::{AllocError, Global};
 use std::cmp::Ordering;
@@ -42,6 +42,17 @@ impl KeptName {
         Ok(KeptName {
             octets: SmallVec::from_slice(alloc, name.wire())?,
         })
+    }
+
+    /// The same name once more, in memory of its own.
+    ///
+    /// # Errors
+    ///
+    /// As of [`KeptName::of`].
+    pub fn try_clone(&self) -> Result<KeptName, AllocError>
+        ensures { IfOk result (λ copy. copy ≡ self.now) }
+    {
+        KeptName::of(*self.octets.allocator(), &self.as_ref())
     }
 
     /// The name on its own octets.
