@@ -229,7 +229,8 @@ fn make_table(
     requires { ForSome version (λ v. v.value.apex ≡ apex.now) }
     ensures { IfOk result (λ table. table ≡ slot_for apex.now (option_map arc_value version)) }
 {
-    counted_table::<Brand>(Blank::new(1), alloc, Slot::new(*apex, 0, version))
+    let slot = Slot::new(alloc, apex, 0, version)?;
+    counted_table::<Brand>(Blank::new(1), alloc, slot)
 }
 
 /// The table of one slot, counted in a ledger that is still blank.

@@ -98,14 +98,16 @@ module _ {K X : Type 0} (R : K → K → Ordering) (o : IsTotalOrder R) where
       entries_partitioned k xs (second_of_both (below_all R x.0 xs) _ s) i j d (omega arith) (omega arith) h
 
   -- an entry replaced, inserted, removed and found at the place of its key
-  pub replaced_is : (k : K) (v : X) (xs : List (K × X)) (at : ℕ) (d : K × X) → AllBefore R k (take at xs) → begins_at R k (drop at xs) ≡ true
-      → take at xs ++ ((get_or xs at d).0, v) ∷ drop (at + 1) xs ≡ put R k v xs
-  replaced_is k v [] zero d before here = absurd (false≢true here)
-  replaced_is k v [] (suc i) d before here = absurd (false≢true here)
-  replaced_is k v (x ∷ xs) zero d before here = rw (equal_of (R k x.0) here) refl
-  replaced_is k v (x ∷ xs) (suc i) d before here =
+  pub replaced_is : ((a b : K) → R a b ≡ Equal → a ≡ b) → (k : K) (v : X) (xs : List (K × X)) (at : ℕ) → AllBefore R k (take at xs) → begins_at R k (drop at xs) ≡ true
+      → take at xs ++ (k, v) ∷ drop (at + 1) xs ≡ put R k v xs
+  replaced_is one k v [] zero before here = absurd (false≢true here)
+  replaced_is one k v [] (suc i) before here = absurd (false≢true here)
+  replaced_is one k v (x ∷ xs) zero before here =
+      let tied = equal_of (R k x.0) here in
+      rw tied (ap (λ key. (key, v) ∷ xs) (one k x.0 tied))
+  replaced_is one k v (x ∷ xs) (suc i) before here =
       let e : suc i + 1 ≡ suc (i + 1) = omega arith in
-      rw (e, before.0) (ap (λ l. x ∷ l) (replaced_is k v xs i d before.1 here))
+      rw (e, before.0) (ap (λ l. x ∷ l) (replaced_is one k v xs i before.1 here))
 
   pub inserted_is : (k : K) (v : X) (xs : List (K × X)) (at : ℕ) → AllBefore R k (take at xs) → NotBefore R k (drop at xs) → begins_at R k (drop at xs) ≡ false
       → take at xs ++ (k, v) ∷ drop at xs ≡ put R k v xs

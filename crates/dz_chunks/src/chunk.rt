@@ -8,6 +8,7 @@ ghost use Rattle.dz_chunks.specs.inner.Chunked.{flat, AllBefore, AllBehind, ends
 
 use crate::entries::{last_of, value_of};
 use crate::entry::Entry;
+use crate::keyed::Keyed;
 use crate::lead::{Lead, compare_leads};
 use crate::share::Share;
 use dz_steps::Steps;
@@ -23,12 +24,12 @@ pub(crate) const CHUNK: usize = 128;
 /// Entries that stand together, at least one, which maps share. The first octets of the first key stand beside the
 /// reference to them, so that a search among chunks reads few of them.
 #[derive(Drop)]
-pub(crate) struct Chunk<K: Lead, V> {
+pub(crate) struct Chunk<K: Lead, V: Keyed<K>> {
     lead: [u8; 16],
     entries: Arc<Vec<Entry<K, V>>>,
 }
 
-impl<K: Lead, V> Model for Chunk<K, V> {
+impl<K: Lead, V: Keyed<K>> Model for Chunk<K, V> {
     ghost use Rattle.std.specs.Prelude.{List};
     ghost use Rattle.std.specs.Arc.{arc_value};
     ghost use Rattle.dz_chunks.specs.inner.Chunked.{IsLedBy};
@@ -40,7 +41,7 @@ impl<K: Lead, V> Model for Chunk<K, V> {
     ghost invariant = { λ c. IsLedBy K.lead c.lead (arc_value c.entries).items };
 }
 
-impl<K: Lead + Copy, V> Chunk<K, V> {
+impl<K: Lead + Copy, V: Keyed<K>> Chunk<K, V> {
     /// The chunk of these entries. The error is want of memory.
     pub(crate) fn new(alloc: Global, entries: Vec<Entry<K, V>>) -> Result<Chunk<K, V>, AllocError>
     where
@@ -49,7 +50,7 @@ impl<K: Lead + Copy, V> Chunk<K, V> {
         ensures { IfOk result (λ chunk. chunk ≡ entries.items) }
     {
         Ok(Chunk {
-            lead: entries[0].key().lead(),
+            lead: entries[0].lead(),
             entries: Arc::new(alloc, entries)?,
         })
     }
@@ -88,7 +89,7 @@ impl<K: Lead + Copy, V> Chunk<K, V> {
     }
 }
 
-impl<K: Lead, V> Share for Chunk<K, V> {
+impl<K: Lead, V: Keyed<K>> Share for Chunk<K, V> {
     /// One more reference to the entries.
     fn share(&self) -> Result<Chunk<K, V>, AllocError> {
         Ok(Chunk {
@@ -99,7 +100,7 @@ impl<K: Lead, V> Share for Chunk<K, V> {
 }
 
 /// How many entries the chunk at a place has. Where there is none it is as if one were full.
-pub(crate) fn length_at<K: Lead + Copy, V>(chunks: &[Chunk<K, V>], at: usize) -> usize
+pub(crate) fn length_at<K: Lead + Copy, V: Keyed<K>>(chunks: &[Chunk<K, V>], at: usize) -> usize
     ensures { result ≡ length_at chunks.now at }
 {
     if at < chunks.len() {
@@ -110,7 +111,7 @@ pub(crate) fn length_at<K: Lead + Copy, V>(chunks: &[Chunk<K, V>], at: usize) ->
 }
 
 /// How many entries the chunk before a place has.
-pub(crate) fn length_before<K: Lead + Copy, V>(chunks: &[Chunk<K, V>], at: usize) -> usize
+pub(crate) fn length_before<K: Lead + Copy, V: Keyed<K>>(chunks: &[Chunk<K, V>], at: usize) -> usize
     ensures { result ≡ length_before chunks.now at }
 {
     if at == 0 {
@@ -121,7 +122,7 @@ pub(crate) fn length_before<K: Lead + Copy, V>(chunks: &[Chunk<K, V>], at: usize
 }
 
 /// How many entries chunks have, at most as many as `usize` can tell.
-pub(crate) fn count_entries<K: Lead + Copy, V>(chunks: &[Chunk<K, V>]) -> usize
+pub(crate) fn count_entries<K: Lead + Copy, V: Keyed<K>>(chunks: &[Chunk<K, V>]) -> usize
     ensures { result ≡ min (length (flat chunks.now)) (2 ^ 64 - 1) }
 {
     let mut count: usize = 0;
@@ -132,7 +133,7 @@ pub(crate) fn count_entries<K: Lead + Copy, V>(chunks: &[Chunk<K, V>]) -> usize
 }
 
 /// How many chunks end before a key.
-fn count_before<K: Lead + Copy, V>(chunks: &[Chunk<K, V>], key: &K) -> usize
+fn count_before<K: Lead + Copy, V: Keyed<K>>(chunks: &[Chunk<K, V>], key: &K) -> usize
     requires { IsChunked K.cmp chunks.now }
     ensures within { result ≤ length chunks.now }
     ensures before { AllBefore K.cmp key.now (flat (take result chunks.now)) }
@@ -142,7 +143,7 @@ fn count_before<K: Lead + Copy, V>(chunks: &[Chunk<K, V>], key: &K) -> usize
 }
 
 /// The value at a key among chunks.
-pub(crate) fn value_among<'a, K: Lead + Copy, V>(
+pub(crate) fn value_among<'a, K: Lead + Copy, V: Keyed<K>>(
     chunks: &'a [Chunk<K, V>],
     key: &K,
 ) -> Option<&'a V>
@@ -158,13 +159,13 @@ pub(crate) fn value_among<'a, K: Lead + Copy, V>(
     }
 }
 
-/// The last entry among chunks whose key doesn't come after a key.
-pub(crate) fn last_among<'a, K: Lead + Copy, V>(
+/// The value of the last entry among chunks whose key doesn't come after a key.
+pub(crate) fn last_among<'a, K: Lead + Copy, V: Keyed<K>>(
     chunks: &'a [Chunk<K, V>],
     key: &K,
-) -> Option<(&'a K, &'a V)>
+) -> Option<&'a V>
     requires { IsChunked K.cmp chunks.now }
-    ensures { option_map (λ entry. (entry.0.now, entry.1.now)) result
+    ensures { option_map (λ value. (V.key value.now, value.now)) result
         ≡ last_upto K.cmp key.now (flat chunks.now) }
 {
     let count = chunks.partition_point(|chunk| chunk.begins_upto(key));
@@ -176,7 +177,7 @@ pub(crate) fn last_among<'a, K: Lead + Copy, V>(
 }
 
 /// The place of the chunk that a key belongs to: the first that doesn't end before it, or the last.
-pub(crate) fn chunk_for<K: Lead + Copy, V>(chunks: &[Chunk<K, V>], key: &K) -> usize
+pub(crate) fn chunk_for<K: Lead + Copy, V: Keyed<K>>(chunks: &[Chunk<K, V>], key: &K) -> usize
     requires chunked { IsChunked K.cmp chunks.now }
     requires some { 0 < length chunks.now }
     ensures within { result < length chunks.now }
@@ -192,7 +193,7 @@ pub(crate) fn chunk_for<K: Lead + Copy, V>(chunks: &[Chunk<K, V>], key: &K) -> u
 }
 
 /// Copies references behind others. All references are copied here, and each is counted.
-pub(crate) fn copy_chunks<K: Lead + Copy, V: Drop, L: Ledger>(
+pub(crate) fn copy_chunks<K: Lead + Copy, V: Keyed<K> + Drop, L: Ledger>(
     copies: &mut Vec<Chunk<K, V>>,
     chunks: &[Chunk<K, V>],
     steps: &mut Steps<L>,
@@ -210,7 +211,7 @@ pub(crate) fn copy_chunks<K: Lead + Copy, V: Drop, L: Ledger>(
 }
 
 /// One more chunk of these entries.
-pub(crate) fn push_chunk<K: Lead + Copy, V: Drop>(
+pub(crate) fn push_chunk<K: Lead + Copy, V: Keyed<K> + Drop>(
     alloc: Global,
     chunks: &mut Vec<Chunk<K, V>>,
     entries: Vec<Entry<K, V>>,

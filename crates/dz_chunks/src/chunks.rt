@@ -3,7 +3,7 @@
 ghost use Rattle.std.specs.Prelude.{◌≡◌, ℕ, ◌+◌, ◌-◌, ◌*◌, ◌/◌, ◌^◌, ◌<◌, ◌≤◌, List, [], ◌∷◌, ◌++◌, length, map, T, IfOk, min, IsTrue};
 ghost use Rattle.std.specs.FinMap.{is_sorted, find, put};
 ghost use Rattle.std.specs.Option.{option_map};
-ghost use Rattle.dz_chunks.specs.Map.{last_upto, without_key};
+ghost use Rattle.dz_chunks.specs.Map.{keyed, last_upto, without_key};
 ghost use Rattle.dz_chunks.specs.inner.Chunked.{flat, IsChunked};
 
 use crate::chunk::{Chunk, chunk_for, count_entries, last_among, push_chunk, value_among};
@@ -11,6 +11,7 @@ use crate::cutting::{cut, entries_of};
 use crate::entries::{with_entry, without_entry};
 use crate::entry::Entry;
 use crate::joins::rebuilt;
+use crate::keyed::Keyed;
 use crate::lead::Lead;
 use crate::walk::Walk;
 use dz_steps::Steps;
@@ -20,44 +21,43 @@ use std::sync::Arc;
 use std::sync::ledger::Ledger;
 
 /// A chunk with one entry.
-fn first_chunk<K: Lead + Copy, V: Drop>(
+fn first_chunk<K: Lead + Copy, V: Keyed<K> + Drop>(
     alloc: Global,
-    key: K,
     value: V,
 ) -> Result<Vec<Chunk<K, V>>, AllocError>
-    ensures { IfOk result (λ v. v.items ≡ ((key, value) ∷ []) ∷ []) }
+    ensures { IfOk result (λ v. v.items ≡ ((V.key value, value) ∷ []) ∷ []) }
 {
     let mut entries = Vec::new(alloc);
-    entries.push(Entry::new(alloc, (key, value))?)?;
+    entries.push(Entry::new(alloc, value)?)?;
     let mut chunks = Vec::new(alloc);
     push_chunk(alloc, &mut chunks, entries)?;
     Ok(chunks)
 }
 
-/// The chunks with a value at a key.
-fn chunks_with<K: Lead + Copy, V: Drop, L: Ledger>(
+/// The chunks with a value at its key.
+fn chunks_with<K: Lead + Copy, V: Keyed<K> + Drop, L: Ledger>(
     alloc: Global,
     chunks: &[Chunk<K, V>],
-    key: K,
     value: V,
     steps: &mut Steps<L>,
 ) -> Result<Vec<Chunk<K, V>>, AllocError>
     requires { IsChunked K.cmp chunks.now }
     ensures map { IfOk result (λ v.
-        flat v.items ≡ put K.cmp key value (flat chunks.now)) }
+        flat v.items ≡ put K.cmp (V.key value) value (flat chunks.now)) }
     ensures chunked { IfOk result (λ v. IsChunked K.cmp v.items) }
     ensures cost { steps.new ≤ steps.old + (256 + length chunks.now) }
 {
     if chunks.is_empty() {
-        return first_chunk(alloc, key, value);
+        return first_chunk(alloc, value);
     }
+    let key = value.key();
     let at = chunk_for(chunks, &key);
-    let entries = with_entry(alloc, chunks[at].entries(), key, value, steps)?;
+    let entries = with_entry(alloc, chunks[at].entries(), &key, value, steps)?;
     rebuilt(alloc, chunks, at, entries, steps)
 }
 
 /// The chunks but the entry at a key.
-fn chunks_without<K: Lead + Copy, V: Drop, L: Ledger>(
+fn chunks_without<K: Lead + Copy, V: Keyed<K> + Drop, L: Ledger>(
     alloc: Global,
     chunks: &[Chunk<K, V>],
     key: &K,
@@ -81,11 +81,11 @@ fn chunks_without<K: Lead + Copy, V: Drop, L: Ledger>(
 /// A finite map. A changed map is a new one, which shares with the old one all chunks of entries but the few that the
 /// change touches; the old one stays as it was. Contracts see its entries in ascending order of their keys.
 #[derive(Drop)]
-pub struct Chunks<K: Lead, V> {
+pub struct Chunks<K: Lead, V: Keyed<K>> {
     chunks: Vec<Chunk<K, V>>,
 }
 
-impl<K: Lead, V> Model for Chunks<K, V> {
+impl<K: Lead, V: Keyed<K>> Model for Chunks<K, V> {
     ghost use Rattle.std.specs.Prelude.{List, map};
     ghost use Rattle.dz_chunks.specs.inner.Chunked.{flat, IsChunked};
 
@@ -96,7 +96,7 @@ impl<K: Lead, V> Model for Chunks<K, V> {
     ghost invariant = { λ s. IsChunked K.cmp s.chunks.items };
 }
 
-impl<K: Lead + Copy, V> Chunks<K, V> {
+impl<K: Lead + Copy, V: Keyed<K>> Chunks<K, V> {
     /// The map of no keys. It takes no memory.
     pub fn empty(alloc: Global) -> Chunks<K, V>
         ensures { result ≡ [] }
@@ -106,14 +106,14 @@ impl<K: Lead + Copy, V> Chunks<K, V> {
         }
     }
 
-    /// The map of entries in ascending order of their keys, no two of one key, made in one pass over them.
-    pub fn from_sorted(alloc: Global, entries: Vec<(K, V)>) -> Result<Chunks<K, V>, AllocError>
+    /// The map of values in ascending order of their keys, no two of one key, made in one pass over them.
+    pub fn from_sorted(alloc: Global, values: Vec<V>) -> Result<Chunks<K, V>, AllocError>
     where
         V: Drop,
-        requires { IsTrue (is_sorted K.cmp entries.items) }
-        ensures { IfOk result (λ map. map ≡ entries.items) }
+        requires { IsTrue (is_sorted K.cmp (keyed V.key values.items)) }
+        ensures { IfOk result (λ map. map ≡ keyed V.key values.items) }
     {
-        let chunks = cut(alloc, entries_of(alloc, entries)?)?;
+        let chunks = cut(alloc, entries_of(alloc, values)?)?;
         Ok(Chunks { chunks })
     }
 
@@ -124,7 +124,7 @@ impl<K: Lead + Copy, V> Chunks<K, V> {
         count_entries(self.chunks.as_slice())
     }
 
-    /// The keys with their values, in ascending order of the keys.
+    /// The values, in ascending order of their keys.
     pub fn walk(&self) -> Walk<'_, K, V>
         ensures entries { result ≡ self.now }
         ensures ascending { IsTrue (is_sorted K.cmp self.now) }
@@ -139,29 +139,28 @@ impl<K: Lead + Copy, V> Chunks<K, V> {
         value_among(self.chunks.as_slice(), key)
     }
 
-    /// The last entry whose key doesn't come after a key, and None exactly where all keys come after it.
-    pub fn last_upto(&self, key: &K) -> Option<(&K, &V)>
-        ensures { option_map (λ entry. (entry.0.now, entry.1.now)) result
+    /// The value of the last key that doesn't come after a key, and None exactly where all keys come after it.
+    pub fn last_upto(&self, key: &K) -> Option<&V>
+        ensures { option_map (λ value. (V.key value.now, value.now)) result
             ≡ last_upto K.cmp key.now self.now }
     {
         last_among(self.chunks.as_slice(), key)
     }
 }
 
-impl<K: Lead + Copy, V: Drop> Chunks<K, V> {
-    /// The map with a value at a key, in place of the one that is there. The error is want of memory. A step is an entry
+impl<K: Lead + Copy, V: Keyed<K> + Drop> Chunks<K, V> {
+    /// The map with a value at its key, in place of the one that is there. The error is want of memory. A step is an entry
     /// or a reference to a chunk copied: at most 256 entries and one reference for each chunk.
     pub fn with<L: Ledger>(
         &self,
         alloc: Global,
-        key: K,
         value: V,
         steps: &mut Steps<L>,
     ) -> Result<Chunks<K, V>, AllocError>
-        ensures map { IfOk result (λ changed. changed ≡ put K.cmp key value self.now) }
+        ensures map { IfOk result (λ changed. changed ≡ put K.cmp (V.key value) value self.now) }
         ensures cost { steps.new ≤ steps.old + 256 + (length self.now / 64 + 1) }
     {
-        let chunks = chunks_with(alloc, self.chunks.as_slice(), key, value, steps)?;
+        let chunks = chunks_with(alloc, self.chunks.as_slice(), value, steps)?;
         Ok(Chunks { chunks })
     }
 

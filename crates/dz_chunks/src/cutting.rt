@@ -1,30 +1,32 @@
 //! Chunks of many entries at once.
 
 ghost use Rattle.std.specs.Prelude.{◌≡◌, ◌≤◌, [], ◌++◌, length, map, reverse, OnOk, IfOk};
+ghost use Rattle.dz_chunks.specs.Map.{keyed};
 ghost use Rattle.dz_chunks.specs.inner.Chunked.{flat, AreChunks, AreFull};
 
 use crate::chunk::{CHUNK, Chunk, push_chunk};
 use crate::entry::Entry;
+use crate::keyed::Keyed;
 use crate::lead::Lead;
 use std::alloc::{AllocError, Global};
 use std::sync::Arc;
 
-/// Keys with their values as entries.
-pub(crate) fn entries_of<K: Lead + Copy, V: Drop>(
+/// Values as entries, each behind its key.
+pub(crate) fn entries_of<K: Lead + Copy, V: Keyed<K> + Drop>(
     alloc: Global,
-    pairs: Vec<(K, V)>,
+    values: Vec<V>,
 ) -> Result<Vec<Entry<K, V>>, AllocError>
-    ensures { IfOk result (λ entries. entries.items ≡ pairs.items) }
+    ensures { IfOk result (λ entries. entries.items ≡ keyed V.key values.items) }
 {
-    let mut entries = Vec::with_capacity(alloc, pairs.len())?;
-    'pairs: for both in pairs {
-        entries.push(Entry::new(alloc, both)?)?;
+    let mut entries = Vec::with_capacity(alloc, values.len())?;
+    'values: for value in values {
+        entries.push(Entry::new(alloc, value)?)?;
     }
     Ok(entries)
 }
 
 /// Entries cut into chunks: from the end on full ones, and in front those that are left.
-pub(crate) fn cut<K: Lead + Copy, V: Drop>(
+pub(crate) fn cut<K: Lead + Copy, V: Keyed<K> + Drop>(
     alloc: Global,
     entries: Vec<Entry<K, V>>,
 ) -> Result<Vec<Chunk<K, V>>, AllocError>
@@ -40,7 +42,7 @@ pub(crate) fn cut<K: Lead + Copy, V: Drop>(
 }
 
 /// Takes full chunks away from the end of entries, and puts them behind one another, the last first.
-fn cut_full<K: Lead + Copy, V: Drop>(
+fn cut_full<K: Lead + Copy, V: Keyed<K> + Drop>(
     alloc: Global,
     rest: &mut Vec<Entry<K, V>>,
     chunks: &mut Vec<Chunk<K, V>>,
@@ -59,7 +61,7 @@ fn cut_full<K: Lead + Copy, V: Drop>(
 }
 
 /// A chunk of the entries in front, if there are some, behind full ones that stand the last first.
-fn push_first<K: Lead + Copy, V: Drop>(
+fn push_first<K: Lead + Copy, V: Keyed<K> + Drop>(
     alloc: Global,
     mut first: Vec<Entry<K, V>>,
     chunks: &mut Vec<Chunk<K, V>>,

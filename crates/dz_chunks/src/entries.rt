@@ -1,12 +1,13 @@
 //! Entries in ascending order of their keys.
 
-ghost use Rattle.std.specs.Prelude.{◌≡◌, ℕ, ◌+◌, ◌-◌, ◌<◌, ◌≤◌, List, [], ◌∷◌, ◌++◌, length, take, drop, T, true, OnOk, IfOk, slice_index_or};
+ghost use Rattle.std.specs.Prelude.{◌≡◌, ℕ, ◌+◌, ◌-◌, ◌<◌, ◌≤◌, List, [], ◌∷◌, ◌++◌, length, take, drop, T, true, OnOk, IfOk};
 ghost use Rattle.std.specs.FinMap.{is_sorted, find, put};
 ghost use Rattle.std.specs.Option.{option_map};
 ghost use Rattle.dz_chunks.specs.Map.{last_upto, without_key};
 ghost use Rattle.dz_chunks.specs.inner.Chunked.{AllBefore, NotBefore, begins_at, IsUptoAt, IsBehindAt};
 
 use crate::entry::Entry;
+use crate::keyed::Keyed;
 use crate::lead::Lead;
 use crate::share::Share;
 use dz_steps::Steps;
@@ -17,7 +18,7 @@ use std::sync::ledger::Ledger;
 const RUN: usize = 16;
 
 /// Copies entries behind others. All entries are copied here, and each is counted.
-pub(crate) fn copy_entries<K: Lead + Copy, V: Drop, L: Ledger>(
+pub(crate) fn copy_entries<K: Lead + Copy, V: Keyed<K> + Drop, L: Ledger>(
     copies: &mut Vec<Entry<K, V>>,
     entries: &[Entry<K, V>],
     steps: &mut Steps<L>,
@@ -34,7 +35,7 @@ pub(crate) fn copy_entries<K: Lead + Copy, V: Drop, L: Ledger>(
 }
 
 /// The place of the first entry whose key doesn't come before a key.
-fn place_of<K: Lead + Copy, V>(entries: &[Entry<K, V>], key: &K) -> usize
+fn place_of<K: Lead + Copy, V: Keyed<K>>(entries: &[Entry<K, V>], key: &K) -> usize
     requires { T (is_sorted K.cmp entries.now) }
     ensures within { result ≤ length entries.now }
     ensures before { AllBefore K.cmp key.now (take result entries.now) }
@@ -44,14 +45,17 @@ fn place_of<K: Lead + Copy, V>(entries: &[Entry<K, V>], key: &K) -> usize
 }
 
 /// Whether a key stands at a place.
-fn is_at<K: Lead + Copy, V>(entries: &[Entry<K, V>], place: usize, key: &K) -> bool
+fn is_at<K: Lead + Copy, V: Keyed<K>>(entries: &[Entry<K, V>], place: usize, key: &K) -> bool
     ensures { result ≡ begins_at K.cmp key.now (drop place entries.now) }
 {
-    place < entries.len() && key.cmp(entries[place].key()).is_eq()
+    place < entries.len() && entries[place].compare(key).is_eq()
 }
 
 /// The value at a key.
-pub(crate) fn value_of<'a, K: Lead + Copy, V>(entries: &'a [Entry<K, V>], key: &K) -> Option<&'a V>
+pub(crate) fn value_of<'a, K: Lead + Copy, V: Keyed<K>>(
+    entries: &'a [Entry<K, V>],
+    key: &K,
+) -> Option<&'a V>
     requires { T (is_sorted K.cmp entries.now) }
     ensures { option_map (λ value. value.now) result ≡ find K.cmp key.now entries.now }
 {
@@ -65,7 +69,7 @@ pub(crate) fn value_of<'a, K: Lead + Copy, V>(entries: &'a [Entry<K, V>], key: &
 
 /// The last of the places `begin`, `begin + step` and so on in front of `end` whose key doesn't come after a key. It
 /// reads all of them, without waiting for one to know which comes next: what is not in the cache comes at once.
-fn last_step<K: Lead + Copy, V>(
+fn last_step<K: Lead + Copy, V: Keyed<K>>(
     entries: &[Entry<K, V>],
     key: &K,
     begin: usize,
@@ -92,13 +96,13 @@ fn last_step<K: Lead + Copy, V>(
     found
 }
 
-/// The last entry whose key doesn't come after a key: it is sought among each sixteenth entry, and then among sixteen.
-pub(crate) fn last_of<'a, K: Lead + Copy, V>(
+/// The value of the last entry whose key doesn't come after a key: it is sought among each sixteenth entry, and then among sixteen.
+pub(crate) fn last_of<'a, K: Lead + Copy, V: Keyed<K>>(
     entries: &'a [Entry<K, V>],
     key: &K,
-) -> Option<(&'a K, &'a V)>
+) -> Option<&'a V>
     requires { T (is_sorted K.cmp entries.now) }
-    ensures { option_map (λ entry. (entry.0.now, entry.1.now)) result
+    ensures { option_map (λ value. (V.key value.now, value.now)) result
         ≡ last_upto K.cmp key.now entries.now }
 {
     if entries.is_empty() || entries[0].compare(key).is_gt() {
@@ -107,12 +111,11 @@ pub(crate) fn last_of<'a, K: Lead + Copy, V>(
     let run = last_step(entries, key, 0, entries.len(), RUN);
     let end = run + RUN.min(entries.len() - run);
     let last = last_step(entries, key, run, end, 1);
-    let entry = &entries[last];
-    Some((entry.key(), entry.value()))
+    Some(entries[last].value())
 }
 
 /// The entries with another value at a place.
-fn replaced<K: Lead + Copy, V: Drop, L: Ledger>(
+fn replaced<K: Lead + Copy, V: Keyed<K> + Drop, L: Ledger>(
     alloc: Global,
     entries: &[Entry<K, V>],
     place: usize,
@@ -120,42 +123,41 @@ fn replaced<K: Lead + Copy, V: Drop, L: Ledger>(
     steps: &mut Steps<L>,
 ) -> Result<Vec<Entry<K, V>>, AllocError>
     requires within { place < length entries.now }
-    ensures items { (d : K × V) → IfOk result (λ v.
+    ensures items { IfOk result (λ v.
         v.items
-        ≡ take place entries.now
-        ++ ((slice_index_or entries.now place d).0, value) ∷ drop (place + 1) entries.now) }
+        ≡ take place entries.now ++ (V.key value, value) ∷ drop (place + 1) entries.now) }
     ensures cost { steps.new ≤ steps.old + length entries.now }
 {
     let mut copies = Vec::with_capacity(alloc, entries.len())?;
     copy_entries(&mut copies, &entries[..place], steps)?;
-    copies.push(Entry::new(alloc, (*entries[place].key(), value))?)?;
+    copies.push(Entry::new(alloc, value)?)?;
     copy_entries(&mut copies, &entries[place + 1..], steps)?;
     Ok(copies)
 }
 
 /// The entries with one more at a place.
-fn inserted<K: Lead + Copy, V: Drop, L: Ledger>(
+fn inserted<K: Lead + Copy, V: Keyed<K> + Drop, L: Ledger>(
     alloc: Global,
     entries: &[Entry<K, V>],
     place: usize,
-    entry: (K, V),
+    value: V,
     steps: &mut Steps<L>,
 ) -> Result<Vec<Entry<K, V>>, AllocError>
     requires within { place ≤ length entries.now }
     requires short { length entries.now ≤ 128 }
     ensures items { IfOk result (λ v.
-        v.items ≡ take place entries.now ++ entry ∷ drop place entries.now) }
+        v.items ≡ take place entries.now ++ (V.key value, value) ∷ drop place entries.now) }
     ensures cost { steps.new ≤ steps.old + length entries.now }
 {
     let mut copies = Vec::with_capacity(alloc, entries.len() + 1)?;
     copy_entries(&mut copies, &entries[..place], steps)?;
-    copies.push(Entry::new(alloc, entry)?)?;
+    copies.push(Entry::new(alloc, value)?)?;
     copy_entries(&mut copies, &entries[place..], steps)?;
     Ok(copies)
 }
 
 /// The entries but the one at a place.
-fn removed<K: Lead + Copy, V: Drop, L: Ledger>(
+fn removed<K: Lead + Copy, V: Keyed<K> + Drop, L: Ledger>(
     alloc: Global,
     entries: &[Entry<K, V>],
     place: usize,
@@ -173,7 +175,7 @@ fn removed<K: Lead + Copy, V: Drop, L: Ledger>(
 }
 
 /// The entries as they are.
-fn unchanged<K: Lead + Copy, V: Drop, L: Ledger>(
+fn unchanged<K: Lead + Copy, V: Keyed<K> + Drop, L: Ledger>(
     alloc: Global,
     entries: &[Entry<K, V>],
     steps: &mut Steps<L>,
@@ -186,29 +188,30 @@ fn unchanged<K: Lead + Copy, V: Drop, L: Ledger>(
     Ok(copies)
 }
 
-/// The entries with a value at a key.
-pub(crate) fn with_entry<K: Lead + Copy, V: Drop, L: Ledger>(
+/// The entries with a value at its key.
+pub(crate) fn with_entry<K: Lead + Copy, V: Keyed<K> + Drop, L: Ledger>(
     alloc: Global,
     entries: &[Entry<K, V>],
-    key: K,
+    key: &K,
     value: V,
     steps: &mut Steps<L>,
 ) -> Result<Vec<Entry<K, V>>, AllocError>
     requires sorted { T (is_sorted K.cmp entries.now) }
     requires short { length entries.now ≤ 128 }
-    ensures put { IfOk result (λ v. v.items ≡ put K.cmp key value entries.now) }
+    requires own { key.now ≡ V.key value }
+    ensures put { IfOk result (λ v. v.items ≡ put K.cmp key.now value entries.now) }
     ensures cost { steps.new ≤ steps.old + length entries.now }
 {
-    let place = place_of(entries, &key);
-    if is_at(entries, place, &key) {
+    let place = place_of(entries, key);
+    if is_at(entries, place, key) {
         replaced(alloc, entries, place, value, steps)
     } else {
-        inserted(alloc, entries, place, (key, value), steps)
+        inserted(alloc, entries, place, value, steps)
     }
 }
 
 /// The entries but the one at a key.
-pub(crate) fn without_entry<K: Lead + Copy, V: Drop, L: Ledger>(
+pub(crate) fn without_entry<K: Lead + Copy, V: Keyed<K> + Drop, L: Ledger>(
     alloc: Global,
     entries: &[Entry<K, V>],
     key: &K,

@@ -2,54 +2,59 @@
 
 ghost use Rattle.std.specs.Prelude.{◌≡◌, IfOk};
 
+use crate::keyed::Keyed;
 use crate::lead::{Lead, compare_leads};
 use crate::share::Share;
 use std::alloc::{AllocError, Global};
 use std::cmp::Ordering;
-use std::marker::Model;
+use std::marker::{Model, PhantomData};
 use std::sync::Arc;
 
-/// A key and its value, which maps share, behind the first octets of the key.
+/// A value, which maps share, behind the first octets of its key. Contracts see it behind its key.
 #[derive(Drop)]
-pub(crate) struct Entry<K: Lead, V> {
+pub(crate) struct Entry<K: Lead, V: Keyed<K>> {
     lead: [u8; 16],
-    both: Arc<(K, V)>,
+    value: Arc<V>,
+    key: PhantomData<K>,
 }
 
-impl<K: Lead, V> Model for Entry<K, V> {
+impl<K: Lead, V: Keyed<K>> Model for Entry<K, V> {
     ghost use Rattle.std.specs.Prelude.{◌≡◌};
     ghost use Rattle.std.specs.Arc.{arc_value};
 
     ghost Value = { K × V };
 
-    ghost view = { λ e. arc_value e.both };
+    ghost view = { λ e. (V.key (arc_value e.value), arc_value e.value) };
 
-    ghost invariant = { λ e. e.lead ≡ K.lead (arc_value e.both).0 };
+    ghost invariant = { λ e. e.lead ≡ K.lead (V.key (arc_value e.value)) };
 }
 
-impl<K: Lead + Copy, V> Entry<K, V> {
-    /// The entry of a key and its value. The error is want of memory.
-    pub(crate) fn new(alloc: Global, both: (K, V)) -> Result<Entry<K, V>, AllocError>
+impl<K: Lead + Copy, V: Keyed<K>> Entry<K, V> {
+    /// The entry of a value. The error is want of memory.
+    pub(crate) fn new(alloc: Global, value: V) -> Result<Entry<K, V>, AllocError>
     where
         V: Drop,
-        ensures { IfOk result (λ entry. entry ≡ both) }
+        ensures { IfOk result (λ entry. entry ≡ (V.key value, value)) }
     {
         Ok(Entry {
-            lead: both.0.lead(),
-            both: Arc::new(alloc, both)?,
+            lead: value.key().lead(),
+            value: Arc::new(alloc, value)?,
+            key: PhantomData,
         })
     }
 
-    pub(crate) fn key(&self) -> &K
-        ensures { result.now ≡ self.now.0 }
+    /// The first octets of the key.
+    pub(crate) fn lead(&self) -> [u8; 16]
+        ensures { result ≡ K.lead self.now.0 }
     {
-        &self.both.0
+        self.lead
     }
 
     pub(crate) fn value(&self) -> &V
-        ensures { result.now ≡ self.now.1 }
+        ensures value { result.now ≡ self.now.1 }
+        ensures key { V.key result.now ≡ self.now.0 }
     {
-        &self.both.1
+        &self.value
     }
 
     /// How the key stands to another one. It is read only where the first octets are alike.
@@ -57,18 +62,19 @@ impl<K: Lead + Copy, V> Entry<K, V> {
         ensures { result ≡ K.Ord.cmp self.now.0 key.now }
     {
         match compare_leads(&self.lead, &key.lead()) {
-            Ordering::Equal => self.both.0.cmp(key),
+            Ordering::Equal => self.value.compare(key),
             order => order,
         }
     }
 }
 
-impl<K: Lead, V> Share for Entry<K, V> {
-    /// One more reference to the key and the value.
+impl<K: Lead, V: Keyed<K>> Share for Entry<K, V> {
+    /// One more reference to the value.
     fn share(&self) -> Result<Entry<K, V>, AllocError> {
         Ok(Entry {
             lead: self.lead,
-            both: Arc::try_clone(&self.both)?,
+            value: Arc::try_clone(&self.value)?,
+            key: PhantomData,
         })
     }
 }

@@ -6,6 +6,7 @@ ghost use Rattle.dz_chunks.specs.inner.Chunked.{flat, length_at, length_before, 
 use crate::chunk::{CHUNK, Chunk, copy_chunks, length_at, length_before, push_chunk};
 use crate::entries::copy_entries;
 use crate::entry::Entry;
+use crate::keyed::Keyed;
 use crate::lead::Lead;
 use dz_steps::Steps;
 use std::alloc::{AllocError, Global};
@@ -17,13 +18,13 @@ const HALF: usize = 64;
 
 /// Entries, and the place in front of which, or behind which, they stand.
 #[derive(Drop)]
-struct Part<K: Lead, V> {
+struct Part<K: Lead, V: Keyed<K>> {
     place: usize,
     entries: Vec<Entry<K, V>>,
 }
 
 /// Copies of entries in front of others.
-fn prepended<K: Lead + Copy, V: Drop, L: Ledger>(
+fn prepended<K: Lead + Copy, V: Keyed<K> + Drop, L: Ledger>(
     alloc: Global,
     first: &[Entry<K, V>],
     mut rest: Vec<Entry<K, V>>,
@@ -40,7 +41,7 @@ fn prepended<K: Lead + Copy, V: Drop, L: Ledger>(
 }
 
 /// Entries together with the chunk before a place, if they are fewer than 128 together.
-fn joined_before<K: Lead + Copy, V: Drop, L: Ledger>(
+fn joined_before<K: Lead + Copy, V: Keyed<K> + Drop, L: Ledger>(
     alloc: Global,
     chunks: &[Chunk<K, V>],
     at: usize,
@@ -74,7 +75,7 @@ fn joined_before<K: Lead + Copy, V: Drop, L: Ledger>(
 }
 
 /// Entries together with the chunk at a place behind them, if they are fewer than 128 together.
-fn joined_behind<K: Lead + Copy, V: Drop, L: Ledger>(
+fn joined_behind<K: Lead + Copy, V: Keyed<K> + Drop, L: Ledger>(
     chunks: &[Chunk<K, V>],
     at: usize,
     mut entries: Vec<Entry<K, V>>,
@@ -108,7 +109,7 @@ fn joined_behind<K: Lead + Copy, V: Drop, L: Ledger>(
 }
 
 /// The chunks but the one at a place.
-fn without_chunk<K: Lead + Copy, V: Drop, L: Ledger>(
+fn without_chunk<K: Lead + Copy, V: Keyed<K> + Drop, L: Ledger>(
     alloc: Global,
     chunks: &[Chunk<K, V>],
     at: usize,
@@ -131,7 +132,7 @@ fn without_chunk<K: Lead + Copy, V: Drop, L: Ledger>(
 }
 
 /// The chunks with these entries in place of one, joined with its neighbours where they are few.
-fn with_chunk<K: Lead + Copy, V: Drop, L: Ledger>(
+fn with_chunk<K: Lead + Copy, V: Keyed<K> + Drop, L: Ledger>(
     alloc: Global,
     chunks: &[Chunk<K, V>],
     at: usize,
@@ -160,7 +161,7 @@ fn with_chunk<K: Lead + Copy, V: Drop, L: Ledger>(
 
 /// The chunks with 129 entries in place of one: split into 64 and 65, each of which is joined with its neighbour where
 /// they are few.
-fn with_split<K: Lead + Copy, V: Drop, L: Ledger>(
+fn with_split<K: Lead + Copy, V: Keyed<K> + Drop, L: Ledger>(
     alloc: Global,
     chunks: &[Chunk<K, V>],
     at: usize,
@@ -189,7 +190,7 @@ fn with_split<K: Lead + Copy, V: Drop, L: Ledger>(
 }
 
 /// 129 entries split into 64 and 65.
-fn halves<K: Lead + Copy, V: Drop>(
+fn halves<K: Lead + Copy, V: Keyed<K> + Drop>(
     mut entries: Vec<Entry<K, V>>,
 ) -> Result<(Vec<Entry<K, V>>, Vec<Entry<K, V>>), AllocError>
     requires { length entries.items ≡ 129 }
@@ -203,7 +204,7 @@ fn halves<K: Lead + Copy, V: Drop>(
 }
 
 /// The chunks with these entries in place of those of one. A step is an entry or a reference copied.
-pub(crate) fn rebuilt<K: Lead + Copy, V: Drop, L: Ledger>(
+pub(crate) fn rebuilt<K: Lead + Copy, V: Keyed<K> + Drop, L: Ledger>(
     alloc: Global,
     chunks: &[Chunk<K, V>],
     at: usize,

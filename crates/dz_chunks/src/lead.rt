@@ -19,6 +19,9 @@ pub trait Lead: Ord {
     /// Where the first octets of two keys differ, the keys stand as these do.
     ghost decides: { (a b : Self) → slice_cmp nat_cmp (lead a) (lead b) ≢ Equal
         → Self.Ord.cmp a b ≡ slice_cmp nat_cmp (lead a) (lead b) };
+
+    /// Keys that tie are one.
+    ghost one: { (a b : Self) → Self.Ord.cmp a b ≡ Equal → a ≡ b };
 }
 
 /// How first octets stand to others. They are compared as numbers, so that a search has no branch for each octet.

@@ -7,12 +7,14 @@ mod cutting;
 mod entries;
 mod entry;
 mod joins;
+mod keyed;
 mod laws;
 mod lead;
 mod share;
 mod walk;
 
 pub use chunks::Chunks;
+pub use keyed::Keyed;
 pub use laws::few_chunks;
 pub use lead::Lead;
 pub use share::Share;

@@ -1,8 +1,10 @@
 ghost use Rattle.std.specs.Prelude.{◌≡◌, [], ◌∷◌, refl};
+ghost use Rattle.std.specs.FinMap.{nat_cmp-IsAntisymmetric};
 
-use crate::{Chunks, Lead};
+use crate::{Chunks, Keyed, Lead};
 use dz_steps::Steps;
 use std::alloc::{AllocError, Global};
+use std::cmp::Ordering;
 use std::marker::Brand;
 use std::process::Abort;
 use std::sync::ledger::{Blank, Ledger};
@@ -17,30 +19,55 @@ impl Lead for u32 {
 
     ghost decides = { λ a b apart. absurd (apart refl) };
 
+    ghost one = { nat_cmp-IsAntisymmetric };
+
     fn lead(&self) -> [u8; 16] {
         [0; 16]
     }
 }
 
+/// A value with its key.
+#[derive(Clone, Copy, Debug, PartialEq, Eq)]
+struct Pair {
+    key: u32,
+    value: u64,
+}
+
+impl Keyed<u32> for Pair {
+    ghost key = { λ pair. pair.key };
+
+    fn key(&self) -> u32 {
+        self.key
+    }
+
+    fn compare(&self, asked: &u32) -> Ordering {
+        self.key.cmp(asked)
+    }
+}
+
+fn make_pair(key: u32, value: u64) -> Pair {
+    Pair { key, value }
+}
+
 /// The order in which keys are put and taken out.
 #[derive(Clone, Copy)]
-enum Order {
+enum Turns {
     Ascending,
     Descending,
     Mixed,
 }
 
 /// The key that comes at a turn, below 1,000.
-fn key_at(order: Order, turn: u32) -> u32 {
+fn key_at(order: Turns, turn: u32) -> u32 {
     let turn = turn % KEYS;
     match order {
-        Order::Ascending => turn,
-        Order::Descending => KEYS - 1 - turn,
-        Order::Mixed => (turn * 919 + 7) % KEYS,
+        Turns::Ascending => turn,
+        Turns::Descending => KEYS - 1 - turn,
+        Turns::Mixed => (turn * 919 + 7) % KEYS,
     }
 }
 
-fn expect_entries(rt: &impl Abort, map: &Chunks<u32, u64>, plain: &[(u32, u64)]) {
+fn expect_entries(rt: &impl Abort, map: &Chunks<u32, Pair>, plain: &[Pair]) {
     assert!(rt;
         map.len() == plain.len(),
         "{} keys, not {}",
@@ -48,9 +75,10 @@ fn expect_entries(rt: &impl Abort, map: &Chunks<u32, u64>, plain: &[(u32, u64)])
         plain.len()
     );
     let mut walk = map.walk();
-    for (key, value) in plain {
-        assert!(rt; map.get(key) == Some(value), "the value of {key}");
-        assert!(rt; walk.next() == Some((key, value)), "{key} in its place");
+    for pair in plain {
+        let key = pair.key;
+        assert!(rt; map.get(&key) == Some(pair), "the value of {key}");
+        assert!(rt; walk.next() == Some(pair), "{key} in its place");
     }
     assert!(rt; walk.next().is_none(), "no more than {} keys", plain.len());
 }
@@ -60,7 +88,7 @@ fn put_and_take<L: Ledger>(
     rt: &impl Abort,
     alloc: Global,
     blank: Blank,
-    order: Order,
+    order: Turns,
 ) -> Result<(), AllocError>
     requires name { blank.name ≡ L.name }
     requires parts { blank.parts ≡ L.parts }
@@ -68,18 +96,18 @@ fn put_and_take<L: Ledger>(
 {
     let mut steps = Steps::<L>::new(blank);
     let mut map = Chunks::empty(alloc);
-    let mut plain: Vec<(u32, u64)> = Vec::new(alloc);
+    let mut plain: Vec<Pair> = Vec::new(alloc);
     for turn in 0..KEYS {
         let key = key_at(order, turn);
-        map = map.with(alloc, key, u64::from(turn), &mut steps)?;
-        let place = plain.partition_point(|entry| entry.0 < key);
-        plain.insert(place, (key, u64::from(turn)))?;
+        map = map.with(alloc, make_pair(key, u64::from(turn)), &mut steps)?;
+        let place = plain.partition_point(|entry| entry.key < key);
+        plain.insert(place, make_pair(key, u64::from(turn)))?;
         expect_entries(rt, &map, plain.as_slice());
     }
     for turn in 0..KEYS {
         let key = key_at(order, turn);
         map = map.without(alloc, &key, &mut steps)?;
-        plain.retain(|entry| entry.0 != key);
+        plain.retain(|entry| entry.key != key);
         assert!(rt; map.get(&key).is_none(), "{key} is gone");
         expect_entries(rt, &map, plain.as_slice());
     }
@@ -89,19 +117,19 @@ fn put_and_take<L: Ledger>(
 
 #[test]
 fn keys_in_ascending_order_are_put_and_taken_out(rt: HostRuntime) -> Result<(), Fail> {
-    put_and_take::<Brand>(&rt, rt.alloc(), Blank::new(1), Order::Ascending)?;
+    put_and_take::<Brand>(&rt, rt.alloc(), Blank::new(1), Turns::Ascending)?;
     Ok(())
 }
 
 #[test]
 fn keys_in_descending_order_are_put_and_taken_out(rt: HostRuntime) -> Result<(), Fail> {
-    put_and_take::<Brand>(&rt, rt.alloc(), Blank::new(1), Order::Descending)?;
+    put_and_take::<Brand>(&rt, rt.alloc(), Blank::new(1), Turns::Descending)?;
     Ok(())
 }
 
 #[test]
 fn keys_in_mixed_order_are_put_and_taken_out(rt: HostRuntime) -> Result<(), Fail> {
-    put_and_take::<Brand>(&rt, rt.alloc(), Blank::new(1), Order::Mixed)?;
+    put_and_take::<Brand>(&rt, rt.alloc(), Blank::new(1), Turns::Mixed)?;
     Ok(())
 }
 
@@ -115,22 +143,32 @@ fn change<L: Ledger>(rt: &impl Abort, alloc: Global, blank: Blank) -> Result<(),
     let empty = Chunks::empty(alloc);
     expect_entries(rt, &empty, &[]);
     expect_entries(rt, &empty.without(alloc, &5, &mut steps)?, &[]);
-    let one = empty.with(alloc, 5, 50, &mut steps)?;
+    let one = empty.with(alloc, make_pair(5, 50), &mut steps)?;
     expect_entries(rt, &empty, &[]);
-    expect_entries(rt, &one.without(alloc, &6, &mut steps)?, &[(5, 50)]);
-    let again = one.with(alloc, 5, 55, &mut steps)?;
-    expect_entries(rt, &one, &[(5, 50)]);
-    expect_entries(rt, &again, &[(5, 55)]);
-    let two = again.with(alloc, 3, 30, &mut steps)?;
-    expect_entries(rt, &two, &[(3, 30), (5, 55)]);
+    expect_entries(
+        rt,
+        &one.without(alloc, &6, &mut steps)?,
+        &[make_pair(5, 50)],
+    );
+    let again = one.with(alloc, make_pair(5, 55), &mut steps)?;
+    expect_entries(rt, &one, &[make_pair(5, 50)]);
+    expect_entries(rt, &again, &[make_pair(5, 55)]);
+    let two = again.with(alloc, make_pair(3, 30), &mut steps)?;
+    expect_entries(rt, &two, &[make_pair(3, 30), make_pair(5, 55)]);
     expect_entries(
         rt,
         &two.without(alloc, &4, &mut steps)?,
-        &[(3, 30), (5, 55)],
+        &[make_pair(3, 30), make_pair(5, 55)],
     );
     assert!(rt; two.get(&4).is_none());
-    assert!(rt; two.last_upto(&4) == Some((&3, &30)), "the one before");
-    assert!(rt; two.last_upto(&5) == Some((&5, &55)), "the key itself");
+    assert!(rt;
+        two.last_upto(&4) == Some(&make_pair(3, 30)),
+        "the one before"
+    );
+    assert!(rt;
+        two.last_upto(&5) == Some(&make_pair(5, 55)),
+        "the key itself"
+    );
     assert!(rt; two.last_upto(&2).is_none(), "all come after");
     Ok(())
 }

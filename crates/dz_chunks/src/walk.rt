@@ -6,19 +6,20 @@ ghost use Rattle.dz_chunks.specs.inner.Chunked.{flat, AreChunks};
 
 use crate::chunk::Chunk;
 use crate::entry::Entry;
+use crate::keyed::Keyed;
 use crate::lead::Lead;
 use std::iter::Iterator;
 use std::marker::Model;
 use std::sync::Arc;
 
-/// The keys of a map with their values, in ascending order of the keys. Contracts see the entries that are left.
+/// The values of a map, in ascending order of their keys. Contracts see the entries that are left.
 #[derive(Drop)]
-pub struct Walk<'a, K: Lead, V> {
+pub struct Walk<'a, K: Lead, V: Keyed<K>> {
     entries: &'a [Entry<K, V>],
     chunks: &'a [Chunk<K, V>],
 }
 
-impl<'a, K: Lead, V> Model for Walk<'a, K, V> {
+impl<'a, K: Lead, V: Keyed<K>> Model for Walk<'a, K, V> {
     ghost use Rattle.std.specs.Prelude.{List, map, ◌++◌};
     ghost use Rattle.dz_chunks.specs.inner.Chunked.{flat, AreChunks};
 
@@ -29,7 +30,7 @@ impl<'a, K: Lead, V> Model for Walk<'a, K, V> {
     ghost invariant = { λ w. AreChunks w.chunks.now };
 }
 
-impl<'a, K: Lead + Copy, V> Walk<'a, K, V> {
+impl<'a, K: Lead + Copy, V: Keyed<K>> Walk<'a, K, V> {
     /// All entries of chunks.
     pub(crate) fn over(chunks: &'a [Chunk<K, V>]) -> Walk<'a, K, V>
         requires { AreChunks chunks.now }
@@ -42,22 +43,22 @@ impl<'a, K: Lead + Copy, V> Walk<'a, K, V> {
     }
 }
 
-impl<'a, K: Lead + Copy, V> Iterator for Walk<'a, K, V> {
-    type Item = (&'a K, &'a V);
+impl<'a, K: Lead + Copy, V: Keyed<K>> Iterator for Walk<'a, K, V> {
+    type Item = &'a V;
 
-    ghost next_gives = { YieldsFirstBy (λ entry. (entry.0.now, entry.1.now)) (λ left. left) };
+    ghost next_gives = { YieldsFirstBy (λ value. (V.key value.now, value.now)) (λ left. left) };
 
     ghost remaining = { item_count (λ left. left) };
 
-    fn next(&mut self) -> Option<(&'a K, &'a V)> {
+    fn next(&mut self) -> Option<&'a V> {
         if let Some((entry, rest)) = self.entries.split_first() {
             self.entries = rest;
-            return Some((entry.key(), entry.value()));
+            return Some(entry.value());
         }
         let (chunk, rest) = self.chunks.split_first()?;
         let (entry, others) = chunk.entries().split_first()?;
         self.entries = others;
         self.chunks = rest;
-        Some((entry.key(), entry.value()))
+        Some(entry.value())
     }
 }

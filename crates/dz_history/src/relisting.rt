@@ -39,32 +39,32 @@ fn slots_after(
 {
     let mut slots = Vec::with_capacity(alloc, memberships.len())?;
     'members: for membership in memberships {
-        slots.push(slot_after(before, membership)?)?;
+        slots.push(slot_after(alloc, before, membership)?)?;
     }
     Ok(slots)
 }
 
-fn slot_after(before: &Holdings, membership: &Membership) -> Result<Slot, AllocError>
+fn slot_after(alloc: Global, before: &Holdings, membership: &Membership) -> Result<Slot, AllocError>
     ensures { IfOk result (λ slot. slot ≡ slot_after before.now (shown before.now.fold.config membership.now)) }
 {
     match before.fold().find(&membership.zone) {
         Some(member) => {
             if member.incarnation() == membership.incarnation {
-                same_slot(before.table(), &membership.zone)
+                same_slot(alloc, before.table(), &membership.zone)
             } else {
-                Ok(Slot::new(membership.zone, 0, None))
+                Slot::new(alloc, &membership.zone, 0, None)
             }
         }
-        None => Ok(Slot::new(membership.zone, 0, None)),
+        None => Slot::new(alloc, &membership.zone, 0, None),
     }
 }
 
 /// The slot of a zone, once more.
-fn same_slot(table: &Table, zone: &Name) -> Result<Slot, AllocError>
+fn same_slot(alloc: Global, table: &Table, zone: &Name) -> Result<Slot, AllocError>
     ensures { IfOk result (λ slot. slot ≡ unwrap_or (slot_of zone.now table.now) (fresh zone.now)) }
 {
     match table.get(zone) {
         Some(slot) => slot.share(),
-        None => Ok(Slot::new(*zone, 0, None)),
+        None => Slot::new(alloc, zone, 0, None),
     }
 }

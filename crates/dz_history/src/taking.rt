@@ -78,7 +78,7 @@ impl Holdings {
         match self.fold.catalog_number(zone) {
             Some(number) => self.take_catalog(alloc, number, zone, version),
             None => {
-                let slot = Slot::new(*zone, moment, Some(version));
+                let slot = Slot::new(alloc, zone, moment, Some(version))?;
                 Ok((self.with_slot(alloc, slot)?.counted(), Aftermath::Member))
             }
         }

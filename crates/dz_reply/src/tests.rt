@@ -78,7 +78,7 @@ fn counted_table<L: Ledger>(blank: Blank, alloc: Global, slot: Slot) -> Result<T
 fn table(rt: &impl Abort, alloc: Global, records: Vec<Rr>) -> Result<Table, AllocError> {
     let apex = name(rt, b"example.");
     let version = version_of(rt, alloc, apex, records)?;
-    table_of(alloc, Slot::new(apex, 1000, Some(version)))
+    table_of(alloc, Slot::new(alloc, &apex, 1000, Some(version))?)
 }
 
 /// The zone of an SOA with this TTL and an NS.

@@ -4,18 +4,26 @@ ghost use Rattle.std.specs.Prelude.{◌≡◌, ◌≤◌, length, drop};
 ghost use Rattle.dz_name.specs.Words.{Name};
 ghost use Rattle.dz_name.specs.Name.{IsWithin};
 
-use dz_name::{Name, NameRef};
+use dz_name::NameRef;
+
+/// The name behind the first labels.
+fn ancestor<'a>(name: &NameRef<'a>, skip: usize) -> NameRef<'a>
+    requires { skip ≤ length name.now }
+    ensures { result ≡ drop skip name.now }
+{
+    NameRef::of_wire(name.behind(skip))
+}
 
 /// The name behind the first label.
 fn above<'a>(name: &NameRef<'a>) -> NameRef<'a>
     requires { 1 ≤ length name.now }
     ensures { result ≡ drop 1 name.now }
 {
-    NameRef::of_wire(name.behind(1))
+    ancestor(name, 1)
 }
 
 /// How many first labels of a name stand in front of the longest name that encloses it and another one.
-pub(crate) fn labels_apart(name: &Name, other: &Name) -> usize
+pub(crate) fn labels_apart(name: &NameRef, other: &NameRef) -> usize
     ensures within { result ≤ length name.now }
     ensures encloses { IsWithin other.now (drop result name.now) }
     ensures longest { (zone : Name) → IsWithin name.now zone → IsWithin other.now zone
@@ -24,8 +32,8 @@ pub(crate) fn labels_apart(name: &Name, other: &Name) -> usize
     let mine = name.label_count();
     let theirs = other.label_count();
     let shared = mine.min(theirs);
-    let mut near = name.ancestor_ref(mine - shared);
-    let mut far = other.ancestor_ref(theirs - shared);
+    let mut near = ancestor(name, mine - shared);
+    let mut far = ancestor(other, theirs - shared);
     'labels: for skip in 0..shared {
         if near.same(&far) {
             return mine - shared + skip;

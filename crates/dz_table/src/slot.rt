@@ -7,10 +7,12 @@ ghost use Rattle.std.specs.List.{All};
 ghost use Rattle.dz_record.specs.Record.{IsRecord};
 ghost use Rattle.dz_table.specs.Slot.{SlotOf, IsSlot, is_live};
 
-use dz_chunks::Share;
-use dz_name::Name;
+use crate::zone_key::ZoneKey;
+use dz_chunks::{Keyed, Share};
+use dz_name::{KeptName, Name, NameRef};
 use dz_zone::Version;
-use std::alloc::AllocError;
+use std::alloc::{AllocError, Global};
+use std::cmp::Ordering;
 use std::marker::Model;
 use std::sync::Arc;
 
@@ -18,10 +20,9 @@ use std::sync::Arc;
 /// is one. A version's apex is the zone. Slots may share a version.
 #[derive(Debug, Drop)]
 pub struct Slot {
-    // what a reply reads stands first, so that it lies beside the name of the key in front of it
     refreshed: u64,
     version: Option<Arc<Version>>,
-    zone: Name,
+    zone: KeptName,
 }
 
 impl Model for Slot {
@@ -38,23 +39,32 @@ impl Model for Slot {
 
 impl Slot {
     /// The slot of these parts.
-    pub fn new(zone: Name, refreshed: u64, version: Option<Arc<Version>>) -> Slot
+    ///
+    /// # Errors
+    ///
+    /// `AllocError` where there is no memory for a long name.
+    pub fn new(
+        alloc: Global,
+        zone: &Name,
+        refreshed: u64,
+        version: Option<Arc<Version>>,
+    ) -> Result<Slot, AllocError>
         requires moment { refreshed < 2 ^ 40 }
-        requires apex { ForSome version (λ v. v.value.apex ≡ zone) }
-        ensures { result ≡ record { zone = zone; refreshed = refreshed; version = option_map arc_value version } }
+        requires apex { ForSome version (λ v. v.value.apex ≡ zone.now) }
+        ensures { IfOk result (λ slot. slot ≡ record { zone = zone.now; refreshed = refreshed; version = option_map arc_value version }) }
     {
-        Slot {
-            zone,
+        Ok(Slot {
+            zone: KeptName::of(alloc, &zone.as_ref())?,
             refreshed,
             version,
-        }
+        })
     }
 
     /// The name of the zone.
-    pub fn zone(&self) -> &Name
-        ensures { result.now ≡ self.now.zone }
+    pub fn zone(&self) -> NameRef<'_>
+        ensures { result ≡ self.now.zone }
     {
-        &self.zone
+        self.zone.as_ref()
     }
 
     /// The moment of the last refresh in seconds, below 2^40.
@@ -118,9 +128,21 @@ impl Share for Slot {
             Some(version) => Some(Arc::try_clone(version)?),
         };
         Ok(Slot {
-            zone: self.zone,
+            zone: self.zone.try_clone()?,
             refreshed: self.refreshed,
             version,
         })
+    }
+}
+
+impl Keyed<ZoneKey> for Slot {
+    ghost key = { λ slot. slot.zone };
+
+    fn key(&self) -> ZoneKey {
+        ZoneKey::of(&self.zone().to_name())
+    }
+
+    fn compare(&self, asked: &ZoneKey) -> Ordering {
+        self.zone().canonical_cmp(&asked.zone().as_ref())
     }
 }

@@ -43,9 +43,6 @@ impl<'a> Iterator for Slots<'a> {
     ghost remaining = { item_count (λ left. left) };
 
     fn next(&mut self) -> Option<&'a Slot> {
-        match self.walk.next() {
-            None => None,
-            Some((_, slot)) => Some(slot),
-        }
+        self.walk.next()
     }
 }

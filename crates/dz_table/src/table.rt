@@ -3,7 +3,6 @@
 ghost use Rattle.std.specs.Prelude.{◌≡◌, ◌≢◌, ◌≤◌, ◌+◌, ◌/◌, [], Some, None, IfOk, length, option_map};
 ghost use Rattle.dz_name.specs.Words.{Name};
 ghost use Rattle.dz_table.specs.Table.{IsTable, IsClosest, put, without, slot_of, closest};
-ghost use Rattle.dz_table.specs.inner.Kept.{entries_of};
 
 use crate::shared::labels_apart;
 use crate::slot::Slot;
@@ -50,8 +49,8 @@ impl Table {
         requires { IsTable slots.now }
         ensures { IfOk result (λ t. t ≡ slots.now) }
     {
-        let entries = keyed(alloc, slots)?;
-        let slots = Chunks::from_sorted(alloc, entries)?;
+        let copies = same_slots(alloc, slots)?;
+        let slots = Chunks::from_sorted(alloc, copies)?;
         Ok(Table { slots })
     }
 
@@ -76,8 +75,7 @@ impl Table {
         ensures others { IfOk result (λ t. (zone : Name) → zone ≢ slot.zone → slot_of zone t ≡ slot_of zone self.now) }
         ensures cost { steps.new ≤ steps.old + 256 + (length self.now / 64 + 1) }
     {
-        let key = ZoneKey::of(slot.zone());
-        let slots = self.slots.with(alloc, key, slot, steps)?;
+        let slots = self.slots.with(alloc, slot, steps)?;
         Ok(Table { slots })
     }
 
@@ -115,23 +113,24 @@ impl Table {
         // a zone that encloses a name encloses all names that stand between the two in canonical order
         let mut asked = *name;
         'ancestors: loop {
-            let (key, slot) = self.slots.last_upto(&ZoneKey::of(&asked))?;
-            let zone = key.zone();
-            if asked.is_within(zone) {
+            let slot = self.slots.last_upto(&ZoneKey::of(&asked))?;
+            let zone = slot.zone();
+            let below = asked.as_ref();
+            if below.is_within(&zone) {
                 return Some(slot);
             }
-            asked = asked.ancestor(labels_apart(&asked, zone));
+            asked = asked.ancestor(labels_apart(&below, &zone));
         }
     }
 }
 
-/// Slots, each behind the key of its zone.
-fn keyed(alloc: Global, slots: &[Slot]) -> Result<Vec<(ZoneKey, Slot)>, AllocError>
-    ensures { IfOk result (λ entries. entries.items ≡ entries_of slots.now) }
+/// The same slots once more. They share their versions.
+fn same_slots(alloc: Global, slots: &[Slot]) -> Result<Vec<Slot>, AllocError>
+    ensures { IfOk result (λ copies. copies.items ≡ slots.now) }
 {
-    let mut entries = Vec::with_capacity(alloc, slots.len())?;
+    let mut copies = Vec::with_capacity(alloc, slots.len())?;
     'slots: for slot in slots {
-        entries.push((ZoneKey::of(slot.zone()), slot.share()?))?;
+        copies.push(slot.share()?)?;
     }
-    Ok(entries)
+    Ok(copies)
 }

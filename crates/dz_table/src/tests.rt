@@ -68,8 +68,13 @@ fn make_version(
 }
 
 /// A slot without a version.
-fn make_slot(rt: &impl Abort, zone: &str, refreshed: u64) -> Slot {
-    Slot::new(make_name(rt, zone), refreshed.min(MOST), None)
+fn make_slot(
+    rt: &impl Abort,
+    alloc: Global,
+    zone: &str,
+    refreshed: u64,
+) -> Result<Slot, AllocError> {
+    Slot::new(alloc, &make_name(rt, zone), refreshed.min(MOST), None)
 }
 
 fn make_live(
@@ -81,7 +86,7 @@ fn make_live(
 ) -> Result<Slot, AllocError> {
     let zone = make_name(rt, zone);
     let version = make_version(rt, alloc, zone, expire)?;
-    Ok(Slot::new(zone, refreshed.min(MOST), Some(version)))
+    Slot::new(alloc, &zone, refreshed.min(MOST), Some(version))
 }
 
 /// A new table with this slot, whose steps nobody reads.
@@ -126,7 +131,7 @@ fn counted_without<L: Ledger>(
 fn make_table(rt: &impl Abort, alloc: Global, zones: &[&str]) -> Result<Table, AllocError> {
     let mut table = Table::empty(alloc);
     for (moment, zone) in zones.iter().enumerate() {
-        table = with(&table, alloc, make_slot(rt, zone, moment as u64))?;
+        table = with(&table, alloc, make_slot(rt, alloc, zone, moment as u64)?)?;
     }
     Ok(table)
 }
@@ -137,7 +142,10 @@ fn expect_slots(rt: &impl Abort, table: &Table, want: &[(&str, u64)]) {
     for (zone, refreshed) in want {
         match slots.next() {
             Some(slot) => {
-                assert!(rt; slot.zone().same(&make_name(rt, zone)), "not {zone}");
+                assert!(rt;
+                    slot.zone().same(&make_name(rt, zone).as_ref()),
+                    "not {zone}"
+                );
                 assert_eq!(rt; slot.refreshed(), *refreshed, "of {zone}");
             }
             None => panic!(rt; "no slot of {zone}"),
@@ -153,7 +161,7 @@ fn expect_closest(rt: &impl Abort, table: &Table, name: &str, want: Option<&str>
         (None, None) => {}
         (Some(slot), Some(zone)) => {
             assert!(rt;
-                slot.zone().same(&make_name(rt, zone)),
+                slot.zone().same(&make_name(rt, zone).as_ref()),
                 "{name:?} not in {zone}"
             );
         }
@@ -244,10 +252,10 @@ fn with_replaces_the_slot_of_its_zone(rt: HostRuntime) -> Result<(), Fail> {
     let alloc = rt.alloc();
     let old = make_table(&rt, alloc, &["b.", "a.", "c."])?;
     let before = [("a.", 1), ("b.", 0), ("c.", 2)];
-    let new = with(&old, alloc, make_slot(&rt, "B.", MOST))?;
+    let new = with(&old, alloc, make_slot(&rt, alloc, "B.", MOST)?)?;
     expect_slots(&rt, &new, &[("a.", 1), ("b.", MOST), ("c.", 2)]);
     expect_slots(&rt, &old, &before);
-    let more = with(&old, alloc, make_slot(&rt, "x.b.", 7))?;
+    let more = with(&old, alloc, make_slot(&rt, alloc, "x.b.", 7)?)?;
     expect_slots(&rt, &more, &[("a.", 1), ("b.", 0), ("x.b.", 7), ("c.", 2)]);
     expect_slots(&rt, &old, &before);
     Ok(())
@@ -327,7 +335,7 @@ fn many_zones<L: Ledger>(rt: &impl Abort, alloc: Global, blank: Blank) -> Result
     let mut table = Table::empty(alloc);
     for turn in 0..1_001_u64 {
         let number = turn * 919 % 1_001;
-        let slot = Slot::new(numbered(rt, number), number, None);
+        let slot = Slot::new(alloc, &numbered(rt, number), number, None)?;
         table = one_more(&table, alloc, slot, &mut steps)?;
     }
     Ok(table)
@@ -403,12 +411,13 @@ fn live_until_expire_has_passed(rt: HostRuntime) -> Result<(), Fail> {
 }
 
 #[test]
-fn never_live_without_a_version(rt: HostRuntime) {
-    let slot = make_slot(&rt, "example.", 100);
+fn never_live_without_a_version(rt: HostRuntime) -> Result<(), Fail> {
+    let slot = make_slot(&rt, rt.alloc(), "example.", 100)?;
     assert!(rt; slot.version().is_none());
     for moment in [0, 99, 100, MOST] {
         assert!(rt; !slot.is_live(moment), "at {moment}");
     }
+    Ok(())
 }
 
 #[test]
@@ -416,7 +425,7 @@ fn tables_share_versions(rt: HostRuntime) -> Result<(), Fail> {
     let alloc = rt.alloc();
     let slot = make_live(&rt, alloc, "example.", 5, 10)?;
     let one = with(&Table::empty(alloc), alloc, slot)?;
-    let two = with(&one, alloc, make_slot(&rt, "a.example.", 6))?;
+    let two = with(&one, alloc, make_slot(&rt, alloc, "a.example.", 6)?)?;
     for table in [&one, &two] {
         match table.closest(&make_name(&rt, "www.example.")) {
             Some(slot) => {

@@ -3,7 +3,7 @@
 ghost use Rattle.std.specs.Prelude.{◌≡◌, refl, take, drop, ◌++◌, length, min};
 ghost use Rattle.std.specs.Ordering.{as_partial_cmp};
 ghost use Rattle.dz_name.specs.Name.{canonical_order, same_name};
-ghost use Rattle.dz_name.specs.Order.{canonical_total, names_equal, names_partly_equal, names_ordered, same_ties};
+ghost use Rattle.dz_name.specs.Order.{canonical_total, canonical_same, names_equal, names_partly_equal, names_ordered, same_ties};
 ghost use Rattle.dz_index.specs.SortKey.{key_of};
 ghost use Rattle.dz_table.specs.inner.Lead.{lead_of};
 ghost use Rattle.dz_table.specs.inner.LeadOrder.{lead_decides};
@@ -17,7 +17,7 @@ use std::marker::Model;
 /// How many octets of a sort key stand beside the name.
 const LEAD: usize = 16;
 
-/// A zone behind the first octets of its sort key, by which a map tells most zones apart.
+/// What a table is asked with: a zone behind the first octets of its sort key, by which a map tells most zones apart.
 #[derive(Clone, Copy)]
 pub(crate) struct ZoneKey {
     lead: [u8; LEAD],
@@ -114,6 +114,8 @@ impl Lead for ZoneKey {
     ghost lead = { λ zone. lead_of 16 (key_of zone) };
 
     ghost decides = { lead_decides };
+
+    ghost one = { canonical_same };
 
     fn lead(&self) -> [u8; LEAD] {
         self.lead

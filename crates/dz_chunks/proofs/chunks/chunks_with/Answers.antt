@@ -1,6 +1,7 @@
 use Rattle.std.proofs.Common.{◌∙◌, sym, ap, subst, arith, length}
 use Rattle.std.specs.Prelude.{T}
 use Rattle.std.specs.FinMap.{put, is_sorted}
+use Rattle.dz_chunks.specs.inner.Chunked.{flat}
 use Rattle.dz_chunks.proofs.EntryLemmas.{ok_then, ok_with}
 use Rattle.dz_chunks.proofs.ChunkLemmas.{seen_sorted, seen_put, chunked_put, put_longer}
 use Rattle.dz_chunks.proofs.JoinLemmas.{seen_length, length_short}
@@ -9,7 +10,7 @@ use Rattle.dz_chunks.proofs.chunks.chunks_with.Goals as goal
 pub with_entry-requires-clause-sorted : goal.with_entry-requires-clause-sorted
 with_entry-requires-clause-sorted g c =
     let part = c.entries.ensures ∙ c.index-chunks-at.is in
-    let sorted = subst (λ es. T (is_sorted g.K.Ord.cmp es)) (sym part) (seen_sorted g.K.Ord.cmp g.met.K.Ord.total c.args.key c.args.chunks.now c.chunk_for-at.result c.index-chunks-at.result c.requires c.chunk_for-at.ensures.within) in
+    let sorted = subst (λ es. T (is_sorted g.K.Ord.cmp es)) (sym part) (seen_sorted g.K.Ord.cmp g.met.K.Ord.total c.key-key.result c.args.chunks.now c.chunk_for-at.result c.index-chunks-at.result c.requires c.chunk_for-at.ensures.within) in
     sorted
 
 pub with_entry-requires-clause-short : goal.with_entry-requires-clause-short
@@ -31,7 +32,7 @@ rebuilt-requires-clause-short g c =
     let part = c.entries.ensures ∙ c.index-chunks-at.is in
     let size = seen_length c.args.chunks.now c.chunk_for-at.result c.index-chunks-at.result c.chunk_for-at.ensures.within in
     let short = length_short c.args.chunks.now c.chunk_for-at.result c.requires.sized in
-    let longer = put_longer g.K.Ord.cmp c.args.key c.args.value c.entries.result.now in
+    let longer = put_longer g.K.Ord.cmp c.key-key.result c.args.value c.entries.result.now in
     omega (arith, size, short, ap length part, longer.0, ap length c.in_ok-entries.ensures.put)
 
 pub rebuilt-requires-clause-near : goal.rebuilt-requires-clause-near
@@ -39,18 +40,19 @@ rebuilt-requires-clause-near g c =
     let part = c.entries.ensures ∙ c.index-chunks-at.is in
     let size = seen_length c.args.chunks.now c.chunk_for-at.result c.index-chunks-at.result c.chunk_for-at.ensures.within in
     let short = length_short c.args.chunks.now c.chunk_for-at.result c.requires.sized in
-    let longer = put_longer g.K.Ord.cmp c.args.key c.args.value c.entries.result.now in
+    let longer = put_longer g.K.Ord.cmp c.key-key.result c.args.value c.entries.result.now in
     omega (arith, size, short, ap length part, longer.1, ap length c.in_ok-entries.ensures.put)
 
 pub returns-clause-map : goal.returns-clause-map
 returns-clause-map g c =
     let part = c.entries.ensures ∙ c.index-chunks-at.is in
-    ok_then _ _ c.rebuilt.result c.rebuilt.ensures.entries (λ v n. seen_put g.K.Ord.cmp g.met.K.Ord.total c.args.key c.args.value c.args.chunks.now v.items c.chunk_for-at.result c.index-chunks-at.result c.in_ok-entries.entries.items c.chunk_for-at.ensures.within c.chunk_for-at.ensures.before c.chunk_for-at.ensures.behind (c.in_ok-entries.ensures.put ∙ ap (put g.K.Ord.cmp c.args.key c.args.value) part) n)
+    ok_then _ _ c.rebuilt.result c.rebuilt.ensures.entries (λ v n. seen_put g.K.Ord.cmp g.met.K.Ord.total c.key-key.result c.args.value c.args.chunks.now v.items c.chunk_for-at.result c.index-chunks-at.result c.in_ok-entries.entries.items c.chunk_for-at.ensures.within c.chunk_for-at.ensures.before c.chunk_for-at.ensures.behind (c.in_ok-entries.ensures.put ∙ ap (put g.K.Ord.cmp c.key-key.result c.args.value) part) n
+    ∙ ap (λ key. put g.K.Ord.cmp key c.args.value (flat c.args.chunks.now)) c.key-key.ensures)
 
 pub returns-clause-chunked : goal.returns-clause-chunked
 returns-clause-chunked g c =
     let part = c.entries.ensures ∙ c.index-chunks-at.is in
-    ok_with _ _ _ c.rebuilt.result c.rebuilt.ensures.entries c.rebuilt.ensures.sized (λ v n z. chunked_put g.K.Ord.cmp g.met.K.Ord.total c.args.key c.args.value c.args.chunks.now v.items c.requires z (seen_put g.K.Ord.cmp g.met.K.Ord.total c.args.key c.args.value c.args.chunks.now v.items c.chunk_for-at.result c.index-chunks-at.result c.in_ok-entries.entries.items c.chunk_for-at.ensures.within c.chunk_for-at.ensures.before c.chunk_for-at.ensures.behind (c.in_ok-entries.ensures.put ∙ ap (put g.K.Ord.cmp c.args.key c.args.value) part) n))
+    ok_with _ _ _ c.rebuilt.result c.rebuilt.ensures.entries c.rebuilt.ensures.sized (λ v n z. chunked_put g.K.Ord.cmp g.met.K.Ord.total c.key-key.result c.args.value c.args.chunks.now v.items c.requires z (seen_put g.K.Ord.cmp g.met.K.Ord.total c.key-key.result c.args.value c.args.chunks.now v.items c.chunk_for-at.result c.index-chunks-at.result c.in_ok-entries.entries.items c.chunk_for-at.ensures.within c.chunk_for-at.ensures.before c.chunk_for-at.ensures.behind (c.in_ok-entries.ensures.put ∙ ap (put g.K.Ord.cmp c.key-key.result c.args.value) part) n))
 
 pub returns-clause-cost : goal.returns-clause-cost
 returns-clause-cost g c =

@@ -19,7 +19,7 @@ returns g c =
     let last = c.last_step-last.result in
     let run = c.last_step-run.result in
     let within : last < length c.args.entries.now = search rules in
-    rw (c.key.ensures, c.value.ensures) (rw (← c.index-entries-last.is) at (found_last g.K.Ord.cmp g.met.K.Ord.total c.args.key.now c.args.entries.now last c.index-entries-last.result c.requires within c.last_step-last.ensures.upto
+    rw (c.value.ensures.key, c.value.ensures.value) (rw (← c.index-entries-last.is) at (found_last g.K.Ord.cmp g.met.K.Ord.total c.args.key.now c.args.entries.now last c.index-entries-last.result c.requires within c.last_step-last.ensures.upto
     (λ lt. elim (cases_lt (last + 1) (run + c.min.result)) [
       | inl near ↦ c.last_step-last.ensures.last near
       | inr far ↦

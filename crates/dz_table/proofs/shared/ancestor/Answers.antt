@@ -1,6 +1,6 @@
 use Rattle.std.proofs.Common.{◌∙◌}
 use Rattle.dz_name.proofs.WireLemmas.{is_wire, labels_of-wire}
-use Rattle.dz_table.proofs.shared.above.Goals as goal
+use Rattle.dz_table.proofs.shared.ancestor.Goals as goal
 
 pub of_wire-requires : goal.of_wire-requires
 of_wire-requires c = is_wire _ _ c.behind.ensures.name c.behind.ensures.wire
