@@ -26,7 +26,7 @@ pub(crate) fn broken_records(version: &Version) -> Option<Broken>
         ≡ by_count version.now.apex version.now.records)
         (λ broken. broken_records version.now.apex version.now.records ≡ Some broken) }
 {
-    let apex = version.apex();
+    let apex = version.apex().to_name();
     let records = version.records();
     if no_version(version) {
         Some(Broken::NoVersion)
@@ -34,9 +34,9 @@ pub(crate) fn broken_records(version: &Version) -> Option<Broken>
         Some(Broken::VersionTwice)
     } else if other_version(version) {
         Some(Broken::OtherVersion)
-    } else if member_twice(apex, records) {
+    } else if member_twice(&apex, records) {
         Some(Broken::MemberTwice)
-    } else if coo_twice(apex, records) {
+    } else if coo_twice(&apex, records) {
         Some(Broken::CooTwice)
     } else {
         None
@@ -62,7 +62,7 @@ fn versions(version: &Version) -> &[Rr]
     ensures { result.now ≡ filter (is_version version.now.apex) version.now.records }
 {
     let records = version.records();
-    match version_name(version.apex()) {
+    match version_name(&version.apex().to_name()) {
         None => &records[..0],
         Some(name) => rrset_of(version, &name, TYPE_TXT),
     }

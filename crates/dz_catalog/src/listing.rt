@@ -23,7 +23,7 @@ pub fn read_listing(alloc: Global, version: &Version) -> Result<Listing, Catalog
 {
     match broken_records(version) {
         Some(broken) => Err(CatalogError::Broken(broken)),
-        None => read_nodes(alloc, version.apex(), version.records()),
+        None => read_nodes(alloc, &version.apex().to_name(), version.records()),
     }
 }
 

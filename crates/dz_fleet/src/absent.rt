@@ -165,7 +165,7 @@ fn same_held(a: Option<&Arc<Version>>, b: Option<&Arc<Version>>) -> bool
 fn same_version(a: &Version, b: &Version) -> bool
     ensures { IsTrue result ↔ (a.now ≡ b.now) }
 {
-    a.apex() == b.apex() && same_records(a.records(), b.records())
+    a.apex().same(&b.apex()) && same_records(a.records(), b.records())
 }
 
 /// Whether these are the same records, with their TTLs.

@@ -72,7 +72,8 @@ impl Differences {
         ensures started { IfOk result (λ d. d ≡ record { held = held.now; fed = first ∷ [] }) }
         ensures is_open { IfOk result (λ d. IsOpen (IsIncremental held.now) (Blames held.now.apex) (first ∷ [])) }
     {
-        let goal = match apex_serial(held.apex(), &first) {
+        let apex = held.apex().to_name();
+        let goal = match apex_serial(&apex, &first) {
             Some(serial) => serial,
             None => unreachable!(),
         };
@@ -81,7 +82,7 @@ impl Differences {
             alloc,
             held: Snapshot::of(held),
             fed: Fed::nothing().and(&first),
-            apex: *held.apex(),
+            apex,
             first,
             goal,
             stage: Stage::Begun(held_serial(held)),

@@ -91,7 +91,7 @@ impl Standing {
     pub(crate) fn over(alloc: Global, held: &Version) -> Result<Standing, AllocError>
         ensures { IfOk result (λ s. s ≡ others held.now) }
     {
-        let base = shared(alloc, held.apex(), held.records())?;
+        let base = shared(alloc, &held.apex().to_name(), held.records())?;
         let added = BTreeSet::new(alloc);
         Ok(Standing { base, added })
     }

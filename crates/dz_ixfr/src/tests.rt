@@ -275,7 +275,7 @@ fn assemble(
         messages.push(make_records(rt, alloc, piece)?)?;
     }
     let first = make_record(rt, alloc, *first)?;
-    assert!(rt; is_apex_soa(held.apex(), &first), "{first:?}");
+    assert!(rt; is_apex_soa(&held.apex().to_name(), &first), "{first:?}");
     let differences = Differences::start(alloc, held, first)?;
     Ok(feed_messages(differences, messages))
 }

@@ -9,7 +9,7 @@ ghost use Rattle.dz_lookup.specs.inner.Links.{behind, IsNext};
 
 use crate::found::{Found, find};
 use arrayvec::ArrayVec;
-use dz_name::Name;
+use dz_name::{Name, NameRef};
 use dz_name::dns::ALIASES;
 use dz_record::Rr;
 use dz_steps::Steps;
@@ -170,7 +170,7 @@ fn follow<'a, L: Ledger>(
             Some(alias) => alias,
         };
         chain.push(&asked, alias);
-        asked = match next_name(version.apex(), chain, alias) {
+        asked = match next_name(&version.apex(), chain, alias) {
             None => return Last::Stopped,
             Some(target) => target,
         };
@@ -179,14 +179,14 @@ fn follow<'a, L: Ledger>(
 }
 
 /// The target of a CNAME, where it is within the apex and wasn't looked up before.
-fn next_name(apex: &Name, chain: &Chain, alias: &Rr) -> Option<Name>
+fn next_name(apex: &NameRef, chain: &Chain, alias: &Rr) -> Option<Name>
     ensures { result ≡ next_name apex.now chain.now (target_of alias.now) }
 {
     let target = match alias.target() {
         None => return None,
         Some(target) => target,
     };
-    if target.is_within(apex) && !chain.contains(&target) {
+    if target.as_ref().is_within(apex) && !chain.contains(&target) {
         Some(target)
     } else {
         None

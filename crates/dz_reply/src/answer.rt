@@ -157,7 +157,7 @@ fn put_soa(writer: &mut Writer, question: &Name, version: &Version)
     put_entry(
         writer,
         question,
-        &version.apex().as_ref(),
+        &version.apex(),
         negative_ttl(soa),
         soa,
     );

@@ -103,7 +103,7 @@ fn address_owner(version: &Version, server: &Rr) -> Option<Name>
         None => return None,
         Some(name) => name,
     };
-    if name.is_within(version.apex()) {
+    if name.as_ref().is_within(&version.apex()) {
         Some(name)
     } else {
         None

@@ -115,7 +115,7 @@ fn standing_of(came: &Outcome) -> Option<Standing>
     ensures { result ≡ standing_of (meaning_of came.now) }
 {
     match came {
-        Outcome::New(version) => Some(standing(version.apex(), version.records())),
+        Outcome::New(version) => Some(standing(&version.apex().to_name(), version.records())),
         _ => None,
     }
 }

@@ -210,7 +210,8 @@ fn counted<'a, L: Ledger>(blank: Blank, version: &'a Version, name: &Name, kind:
 /// That this is found for a name and a type.
 fn expect(rt: &impl Abort, version: &Version, asked: &str, kind: u16, wanted: Seen) {
     let name = name(rt, asked);
-    assert!(rt; name.is_within(version.apex()), "{asked}");
+    let apex = version.apex();
+    assert!(rt; name.as_ref().is_within(&apex), "{asked}");
     let found = shown(rt, counted::<Brand>(Blank::new(1), version, &name, kind));
     assert_eq!(rt; found, wanted, "{asked} {kind}");
 }
@@ -371,7 +372,8 @@ fn expect_chain(
 ) {
     let (text, kind) = asked;
     let first = name(rt, text);
-    assert!(rt; first.is_within(version.apex()), "{text}");
+    let apex = version.apex();
+    assert!(rt; first.as_ref().is_within(&apex), "{text}");
     let mut chain = Chain::empty();
     let ended = match chase(version, &first, kind, &mut chain) {
         Last::Found(found, name) => Some((shown(rt, found), name)),

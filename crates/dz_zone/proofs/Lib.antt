@@ -4,3 +4,5 @@ pub mod RecordLemmas
 pub mod FaultLemmas
 pub mod WithinLemmas
 pub mod OwnerLemmas
+pub mod CanonicalLemmas
+pub mod ApexLemmas

@@ -1,6 +1,5 @@
 -- The owners of records in canonical order are in order.
-use Rattle.std.proofs.Common.{◌≡◌, ℕ, ◌+◌, ◌<◌, ◌≤◌, Bool, true, false, List, [], ◌∷◌, length, take, get_or, refl, sym, ◌∙◌, ap, arith}
-use Rattle.std.specs.Prelude.{nat_lt, None, Option, Some}
+use Rattle.std.proofs.Common.{◌≡◌, ℕ, ◌+◌, ◌<◌, true, List, [], length, get_or, refl, sym, ◌∙◌, ap, arith}
 use Rattle.std.specs.Ordering.{is_le, ordering_then, nat_cmp}
 use Rattle.std.specs.declared.cmp.Ordering.{Ordering}
 use Rattle.std.specs.declared.cmp.Ordering.TheVariants.{Less, Equal, Greater}
@@ -12,7 +11,7 @@ use Rattle.dz_record.specs.Record.{Record, record_order}
 use Rattle.dz_index.specs.Index.{InOrder}
 use Rattle.dz_zone.specs.Version.{owners_of}
 
-first_le : (o p q : Ordering) → ordering_then (ordering_then o p) q ≡ Less → is_le o ≡ true
+pub first_le : (o p q : Ordering) → ordering_then (ordering_then o p) q ≡ Less → is_le o ≡ true
 first_le Less p q h = refl
 first_le Equal p q h = refl
 first_le Greater p q h = absurd (cc)

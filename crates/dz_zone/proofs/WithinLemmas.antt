@@ -39,5 +39,8 @@ not_false : (b : Bool) → not b ≡ false → b ≡ true
 not_false true h = refl
 not_false false h = absurd (cc)
 
+pub all_within : (apex : List (List ℕ)) (rs : List Record) → fault_of apex rs ≡ None → (k : ℕ) (d : Record) → k < length rs → is_within (get_or rs k d).owner apex ≡ true
+all_within apex rs none k d lt = not_false _ (none_passes (λ r. not (is_within r.owner apex)) rs (none_outside apex rs none) k d lt)
+
 pub owners_within : (zone : Zone) → IsValid zone → (k : ℕ) (d : Record) → k < length zone.records → is_within (get_or zone.records k d).owner zone.apex ≡ true
-owners_within zone is k d lt = not_false _ (none_passes (λ r. not (is_within r.owner zone.apex)) zone.records (none_outside zone.apex zone.records is.faultless) k d lt)
+owners_within zone is k d lt = all_within zone.apex zone.records is.faultless k d lt

@@ -135,7 +135,8 @@ fn expect_row(rt: &impl Abort, found: &Rr, want: &Row) {
 
 /// The version holds the rows in this order.
 fn expect_rows(rt: &impl Abort, version: &Version, want: &[Row]) {
-    assert_eq!(rt; version.apex().wire(), APEX);
+    let apex = version.apex();
+    assert_eq!(rt; apex.wire(), APEX);
     assert_eq!(rt; version.records().len(), want.len(), "for {want:?}");
     for (found, row) in version.records().iter().zip(want) {
         expect_row(rt, found, row);

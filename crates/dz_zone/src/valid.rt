@@ -44,7 +44,7 @@ pub(crate) fn fault_of(apex: &Name, records: &[Rr]) -> Option<ZoneFault>
 }
 
 /// Whether it is a record of the apex and of the type.
-pub(crate) fn at_apex(kind: u16, apex: &Name, found: &Rr) -> bool
+fn at_apex(kind: u16, apex: &Name, found: &Rr) -> bool
     ensures { result ≡ at_apex kind apex.now found.now }
 {
     found.kind() == kind && found.is_owned_by(apex)

@@ -12,19 +12,18 @@ ghost use Rattle.dz_zone.specs.Valid.{at_apex};
 use crate::fault::ZoneError;
 use crate::indexing::{has_cuts, index_of};
 use crate::order::tidy;
-use crate::valid::{at_apex, fault_of};
+use crate::valid::fault_of;
 use dz_index::Index;
-use dz_name::Name;
 use dz_name::dns::TYPE_SOA;
+use dz_name::{Name, NameRef};
 use dz_record::{Rr, Soa, look_at_all};
 use std::alloc::Global;
 use std::marker::Model;
 
-/// A version of a zone: the name of its apex, and its distinct records in canonical order, which have no fault. Beside
-/// them stand an index of the owners, and whether there is a zone cut.
+/// A version of a zone: its distinct records in canonical order, which have no fault, so that the apex owns the first.
+/// Beside them stand an index of the owners, and whether there is a zone cut.
 #[derive(Debug, Drop)]
 pub struct Version {
-    apex: Name,
     records: Vec<Rr>,
     index: Index,
     has_cuts: bool,
@@ -32,21 +31,24 @@ pub struct Version {
 
 impl Model for Version {
     ghost use Rattle.dz_zone.specs.Version.{Zone};
-    ghost use Rattle.dz_zone.specs.inner.Kept.{IsKept};
+    ghost use Rattle.dz_zone.specs.inner.Kept.{zone_in, IsKept};
 
     ghost Value = { Zone };
 
-    ghost view = { λ v. record { apex = v.apex; records = v.records.items } };
+    ghost view = { λ v. zone_in v.records.items };
 
-    ghost invariant = { λ v. IsKept (record { apex = v.apex; records = v.records.items }) v.index v.has_cuts };
+    ghost invariant = { λ v. IsKept (zone_in v.records.items) v.index v.has_cuts };
 }
 
 impl Version {
-    /// The name of the apex.
-    pub fn apex(&self) -> &Name
-        ensures { result.now ≡ self.now.apex }
+    /// The name of the apex, where it stands in the first record.
+    pub fn apex(&self) -> NameRef<'_>
+        ensures { result ≡ self.now.apex }
     {
-        &self.apex
+        match self.records.as_slice() {
+            [first, ..] => first.owner_ref(),
+            [] => unreachable!(),
+        }
     }
 
     /// All records, in the order of owner, type and RDATA.
@@ -77,7 +79,7 @@ impl Version {
     pub fn apex_soa(&self) -> &Rr
         ensures { Some result.now ≡ apex_soa self.now }
     {
-        match find_at_apex(TYPE_SOA, &self.apex, self.records.as_slice()) {
+        match find_at_apex(TYPE_SOA, &self.apex(), self.records.as_slice()) {
             Some(record) => record,
             None => unreachable!(),
         }
@@ -107,7 +109,6 @@ pub fn check(alloc: Global, apex: &Name, mut records: Vec<Rr>) -> Result<Version
             let index = index_of(alloc, records.as_slice())?;
             let has_cuts = has_cuts(apex, records.as_slice());
             Ok(Version {
-                apex: *apex,
                 records,
                 index,
                 has_cuts,
@@ -126,8 +127,10 @@ fn are_records(records: &[Rr]) -> bool
 }
 
 /// The first record of the apex and of the type, if there is one.
-fn find_at_apex<'a>(kind: u16, apex: &Name, records: &'a [Rr]) -> Option<&'a Rr>
+fn find_at_apex<'a>(kind: u16, apex: &NameRef, records: &'a [Rr]) -> Option<&'a Rr>
     ensures { option_map (λ r. r.now) result ≡ find (at_apex kind apex.now) records.now }
 {
-    records.iter().find(|r| at_apex(kind, apex, r))
+    records
+        .iter()
+        .find(|r| r.kind() == kind && r.owner_ref().same(apex))
 }

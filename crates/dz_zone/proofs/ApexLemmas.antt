@@ -1,0 +1,80 @@
+-- The apex of a zone without a fault owns the first of its records in canonical order.
+use Rattle.std.proofs.Common.{◌≡◌, ℕ, ◌<◌, Bool, true, false, None, List, [], ◌∷◌, length, refl, sym, subst, inl, inr, arith}
+use Rattle.std.specs.Prelude.{◌==◌, ◌&&◌, not}
+use Rattle.std.specs.List.{All, AllByRecursion, list_any}
+use Rattle.std.specs.List.Sorted.{IsStrictlySortedBy}
+use Rattle.std.specs.Cmp.{tied_itself}
+use Rattle.std.specs.Ordering.{is_lt, is_le, nat_cmp}
+use Rattle.std.specs.declared.cmp.Ordering.{Ordering}
+use Rattle.std.specs.declared.cmp.Ordering.TheVariants.{Less, Equal, Greater}
+use Rattle.std.proofs.lemmas.Bool.{cases_Bool, and_parts}
+use Rattle.dz_name.specs.Name.{canonical_order, same_name}
+use Rattle.dz_name.specs.Order.{canonical_total, canonical_same, same_decides}
+use Rattle.dz_record.specs.Record.{Record, IsRecord, record_order}
+use Rattle.dz_record.specs.Records.{distinct, in_order}
+use Rattle.dz_index.specs.inner.Rows.{Rows, IsIndex}
+use Rattle.dz_zone.specs.Valid.{at_apex, fault_of}
+use Rattle.dz_zone.specs.Version.{zone_of, owners_of}
+use Rattle.dz_zone.specs.inner.Kept.{apex_in, zone_in, IsKept}
+use Rattle.dz_zone.proofs.CanonicalLemmas.{within_not_less}
+use Rattle.dz_zone.proofs.FaultLemmas.{has_soa}
+use Rattle.dz_zone.proofs.OwnerLemmas.{first_le}
+use Rattle.dz_zone.proofs.WithinLemmas.{all_within}
+
+neither_less : (o : Ordering) → is_le o ≡ true → is_lt o ≡ false → o ≡ Equal
+neither_less Less a b = absurd (cc)
+neither_less Equal a b = refl
+neither_less Greater a b = absurd (cc)
+
+before_apex : (apex : List (List ℕ)) (r s : Record) → record_order r s ≡ Less → at_apex 6 apex s ≡ true → is_le (canonical_order r.owner apex) ≡ true
+before_apex apex r s less at =
+    let e : s.owner ≡ apex = (same_decides s.owner apex).0 ((and_parts (s.kind == 6) (same_name s.owner apex) at).1) in
+    subst (λ n. is_le (canonical_order r.owner n) ≡ true) e (first_le (canonical_order r.owner s.owner) (nat_cmp r.kind s.kind) _ less)
+
+-- a record before one of the apex has no owner behind the apex
+before_some : (apex : List (List ℕ)) (r : Record) (ss : List Record) → AllByRecursion (λ s. record_order r s ≡ Less) ss → list_any (at_apex 6 apex) ss ≡ true
+    → is_le (canonical_order r.owner apex) ≡ true
+before_some apex r [] up some = absurd (cc)
+before_some apex r (s ∷ ss) up some =
+    elim (cases_Bool (at_apex 6 apex s)) [
+      | inl t ↦ before_apex apex r s up.0 t
+      | inr f ↦ before_some apex r ss up.1 (rw f at some)
+    ]
+
+itself_le : (apex : List (List ℕ)) (r : Record) → at_apex 6 apex r ≡ true → is_le (canonical_order r.owner apex) ≡ true
+itself_le apex r at =
+    let e : r.owner ≡ apex = (same_decides r.owner apex).0 ((and_parts (r.kind == 6) (same_name r.owner apex) at).1) in
+    rw (e, tied_itself canonical_total apex) refl
+
+first_not_behind : (apex : List (List ℕ)) (r : Record) (rs : List Record) → IsStrictlySortedBy record_order (r ∷ rs) → list_any (at_apex 6 apex) (r ∷ rs) ≡ true
+    → is_le (canonical_order r.owner apex) ≡ true
+unfolding IsStrictlySortedBy
+first_not_behind apex r rs up some =
+    elim (cases_Bool (at_apex 6 apex r)) [
+      | inl t ↦ itself_le apex r t
+      | inr f ↦ before_some apex r rs up.0 (rw f at some)
+    ]
+
+pub apex_first : (apex : List (List ℕ)) (rs : List Record) → IsStrictlySortedBy record_order rs → fault_of apex rs ≡ None → apex_in rs ≡ apex
+apex_first apex [] up none = absurd (let t = has_soa apex [] none in cc)
+apex_first apex (r ∷ rs) up none =
+    let low : is_lt (canonical_order r.owner apex) ≡ false = within_not_less r.owner apex (all_within apex (r ∷ rs) none 0 r (omega arith)) in
+    canonical_same r.owner apex (neither_less (canonical_order r.owner apex) (first_not_behind apex r rs up (has_soa apex (r ∷ rs) none)) low)
+
+pub some_records : (apex : List (List ℕ)) (rs : List Record) → fault_of apex rs ≡ None → 0 < length rs
+some_records apex [] none = absurd (let t = has_soa apex [] none in cc)
+some_records apex (r ∷ rs) none = omega arith
+
+pub zone_made : (apex : List (List ℕ)) (tidied records : List Record) → IsStrictlySortedBy record_order tidied → fault_of apex tidied ≡ None → tidied ≡ in_order (distinct records)
+    → zone_in tidied ≡ zone_of apex records
+zone_made apex tidied records up none e = rw (apex_first apex tidied up none, e) refl
+
+pub kept_made : (apex : List (List ℕ)) (rs : List Record) (index : Rows) (cuts : Bool) → IsStrictlySortedBy record_order rs → fault_of apex rs ≡ None → All IsRecord rs
+    → IsIndex (owners_of rs) index → cuts ≡ list_any (λ r. r.kind == 2 && not (same_name r.owner apex)) rs → IsKept (zone_in rs) index cuts
+kept_made apex rs index cuts up none held is has =
+    let e = sym (apex_first apex rs up none) in
+    record {
+      version = record { valid = record { rises = up; faultless = subst (λ a. fault_of a rs ≡ None) e none }; held = held };
+      indexed = is;
+      cuts_are = subst (λ a. cuts ≡ list_any (λ r. r.kind == 2 && not (same_name r.owner a)) rs) e has;
+    }
