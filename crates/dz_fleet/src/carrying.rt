@@ -84,7 +84,11 @@ fn carried(
         None => Values::fresh(),
         Some(held) => {
             if held.incarnation() == member.incarnation() {
-                kept(value_in(before, schedule, place, member.zone()), &held, member)
+                kept(
+                    value_in(before, schedule, place, member.zone()),
+                    &held,
+                    member,
+                )
             } else {
                 Values::fresh()
             }
