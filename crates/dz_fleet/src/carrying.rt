@@ -7,7 +7,7 @@ ghost use Rattle.dz_history.specs.Places.{place_at};
 ghost use Rattle.dz_schedule.specs.Values.{fresh};
 ghost use Rattle.dz_fleet.specs.Values.{value_at, value_in, kept, same_primaries, carried, relisted_values};
 
-use crate::places::place_of;
+use crate::places::place_near;
 use dz_history::Holdings;
 use dz_member::{Fold, Member};
 use dz_name::{Name, Octets};
@@ -63,21 +63,32 @@ fn carry(
     ensures { IfOk result (λ _. values.new.items
         ≡ values.old.items ++ map (carried before.now schedule.now) after.now.members) }
 {
+    let mut likely = 0;
     'members: for place in 0..after.count() {
-        values.push(carried(before, schedule, &after.member(place)))?;
+        values.push(carried(before, schedule, &mut likely, &after.member(place)))?;
     }
     Ok(())
 }
 
-/// The values of a member after a listing.
-fn carried(before: &Holdings, schedule: &Schedule, member: &Member<'_>) -> Values
+/// The values of a member after a listing. What it was before is looked for first at a likely place.
+fn carried(
+    before: &Holdings,
+    schedule: &Schedule,
+    likely: &mut usize,
+    member: &Member<'_>,
+) -> Values
     ensures { result ≡ carried before.now schedule.now member.now }
 {
-    match before.fold().find(member.zone()) {
+    let place = *likely;
+    match before.fold().find_near(likely, member.zone()) {
         None => Values::fresh(),
         Some(held) => {
             if held.incarnation() == member.incarnation() {
-                kept(value_in(before, schedule, member.zone()), &held, member)
+                kept(
+                    value_in(before, schedule, place, member.zone()),
+                    &held,
+                    member,
+                )
             } else {
                 Values::fresh()
             }
@@ -85,11 +96,11 @@ fn carried(before: &Holdings, schedule: &Schedule, member: &Member<'_>) -> Value
     }
 }
 
-/// The values of a zone.
-fn value_in(holdings: &Holdings, schedule: &Schedule, zone: &Name) -> Values
+/// The values of a zone, which is looked for first at a likely place.
+fn value_in(holdings: &Holdings, schedule: &Schedule, likely: usize, zone: &Name) -> Values
     ensures { result ≡ value_in schedule.now (place_at holdings.now zone.now) }
 {
-    match place_of(holdings, zone) {
+    match place_near(holdings, likely, zone) {
         None => Values::fresh(),
         Some(place) => value_at(schedule, place),
     }

@@ -10,12 +10,19 @@ use dz_name::Name;
 pub(crate) fn place_of(holdings: &Holdings, zone: &Name) -> Option<usize>
     ensures { result ≡ place_at holdings.now zone.now }
 {
+    place_near(holdings, 0, zone)
+}
+
+/// The same. Among the members the zone is looked for first at a place where it is likely.
+pub(crate) fn place_near(holdings: &Holdings, likely: usize, zone: &Name) -> Option<usize>
+    ensures { result ≡ place_at holdings.now zone.now }
+{
     let fold = holdings.fold();
     let catalogs = fold.catalogs();
     let _members = fold.memberships();
     match fold.catalog_number(zone) {
         Some(number) => Some(number),
-        None => match fold.place_of(zone) {
+        None => match fold.place_near(likely, zone) {
             Some(place) => Some(catalogs.len() + place),
             None => None,
         },

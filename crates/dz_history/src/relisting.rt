@@ -38,16 +38,23 @@ fn slots_after(
         ≡ map (λ m. slot_after before.now (shown before.now.fold.config m)) memberships.now) }
 {
     let mut slots = Vec::with_capacity(alloc, memberships.len())?;
+    let mut likely = 0;
     'members: for membership in memberships {
-        slots.push(slot_after(alloc, before, membership)?)?;
+        slots.push(slot_after(alloc, before, &mut likely, membership)?)?;
     }
     Ok(slots)
 }
 
-fn slot_after(alloc: Global, before: &Holdings, membership: &Membership) -> Result<Slot, AllocError>
+/// The slot of a member, whose membership before is looked for first at a likely place.
+fn slot_after(
+    alloc: Global,
+    before: &Holdings,
+    likely: &mut usize,
+    membership: &Membership,
+) -> Result<Slot, AllocError>
     ensures { IfOk result (λ slot. slot ≡ slot_after before.now (shown before.now.fold.config membership.now)) }
 {
-    match before.fold().find(&membership.zone) {
+    match before.fold().find_near(likely, &membership.zone) {
         Some(member) => {
             if member.incarnation() == membership.incarnation {
                 same_slot(alloc, before.table(), &membership.zone)

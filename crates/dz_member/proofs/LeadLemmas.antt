@@ -42,25 +42,53 @@ lead_less (suc n) xs [] h = absurd (not_less _ (none_less (suc n) xs) h)
 lead_less (suc n) [] (y ∷ ys) h = refl
 lead_less (suc n) (x ∷ xs) (y ∷ ys) h = then_less (nat_cmp x y) _ _ (lead_less n xs ys) h
 
--- where the first octets of two keys differ, they decide as the names do
-lead_decides_less : (a b : List (List ℕ)) → slice_cmp nat_cmp (lead_of 32 (key_of a)) (lead_of 32 (key_of b)) ≡ Less → canonical_order a b ≡ Less
-lead_decides_less a b h = sym (key_order a b) ∙ lead_less 32 (key_of a) (key_of b) h
+-- behind octets that tie the next ones decide
+then_tied : (o p q : Ordering) → ordering_then o p ≡ Equal → (p ≡ Equal → q ≡ Less) → ordering_then o q ≡ Less
+then_tied Less p q e f = absurd (cc)
+then_tied Equal p q e f = f e
+then_tied Greater p q e f = absurd (cc)
 
-lead_decides_greater : (a b : List (List ℕ)) → slice_cmp nat_cmp (lead_of 32 (key_of a)) (lead_of 32 (key_of b)) ≡ Greater → canonical_order a b ≡ Greater
-lead_decides_greater a b h =
-    let less = lead_less 32 (key_of b) (key_of a) ((lists_total nat_cmp_total).antisymm (lead_of 32 (key_of b)) (lead_of 32 (key_of a)) ∙ ap ordering_reverse h) in
-    sym (key_order a b) ∙ ((lists_total nat_cmp_total).antisymm (key_of a) (key_of b) ∙ ap ordering_reverse less)
+next_less : (n m : ℕ) (xs ys : List ℕ) → slice_cmp nat_cmp (lead_of n xs) (lead_of n ys) ≡ Equal → slice_cmp nat_cmp (lead_of m (drop n xs)) (lead_of m (drop n ys)) ≡ Less → slice_cmp nat_cmp xs ys ≡ Less
+unfolding lead_of
+next_less zero m xs ys e h = lead_less m xs ys h
+next_less (suc n) m [] [] e h = lead_less m [] [] h
+next_less (suc n) m [] (y ∷ ys) e h = refl
+next_less (suc n) m (x ∷ xs) [] e h = absurd (not_less _ (none_less m (drop n xs)) h)
+next_less (suc n) m (x ∷ xs) (y ∷ ys) e h = then_tied (nat_cmp x y) _ _ e (λ t. next_less n m xs ys t h)
 
-pub lead_decides : (a b p q : List (List ℕ)) (x y : List ℕ) (o : Ordering) → p ≡ a → q ≡ b → x ≡ lead_of 32 (key_of p) → y ≡ lead_of 32 (key_of q) → o ≡ slice_cmp nat_cmp x y → ¬ (o ≡ Equal) → o ≡ canonical_order a b
-lead_decides a b p q x y o is_a is_b lead_p lead_q e apart = go o refl
+-- where octets of two keys differ, they decide as the names do
+turned : (xs ys : List ℕ) (o : Ordering) → slice_cmp nat_cmp xs ys ≡ o → slice_cmp nat_cmp ys xs ≡ ordering_reverse o
+turned xs ys o h = (lists_total nat_cmp_total).antisymm ys xs ∙ ap ordering_reverse h
+
+decided : (a b : List (List ℕ)) (x y : List ℕ) (o : Ordering) → (slice_cmp nat_cmp x y ≡ Less → slice_cmp nat_cmp (key_of a) (key_of b) ≡ Less) → (slice_cmp nat_cmp y x ≡ Less → slice_cmp nat_cmp (key_of b) (key_of a) ≡ Less)
+    → o ≡ slice_cmp nat_cmp x y → ¬ (o ≡ Equal) → o ≡ canonical_order a b
+decided a b x y o up down e apart = go o refl
   where
-    decided : o ≡ slice_cmp nat_cmp (lead_of 32 (key_of a)) (lead_of 32 (key_of b))
-    decided = e ∙ (ap (λ l. slice_cmp nat_cmp l y) (lead_p ∙ ap (λ n. lead_of 32 (key_of n)) is_a) ∙ ap (slice_cmp nat_cmp (lead_of 32 (key_of a))) (lead_q ∙ ap (λ n. lead_of 32 (key_of n)) is_b))
-
     go : (r : Ordering) → o ≡ r → o ≡ canonical_order a b
-    go Less h = h ∙ sym (lead_decides_less a b (sym decided ∙ h))
+    go Less h = h ∙ sym (sym (key_order a b) ∙ up (sym e ∙ h))
     go Equal h = absurd (apart h)
-    go Greater h = h ∙ sym (lead_decides_greater a b (sym decided ∙ h))
+    go Greater h = h ∙ sym (sym (key_order a b) ∙ turned (key_of b) (key_of a) Less (down (turned x y Greater (sym e ∙ h))))
+
+abbrev first_of : List (List ℕ) → List ℕ
+first_of n = lead_of 16 (key_of n)
+
+abbrev second_of : List (List ℕ) → List ℕ
+second_of n = lead_of 16 (drop 16 (key_of n))
+
+pub first_tied : (a b p q : List (List ℕ)) (x y : List ℕ) (o : Ordering) → p ≡ a → q ≡ b → x ≡ lead_of 16 (key_of p) → y ≡ lead_of 16 (key_of q) → o ≡ slice_cmp nat_cmp x y → o ≡ Equal → slice_cmp nat_cmp (lead_of 16 (key_of a)) (lead_of 16 (key_of b)) ≡ Equal
+first_tied a b p q x y o is_a is_b lead_p lead_q e tied =
+    ap (λ l. slice_cmp nat_cmp l (first_of b)) (sym (lead_p ∙ ap first_of is_a)) ∙ (ap (slice_cmp nat_cmp x) (sym (lead_q ∙ ap first_of is_b)) ∙ (sym e ∙ tied))
+
+pub first_decides : (a b p q : List (List ℕ)) (x y : List ℕ) (o : Ordering) → p ≡ a → q ≡ b → x ≡ lead_of 16 (key_of p) → y ≡ lead_of 16 (key_of q) → o ≡ slice_cmp nat_cmp x y → ¬ (o ≡ Equal) → o ≡ canonical_order a b
+first_decides a b p q x y o is_a is_b lead_p lead_q e apart =
+    decided a b (first_of a) (first_of b) o (lead_less 16 (key_of a) (key_of b)) (lead_less 16 (key_of b) (key_of a))
+    (e ∙ (ap (λ l. slice_cmp nat_cmp l y) (lead_p ∙ ap first_of is_a) ∙ ap (slice_cmp nat_cmp (first_of a)) (lead_q ∙ ap first_of is_b))) apart
+
+pub second_decides : (a b p q : List (List ℕ)) (x y : List ℕ) (o : Ordering) → p ≡ a → q ≡ b → x ≡ lead_of 16 (drop 16 (key_of p)) → y ≡ lead_of 16 (drop 16 (key_of q))
+    → slice_cmp nat_cmp (lead_of 16 (key_of a)) (lead_of 16 (key_of b)) ≡ Equal → o ≡ slice_cmp nat_cmp x y → ¬ (o ≡ Equal) → o ≡ canonical_order a b
+second_decides a b p q x y o is_a is_b lead_p lead_q tied e apart =
+    decided a b (second_of a) (second_of b) o (next_less 16 16 (key_of a) (key_of b) tied) (next_less 16 16 (key_of b) (key_of a) (turned (first_of a) (first_of b) Equal tied))
+    (e ∙ (ap (λ l. slice_cmp nat_cmp l y) (lead_p ∙ ap second_of is_a) ∙ ap (slice_cmp nat_cmp (second_of a)) (lead_q ∙ ap second_of is_b))) apart
 
 -- the first octets, and zeros where there are fewer
 lead_made : (n k : ℕ) (xs : List ℕ) → k ≡ min (length xs) n → take k xs ++ drop k (lead_of n []) ≡ lead_of n xs
@@ -72,6 +100,6 @@ lead_made (suc n) (suc k) [] e = absurd (omega arith)
 lead_made (suc n) zero (x ∷ xs) e = absurd (omega arith)
 lead_made (suc n) (suc k) (x ∷ xs) e = ap (λ l. x ∷ l) (lead_made n k xs (omega arith))
 
-pub lead_is : (xs part : List ℕ) (k : ℕ) → k ≡ min (length xs) 32 → part ≡ take k xs → part ++ drop k (0 ∷ 0 ∷ 0 ∷ 0 ∷ 0 ∷ 0 ∷ 0 ∷ 0 ∷ 0 ∷ 0 ∷ 0 ∷ 0 ∷ 0 ∷ 0 ∷ 0 ∷ 0 ∷ 0 ∷ 0 ∷ 0 ∷ 0 ∷ 0 ∷ 0 ∷ 0 ∷ 0 ∷ 0 ∷ 0 ∷ 0 ∷ 0 ∷ 0 ∷ 0 ∷ 0 ∷ 0 ∷ []) ≡ lead_of 32 xs
+pub lead_is : (xs part : List ℕ) (k : ℕ) → k ≡ min (length xs) 16 → part ≡ take k xs → part ++ drop k (0 ∷ 0 ∷ 0 ∷ 0 ∷ 0 ∷ 0 ∷ 0 ∷ 0 ∷ 0 ∷ 0 ∷ 0 ∷ 0 ∷ 0 ∷ 0 ∷ 0 ∷ 0 ∷ []) ≡ lead_of 16 xs
 unfolding lead_of
-lead_is xs part k e p = ap (λ l. l ++ drop k (0 ∷ 0 ∷ 0 ∷ 0 ∷ 0 ∷ 0 ∷ 0 ∷ 0 ∷ 0 ∷ 0 ∷ 0 ∷ 0 ∷ 0 ∷ 0 ∷ 0 ∷ 0 ∷ 0 ∷ 0 ∷ 0 ∷ 0 ∷ 0 ∷ 0 ∷ 0 ∷ 0 ∷ 0 ∷ 0 ∷ 0 ∷ 0 ∷ 0 ∷ 0 ∷ 0 ∷ 0 ∷ [])) p ∙ lead_made 32 k xs e
+lead_is xs part k e p = ap (λ l. l ++ drop k (0 ∷ 0 ∷ 0 ∷ 0 ∷ 0 ∷ 0 ∷ 0 ∷ 0 ∷ 0 ∷ 0 ∷ 0 ∷ 0 ∷ 0 ∷ 0 ∷ 0 ∷ 0 ∷ [])) p ∙ lead_made 16 k xs e

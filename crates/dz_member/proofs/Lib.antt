@@ -8,6 +8,7 @@ pub mod LawLemmas
 pub mod LeadLemmas
 pub mod ListingLemmas
 pub mod NumberLemmas
+pub mod OctetLemmas
 pub mod OrderLemmas
 pub mod PlaceLemmas
 pub mod ProcessLemmas
