@@ -1,5 +1,5 @@
 -- A sorted list under changes: the elements that still stand, and those that overlaid.
-use Rattle.std.proofs.Common.{◌≡◌, ℕ, zero, suc, ◌<◌, Bool, true, false, not, ◌||◌, List, [], ◌∷◌, ◌++◌, append_assoc, is_lt, length, map, get_or, set, refl, sym, ◌∙◌, ap, subst, is_gt, is_eq, Ordering, Less, Equal, Greater, inl, inr, arith}
+use Rattle.std.proofs.Common.{◌≡◌, ℕ, zero, suc, ◌+◌, ◌-◌, ◌<◌, Bool, true, false, not, ◌||◌, List, [], ◌∷◌, ◌++◌, append_assoc, is_lt, length, take, map, get_or, set, refl, sym, ◌∙◌, ap, subst, is_gt, is_eq, Ordering, Less, Equal, Greater, inl, inr, arith}
 use Rattle.std.specs.Prelude.{filter, if◌then◌else◌}
 use Rattle.std.specs.List.{AllByRecursion, list_any}
 use Rattle.std.specs.List.Sorted.{IsStrictlySortedBy}
@@ -8,7 +8,7 @@ use Rattle.std.specs.Cmp.{IsTotalOrder}
 use Rattle.std.specs.BTreeSet.{insert_key}
 use Rattle.std.specs.BTreeMap.{is_at}
 use Rattle.std.specs.Set.{remove_key}
-use Rattle.dz_ixfr.specs.inner.Overlay.{Flagged, flagged, fallen, items, left_of, placed, overlaid, Rises, AreApart, IsOverlay, first_before, Moves}
+use Rattle.dz_ixfr.specs.inner.Overlay.{Flagged, flagged, fallen, items, left_of, placed, overlaid, Rises, AreApart, IsOverlay, first_before, AreAhead, Moves}
 use Rattle.std.proofs.lemmas.List.{append-nil}
 use Rattle.std.proofs.lemmas.Bool.{cases_Bool, both_ways, or_parts}
 
@@ -517,6 +517,67 @@ module _ {X : Type 0} (R : X → X → Ordering) (o : IsTotalOrder R) where
   pub merge_skip : (b : Flagged X) (rest : List (Flagged X)) (out keys : List X) → IsOverlay R (b ∷ rest) keys → b.stands ≡ false → IsOverlay R rest keys × (out ++ overlaid R keys (left_of rest) ≡ out ++ overlaid R keys (left_of (b ∷ rest)))
   unfolding left_of
   merge_skip b rest out keys h f = (record { base = h.base.1; added = h.added; apart = rw f at h.apart }, rw f refl)
+
+  -- the same in front of any elements behind the bound
+  moved_over : (moved left zs : List X) (b : X) → Rises R (moved ++ left) → AllByRecursion (λ x. R x b ≡ Less) moved → AllByRecursion (λ z. R b z ≡ Less) zs → overlaid R (moved ++ left) zs ≡ moved ++ overlaid R left zs
+  moved_over [] left zs b h m z = refl
+  moved_over (x ∷ moved) left zs b h m z =
+      merge_set x (moved ++ left) zs h.0 (all_less x b zs m.0 z) ∙ ap (λ l. x ∷ l) (moved_over moved left zs b h.1 m.1 z)
+
+  -- an element that has fallen is passed
+  pub merge_gone : (b : Flagged X) (item : X) (all rest : List (Flagged X)) (out keys new left total : List X) → all ≡ b ∷ rest → item ≡ b.item → b.stands ≡ false → IsOverlay R all keys → out ++ overlaid R keys (left_of all) ≡ total
+      → Moves R out keys item new left → IsOverlay R rest left × (new ++ overlaid R left (left_of rest) ≡ total)
+  unfolding left_of
+  merge_gone b item all rest out keys new left total e i t h f n =
+      let m = subst (λ x. Moves R out keys x new left) i n in
+      let g = subst (λ l. IsOverlay R l keys) e h in
+      let skip = merge_skip b rest out keys g t in
+      let rises = subst (Rises R) m.added_are g.added in
+      let apart = apart_behind m.moved left (left_of rest) (subst (λ l. AreApart R l (left_of rest)) m.added_are skip.0.apart) in
+      let behind_b = all_kept (λ y. R b.item y ≡ Less) rest g.base.0 in
+      let whole : overlaid R keys (left_of rest) ≡ m.moved ++ overlaid R left (left_of rest) =
+      ap (λ l. overlaid R l (left_of rest)) m.added_are ∙ moved_over m.moved left (left_of rest) b.item rises m.before behind_b in (
+        record { base = g.base.1; added = rises_left m.moved left rises; apart = apart },
+        ap (λ l. l ++ overlaid R left (left_of rest)) m.new_is
+            ∙ (append_assoc out m.moved (overlaid R left (left_of rest)) ∙ (ap (λ l. out ++ l) (sym whole) ∙ (skip.1 ∙ (ap (λ l. out ++ overlaid R keys (left_of l)) (sym e) ∙ f)))),
+      )
+
+  rises_to : (a : X) (base : List (Flagged X)) (n : ℕ) (far : Flagged X) → AllByRecursion (λ y. R a y ≡ Less) (items base) → n < length base → far ≡ get_or base n far → R a far.item ≡ Less
+  rises_to a [] n far h l e = absurd (omega arith)
+  rises_to a (b ∷ base) zero far h l e = subst (λ k. R a k.item ≡ Less) (sym e) h.0
+  rises_to a (b ∷ base) (suc n) far h l e = rises_to a base n far h.1 (omega arith) e
+
+  not_before : (keys : List X) (a b : X) → R a b ≡ Less → first_before R keys b ≡ false → first_before R keys a ≡ false
+  not_before [] a b l f = refl
+  not_before (x ∷ keys) a b l f =
+      elim (cases_Bool (is_lt (R x a))) [
+        | inl t ↦ absurd (both_ways (is_lt (R x b)) f (ap is_lt (o.trans x a b (lt_is_less (R x a) t) l)))
+        | inr g ↦ g
+      ] where
+        lt_is_less : (v : Ordering) → is_lt v ≡ true → v ≡ Less
+        lt_is_less Less h = refl
+        lt_is_less Equal h = absurd (cc)
+        lt_is_less Greater h = absurd (cc)
+
+  -- where the first doesn't come before an element, it comes before none in front of that one
+  pub ahead_of : (keys : List X) (base : List (Flagged X)) (n : ℕ) (far : Flagged X) → Rises R (items base) → n < length base → far ≡ get_or base n far → first_before R keys far.item ≡ false → AreAhead R keys (take (suc n) base)
+  ahead_of keys [] n far h l e f = absurd (omega arith)
+  ahead_of keys (b ∷ base) zero far h l e f = (subst (λ k. first_before R keys k.item ≡ false) e f, tt)
+  ahead_of keys (b ∷ base) (suc n) far h l e f =
+      (not_before keys b.item far.item (rises_to b.item base n far h.0 (omega arith) e) f, ahead_of keys base n far h.1 (omega arith) e f)
+
+  -- what is known of the next records, cut behind the first of them
+  pub ahead_here : (keys : List X) (all rest : List (Flagged X)) (b : Flagged X) (item : X) (n : ℕ) → all ≡ b ∷ rest → item ≡ b.item → AreAhead R keys (take n all)
+      → (0 < n → first_before R keys item ≡ false) × AreAhead R keys (take (n - 1) rest)
+  ahead_here keys all rest b item zero e i h = ((λ l. absurd (omega (arith, l))), tt)
+  ahead_here keys all rest b item (suc n) e i h =
+      let g = subst (λ l. AreAhead R keys (take (suc n) l)) e h in
+      let k : n ≡ suc n - 1 = omega arith in
+      ((λ l. ap (first_before R keys) i ∙ g.0), subst (λ m. AreAhead R keys (take m rest)) k g.1)
+
+  -- where the first doesn't come before the bound, nothing is moved
+  pub moves_none : (out keys : List X) (bound : X) → first_before R keys bound ≡ false → Moves R out keys bound out keys
+  moves_none out keys bound f = record { moved = []; added_are = refl; new_is = sym (append-nil out); before = tt; stops = f }
 
   pub overlaid_none : (keys : List X) → Rises R keys → overlaid R keys (left_of []) ≡ keys
   unfolding left_of overlaid

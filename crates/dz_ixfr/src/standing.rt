@@ -1,6 +1,6 @@
 //! What stands of a held zone while differences are applied.
 
-ghost use Rattle.std.specs.Prelude.{◌≡◌, ◌<◌, [], false, length, not, filter, map, slice_index_or, slice_set, IfOk, OnErr, OnOk};
+ghost use Rattle.std.specs.Prelude.{◌≡◌, ◌-◌, ◌<◌, [], false, length, take, not, filter, map, slice_index_or, slice_set, IfOk, OnErr, OnOk};
 ghost use Rattle.std.specs.BTreeMap.{is_at};
 ghost use Rattle.std.specs.BTreeSet.{insert_key};
 ghost use Rattle.std.specs.Bool.{OnTrue, OnFalse};
@@ -10,7 +10,7 @@ ghost use Rattle.dz_record.specs.Record.{Record, record_order};
 ghost use Rattle.dz_record.specs.Records.{insertion};
 ghost use Rattle.dz_form.specs.Apex.{is_apex_soa};
 ghost use Rattle.dz_ixfr.specs.Incremental.{is_there, without, others};
-ghost use Rattle.dz_ixfr.specs.inner.Overlay.{Flagged, flagged, fallen, items, left_of, overlaid, has_tie, Rises, Finds, IsOverlay, first_before, Moves};
+ghost use Rattle.dz_ixfr.specs.inner.Overlay.{Flagged, flagged, fallen, items, left_of, overlaid, has_tie, Rises, Finds, IsOverlay, first_before, AreAhead, Moves};
 
 use dz_form::is_apex_soa;
 use dz_name::Name;
@@ -18,8 +18,11 @@ use dz_record::Rr;
 use dz_zone::Version;
 use std::alloc::{AllocError, Global};
 use std::cmp::Ordering;
-use std::collections::BTreeSet;
+use std::collections::{BTreeSet, VecDeque};
 use std::marker::Model;
+
+/// One comparison lets so many records pass where none that joined stands among them.
+const STRIDE: usize = 32;
 
 /// A record of the held zone, and whether it still stands.
 #[derive(Debug, Drop)]
@@ -225,17 +228,51 @@ fn push_before(out: &mut Vec<Rr>, added: &mut BTreeSet<Rr>, bound: &Rr) -> Resul
     Ok(())
 }
 
+/// How many of the next records surely come before all that joined, by one comparison.
+fn ahead(rest: &VecDeque<Held>, added: &BTreeSet<Rr>) -> usize
+    requires { Rises record_order (items rest.now.items) }
+    ensures { AreAhead record_order added.now.keys (take result rest.now.items) }
+{
+    match rest.get(STRIDE - 1) {
+        Some(far) if !comes_first(added, far.record()) => STRIDE,
+        _ => 0,
+    }
+}
+
+/// Moves what joined in front of a record, and says how many of the next records need no look. So many needed none
+/// before this one.
+fn pass_to(
+    record: &Rr,
+    rest: &VecDeque<Held>,
+    free: usize,
+    out: &mut Vec<Rr>,
+    added: &mut BTreeSet<Rr>,
+) -> Result<usize, AllocError>
+    requires rises { Rises record_order (items rest.now.items) }
+    requires here { 0 < free → first_before record_order added.old.keys record.now ≡ false }
+    requires next { AreAhead record_order added.old.keys (take (free - 1) rest.now.items) }
+    ensures moves { OnOk result (Moves record_order out.old.items added.old.keys record.now out.new.items added.new.keys) }
+    ensures ahead { IfOk result (λ n. AreAhead record_order added.new.keys (take n rest.now.items)) }
+{
+    if free == 0 {
+        push_before(out, added, record)?;
+        return Ok(ahead(rest, added));
+    }
+    Ok(free - 1)
+}
+
 /// The records that stand and those that joined, in order, in one pass.
 fn merged(alloc: Global, base: Vec<Held>, mut added: BTreeSet<Rr>) -> Result<Vec<Rr>, AllocError>
     requires { IsOverlay record_order base.items added.keys }
     ensures { IfOk result (λ v. v.items ≡ overlaid record_order added.keys (left_of base.items)) }
 {
     let mut out = Vec::with_capacity(alloc, base.len().saturating_add(added.len()))?;
-    let mut rest = base.into_iter();
-    'base: while let Some(held) = rest.next() {
+    let mut rest = VecDeque::from(base);
+    let mut free = 0;
+    'base: while let Some(held) = rest.pop_front() {
         let Held { record, stands } = held;
+        free = pass_to(&record, &rest, free, &mut out, &mut added)?;
         if stands {
-            push_before(&mut out, &mut added, &record)?;
             out.push(record)?;
         }
     }

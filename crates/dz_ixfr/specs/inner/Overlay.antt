@@ -71,6 +71,10 @@ abbrev pub first_before : {X : Type 0} → (X → X → Ordering) → List X →
 first_before R [] bound = false
 first_before R (x ∷ xs) bound = is_lt (R x bound)
 
+-- the first element of the one list comes before none of the others
+abbrev pub AreAhead : {X : Type 0} → (X → X → Ordering) → List X → List (Flagged X) → Type 0
+AreAhead R xs base = AllByRecursion (λ b. first_before R xs b.item ≡ false) base
+
 -- the elements in front that come before the bound were moved to the end of another list
 pub record Moves {X : Type 0} (R : X → X → Ordering) (out added : List X) (bound : X) (new left : List X) : Type 0 where
   pub moved : List X
