@@ -75,8 +75,18 @@ impl Index {
         ensures total { IfOk result (λ i. total i ≡ total self + 1) }
         ensures index { (owners : List Name) → IsIndex owners self → IsLast name.now owners → IfOk result (IsIndex (owners ++ name.now ∷ [])) }
     {
+        let mut key = SortKey::empty();
+        self.with_key(name, &mut key)
+    }
+
+    /// The same by way of a key that is there already, so that none is blanked for each of many owners.
+    pub fn with_key(self, name: &NameRef<'_>, key: &mut SortKey) -> Result<Index, AllocError>
+        requires few { total self < 250000 }
+        ensures total { IfOk result (λ i. total i ≡ total self + 1) }
+        ensures index { (owners : List Name) → IsIndex owners self → IsLast name.now owners → IfOk result (IsIndex (owners ++ name.now ∷ [])) }
+    {
         let _ = &self.firsts;
-        let key = SortKey::of(name);
+        key.set(name);
         if self.ends_in(key.octets()) {
             Ok(self.repeated())
         } else {

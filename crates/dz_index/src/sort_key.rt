@@ -33,17 +33,35 @@ impl SortKey {
     pub fn of(name: &NameRef<'_>) -> SortKey
         ensures { result ≡ key_of name.now }
     {
-        let wire = name.wire();
         let mut key = SortKey::empty();
+        key.set(name);
+        key
+    }
+
+    /// No octet yet.
+    pub fn empty() -> SortKey
+        ensures { result ≡ [] }
+    {
+        SortKey {
+            octets: [0; ROOM],
+            start: ROOM,
+        }
+    }
+
+    /// Becomes the key of a name. It costs the name's octets alone, where a new key has all of its room blanked.
+    pub fn set(&mut self, name: &NameRef<'_>)
+        ensures { self.new ≡ key_of name.now }
+    {
+        self.clear();
+        let wire = name.wire();
         let mut place = 0;
         let mut count: usize = 0;
         'labels: while wire[place] != 0 {
             let end = place + 1 + wire[place] as usize;
-            key.prepend_label(&wire[place + 1..end]);
+            self.prepend_label(&wire[place + 1..end]);
             place = end;
             count += 1;
         }
-        key
     }
 
     /// At most 512 octets.
@@ -54,13 +72,10 @@ impl SortKey {
         &self.octets[self.start..]
     }
 
-    fn empty() -> SortKey
-        ensures { result ≡ [] }
+    fn clear(&mut self)
+        ensures { self.new ≡ [] }
     {
-        SortKey {
-            octets: [0; ROOM],
-            start: ROOM,
-        }
+        self.start = ROOM;
     }
 
     /// A label in front, with the octet that ends it.

@@ -17,7 +17,7 @@ use Rattle.std.proofs.lemmas.List.Folds.{list_any_none, list_any_at, Any-from_li
 use Rattle.dz_name.specs.Name.{canonical_order, is_within}
 use Rattle.dz_name.proofs.PartLemmas.{within_suffix}
 use Rattle.dz_record.specs.Record.{Record, record_order}
-use Rattle.dz_zone.proofs.CanonicalLemmas.{prefix_both, within_not_less, between_within}
+use Rattle.dz_zone.proofs.CanonicalLemmas.{within_not_less, between_within, both_within}
 use Rattle.dz_lookup.specs.Runs.{exists}
 use Rattle.dz_lookup.specs.inner.Places.{from_owner, IsBegin}
 use Rattle.dz_name.specs.Order.{canonical_total}
@@ -61,19 +61,6 @@ exists_none zone name i begin past =
     let a : is_lt (from_owner name (get_or zone k d)) ≡ true = begin.0 k d (omega arith) (omega arith) in
     let b = within_not_less (get_or zone k d).owner name t in
     cc)))
-
--- what stands between two names within a name is within it
-both_within : (first last middle above : List (List ℕ)) → is_within first above ≡ true → is_within last above ≡ true
-    → is_lt (canonical_order middle first) ≡ false → is_gt (canonical_order middle last) ≡ false → is_within middle above ≡ true
-both_within first last middle above f l low high =
-    let v = (within_suffix first above).0 f in
-    let w = (within_suffix last above).0 l in
-    let d : reverse first ≡ reverse above ++ reverse v.0 = ap (λ xs. reverse xs) v.1 ∙ reverse-append v.0 above in
-    let e : reverse last ≡ reverse above ++ reverse w.0 = ap (λ xs. reverse xs) w.1 ∙ reverse-append w.0 above in
-    let rest = prefix_both (reverse middle) (reverse above) (reverse v.0) (reverse w.0) (rw d at low) (rw e at high) in
-    let g : middle ≡ reverse rest.0 ++ above =
-    sym (reverse-reverse middle) ∙ (ap (λ xs. reverse xs) rest.1 ∙ (reverse-append (reverse above) rest.0 ∙ ap (λ xs. reverse rest.0 ++ xs) (reverse-reverse above))) in
-    (within_suffix middle above).1 (reverse rest.0, g)
 
 less_not_gt : (o : Ordering) → is_lt o ≡ true → is_gt o ≡ false
 less_not_gt Less h = refl

@@ -14,7 +14,7 @@ cons_same : (x y : List ℕ) (a p t : List (List ℕ)) → x ≡ y → a ≡ p +
 cons_same x y a p t e f = rw (e, f) refl
 
 -- what comes neither before a list that begins with p nor after another such list begins with p
-pub prefix_both : (a p s t : List (List ℕ)) → is_lt (slice_cmp (slice_cmp nat_cmp) a (p ++ s)) ≡ false → is_gt (slice_cmp (slice_cmp nat_cmp) a (p ++ t)) ≡ false → (u : List (List ℕ)) × (a ≡ p ++ u)
+prefix_both : (a p s t : List (List ℕ)) → is_lt (slice_cmp (slice_cmp nat_cmp) a (p ++ s)) ≡ false → is_gt (slice_cmp (slice_cmp nat_cmp) a (p ++ t)) ≡ false → (u : List (List ℕ)) × (a ≡ p ++ u)
 prefix_both a [] s t low high = (a, refl)
 prefix_both [] (y ∷ p) s t low high = absurd (cc)
 prefix_both (x ∷ a) (y ∷ p) s t low high =
@@ -53,3 +53,16 @@ between_within name middle above h low high =
     let f : middle ≡ reverse rest.0 ++ above =
     sym (reverse-reverse middle) ∙ (ap (λ xs. reverse xs) rest.1 ∙ (reverse-append (reverse above) rest.0 ∙ ap (λ xs. reverse rest.0 ++ xs) (reverse-reverse above))) in
     (within_suffix middle above).1 (reverse rest.0, f)
+
+-- what stands between two names within a name is within it
+pub both_within : (first last middle above : List (List ℕ)) → is_within first above ≡ true → is_within last above ≡ true
+    → is_lt (canonical_order middle first) ≡ false → is_gt (canonical_order middle last) ≡ false → is_within middle above ≡ true
+both_within first last middle above f l low high =
+    let v = (within_suffix first above).0 f in
+    let w = (within_suffix last above).0 l in
+    let d : reverse first ≡ reverse above ++ reverse v.0 = ap (λ xs. reverse xs) v.1 ∙ reverse-append v.0 above in
+    let e : reverse last ≡ reverse above ++ reverse w.0 = ap (λ xs. reverse xs) w.1 ∙ reverse-append w.0 above in
+    let rest = prefix_both (reverse middle) (reverse above) (reverse v.0) (reverse w.0) (rw d at low) (rw e at high) in
+    let g : middle ≡ reverse rest.0 ++ above =
+    sym (reverse-reverse middle) ∙ (ap (λ xs. reverse xs) rest.1 ∙ (reverse-append (reverse above) rest.0 ∙ ap (λ xs. reverse rest.0 ++ xs) (reverse-reverse above))) in
+    (within_suffix middle above).1 (reverse rest.0, g)

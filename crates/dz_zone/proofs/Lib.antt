@@ -6,3 +6,4 @@ pub mod WithinLemmas
 pub mod OwnerLemmas
 pub mod CanonicalLemmas
 pub mod ApexLemmas
+pub mod EndLemmas

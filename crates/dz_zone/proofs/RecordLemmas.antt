@@ -19,7 +19,7 @@ unfoldable pub before : Record → Record → Bool
 before a b = is_lt (record_order a b)
 
 abbrev pub is_before : Record → Record → Bool
-is_before a b = ordering_index (record_order a b) == 0
+is_before a b = is_lt (record_order a b)
 
 pub before_is : IsStrictWeakOrder (λ a b. is_lt (record_order a b))
 before_is = ranks_by record_total (λ r. r)
@@ -80,10 +80,10 @@ unfolding before
 sorted_canonical rs ss up stable =
     ap (λ same. dedup same ss) (λ i a b. same_before a b i) ∙ (tidied before before_ranks rs ss up stable ∙ canonical rs)
 
-index_less : (o : Ordering) → (ordering_index o == 0) ≡ true → o ≡ Less
-index_less Less h = refl
-index_less Equal h = absurd (cc)
-index_less Greater h = absurd (cc)
+lt_less : (o : Ordering) → is_lt o ≡ true → o ≡ Less
+lt_less Less h = refl
+lt_less Equal h = absurd (cc)
+lt_less Greater h = absurd (cc)
 
 -- where each comes before the next, each comes before all behind it
 rise_from : (r : Record) (ss : List Record) → neighbours_from (λ a b. not (is_before a b)) r ss ≡ false → IsStrictlySortedBy record_order (r ∷ ss)
@@ -92,7 +92,7 @@ rise_from r [] h = (tt, tt)
 rise_from r (s ∷ ss) h =
     let parts = or_parts (not (is_before r s)) (neighbours_from (λ a b. not (is_before a b)) s ss) h in
     let rest = rise_from s ss parts.1 in
-    let first = index_less (record_order r s) (not-false (is_before r s) parts.0) in
+    let first = lt_less (record_order r s) (not-false (is_before r s) parts.0) in
     ((first, each_more (λ t. record_order s t ≡ Less) (λ t. record_order r t ≡ Less) (λ t l. record_total.trans r s t first l) ss rest.0), rest)
 
 risen_from : (r : Record) (ss : List Record) → IsStrictlySortedBy record_order (r ∷ ss) → neighbours_from (λ a b. not (is_before a b)) r ss ≡ false

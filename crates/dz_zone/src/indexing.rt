@@ -8,7 +8,7 @@ ghost use Rattle.dz_record.specs.Record.{record_order};
 ghost use Rattle.dz_index.specs.inner.Rows.{IsIndex};
 ghost use Rattle.dz_zone.specs.Version.{owners_of};
 
-use dz_index::Index;
+use dz_index::{Index, SortKey};
 use dz_name::Name;
 use dz_name::dns::{TYPE_NS, ZONE_RECORDS};
 use dz_record::Rr;
@@ -21,8 +21,9 @@ pub(crate) fn index_of(alloc: Global, records: &[Rr]) -> Result<Index, AllocErro
     ensures { IfOk result (IsIndex (owners_of records.now)) }
 {
     let mut index = Index::empty(alloc)?;
+    let mut key = SortKey::empty();
     'records: for record in records {
-        index = index.with(&record.owner_ref())?;
+        index = index.with_key(&record.owner_ref(), &mut key)?;
     }
     Ok(index)
 }

@@ -1,6 +1,7 @@
 //! Distinct records in canonical order.
 
 ghost use Rattle.std.specs.Prelude.{◌≡◌, ◌↔◌, IsTrue, MatchResult, OnOk};
+ghost use Rattle.std.specs.Ordering.{is_lt};
 ghost use Rattle.std.specs.List.Sorted.{IsStrictlySortedBy};
 ghost use Rattle.dz_record.specs.Record.{record_order};
 ghost use Rattle.dz_record.specs.Records.{distinct, in_order};
@@ -13,7 +14,22 @@ use std::cmp::Ordering;
 fn rises(records: &[Rr]) -> bool
     ensures { IsTrue result ↔ IsStrictlySortedBy record_order records.now }
 {
-    records.is_sorted_by(|a, b| a.record_cmp(b) == Ordering::Less)
+    records.is_sorted_by(|a, b| precedes(a, b))
+}
+
+/// Whether a record comes before another. Types and RDATA are compared only where the owner is one.
+fn precedes(a: &Rr, b: &Rr) -> bool
+    ensures { result ≡ is_lt (record_order a.now b.now) }
+{
+    match a.owner_ref().canonical_cmp(&b.owner_ref()) {
+        Ordering::Less => true,
+        Ordering::Greater => false,
+        Ordering::Equal => a
+            .kind()
+            .cmp(&b.kind())
+            .then(a.rdata().cmp(b.rdata()))
+            .is_lt(),
+    }
 }
 
 /// Puts the records in canonical order, and keeps of those that are the same the first. Records that rise already

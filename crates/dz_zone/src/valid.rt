@@ -90,11 +90,16 @@ fn no_ns(apex: &Name, records: &[Rr]) -> bool
     !apex_has(TYPE_NS, apex, records)
 }
 
-/// Whether an owner isn't the apex and isn't below it.
+/// Whether an owner isn't the apex and isn't below it. Where the records ascend, what stands between two within the
+/// apex is within it, so that the first and the last record tell.
 fn out_of_zone(apex: &Name, records: &[Rr]) -> bool
+    requires { IsStrictlySortedBy record_order records.now }
     ensures { result ≡ out_of_zone apex.now records.now }
 {
-    records.iter().any(|r| !r.is_within(apex))
+    if records.is_empty() {
+        return false;
+    }
+    !(records[0].is_within(apex) && records[records.len() - 1].is_within(apex))
 }
 
 /// Whether records of the type may stand beside a CNAME: RRSIG and NSEC.

@@ -1,7 +1,7 @@
 use Rattle.std.proofs.Common.{arith, ◌∙◌, ap, length, refl}
 use Rattle.dz_name.proofs.OrderLemmas.{offset_lt, more_at, all_at, few_labels}
 use Rattle.dz_index.proofs.KeyLemmas.{key_next, key_whole, key_none, label_room, next_place, room_next}
-use Rattle.dz_index.proofs.sort_key.SortKey.of.Goals as goal
+use Rattle.dz_index.proofs.sort_key.SortKey.set.Goals as goal
 
 pub labels-init : goal.labels-init
 labels-init c = record {
@@ -9,8 +9,8 @@ labels-init c = record {
   name = c.wire-wire.ensures.name;
   at = omega arith;
   count = omega arith;
-  key = c.empty-key.ensures ∙ key_none c.args.name.now;
-  room = omega (arith, ap length c.empty-key.ensures);
+  key = c.clear.ensures ∙ key_none c.args.name.now;
+  room = omega (arith, ap length c.clear.ensures);
 }
 
 pub bounds-wire-place : goal.bounds-wire-place
@@ -35,7 +35,7 @@ labels-preserved c =
       name = c.labels.invariant.name;
       at = next_place c.args.name.now c.wire-wire.result.now c.labels.place c.labels.count c.labels.invariant.wire c.labels.invariant.at more;
       count = omega arith;
-      key = key_next c.args.name.now c.wire-wire.result.now c.labels.key _ _ c.labels.place c.labels.count c.labels.invariant.wire c.labels.invariant.at more c.labels.invariant.key refl c.prepend_label.ensures;
+      key = key_next c.args.name.now c.wire-wire.result.now c.labels.self _ _ c.labels.place c.labels.count c.labels.invariant.wire c.labels.invariant.at more c.labels.invariant.key refl c.prepend_label.ensures;
       room = room_next _ _ _ _ _ c.labels.invariant.room c.prepend_label.ensures;
     }
 
