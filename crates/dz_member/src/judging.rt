@@ -1,6 +1,6 @@
 //! What a listing changes at one zone (RFC 9432 sections 4.3.1, 5.2 and 5.4).
 
-ghost use Rattle.std.specs.Prelude.{◌≡◌, ◌<◌, length, true, false, IfSome, option_map};
+ghost use Rattle.std.specs.Prelude.{◌≡◌, ℕ, ◌<◌, length, true, false, Some, None, IfSome, option_map};
 ghost use Rattle.std.specs.Option.{option_map_or, option_eq, ForSome};
 ghost use Rattle.std.specs.Bool.{OnTrue};
 ghost use Rattle.std.specs.Str.{bytes_eq};
@@ -299,6 +299,41 @@ fn is_catalog(fold: &Fold, zone: &NameRef) -> bool
     fold.catalogs()
         .iter()
         .any(|catalog| catalog.name.as_ref().same(zone))
+}
+
+/// Whether a node lists a member of this catalog as it stands: under its label, and of its group.
+fn lists_alike(fold: &Fold, number: u8, member: &Membership, node: &Node) -> bool
+    requires fold { IsFold fold.now }
+    requires number { number < length fold.now.config }
+    requires held { IsNumbered fold.now.config member.now }
+    ensures { OnTrue result ((position : ℕ)
+        → listed fold.now (catalog_at fold.now number) position
+        (Some (shown_in fold.now member.now)) node.now
+        ≡ record { stands = Some (shown_in fold.now member.now); change = None }) }
+{
+    holds(fold, number, member)
+        && member.label == node.label
+        && choice(fold, number, node) == member.group
+}
+
+/// Whether a zone stays as it is, without a change, since its catalog lists it as it stands. What is judged of other
+/// zones may be the same.
+#[tactic(auto, unfolding(crate::specs::Process::judged))]
+pub(crate) fn stays(fold: &Fold, number: u8, held: Option<&Membership>, node: Option<&Node>) -> bool
+    requires fold { IsFold fold.now }
+    requires number { number < length fold.now.config }
+    requires held { ForSome held (λ r. IsNumbered fold.now.config r.now) }
+    ensures { OnTrue result ((position : ℕ)
+        → judged fold.now (catalog_at fold.now number) position (held_in fold.now held.entry)
+        (option_map (λ r. r.now) node.entry)
+        ≡ record { stands = held_in fold.now held.entry; change = None }) }
+{
+    match (held, node) {
+        (Some(member), Some(node)) => {
+            !is_catalog(fold, &node.zone.as_ref()) && lists_alike(fold, number, member, node)
+        }
+        _ => false,
+    }
 }
 
 /// What a listing changes at one zone: the first case that fits.

@@ -1,18 +1,19 @@
 //! The walk over members and nodes that both stand in the order of their zones.
 
 ghost use Rattle.std.specs.Prelude.{◌≡◌, ◌<◌, ◌++◌, length, map, drop, if◌then◌else◌, option_map, OnOk, IfOk, All};
-ghost use Rattle.std.specs.Option.{option_to_list};
+ghost use Rattle.std.specs.Option.{option_to_list, ForSome};
+ghost use Rattle.std.specs.List.{AllByRecursion};
 ghost use Rattle.std.specs.List.Sorted.{IsStrictlySortedBy};
 ghost use Rattle.dz_name.specs.Name.{canonical_order};
 ghost use Rattle.dz_member.specs.Membership.{settings_at, shown, IsNumbered};
 ghost use Rattle.dz_member.specs.Fold.{IsFold};
 ghost use Rattle.dz_member.specs.Process.{in_zone_order};
 ghost use Rattle.dz_member.specs.inner.Kept.{members_from, changes_from};
-ghost use Rattle.dz_member.specs.inner.Walk.{first_pair, pair_of};
+ghost use Rattle.dz_member.specs.inner.Walk.{judge_of, first_pair, pair_of};
 
 use crate::change::Change;
 use crate::fold::Fold;
-use crate::judging::{Judged, judge};
+use crate::judging::{Judged, judge, stays};
 use crate::listing::{Listing, Node};
 use crate::membership::Membership;
 use dz_name::NameRef;
@@ -93,6 +94,51 @@ fn behind(listing: &Listing, at: usize, taken: bool) -> usize
 }
 
 impl Processed {
+    /// Adds what is judged of the first zone of two lists. A member that stays is copied as it is.
+    fn add_pair(
+        &mut self,
+        fold: &Fold,
+        number: u8,
+        position: u64,
+        pair: &Pair,
+    ) -> Result<(), AllocError>
+        requires fold { IsFold fold.now }
+        requires number { number < length fold.now.config }
+        requires held { ForSome pair.now.member (λ r. IsNumbered fold.now.config r.now) }
+        ensures members { OnOk result (map (shown fold.now.config) self.new.members.items
+            ≡ map (shown fold.now.config) self.old.members.items
+            ++ option_to_list (judge_of fold.now (settings_at fold.now.config number).name position
+            (pair_of pair.now).member (pair_of pair.now).node).stands) }
+        ensures changes { OnOk result (self.new.changes.items
+            ≡ self.old.changes.items ++ option_to_list
+            (option_map (λ what. record { zone = pair.now.zone; what = what })
+            (judge_of fold.now (settings_at fold.now.config number).name position
+            (pair_of pair.now).member (pair_of pair.now).node).change)) }
+        ensures numbered { AllByRecursion (IsNumbered fold.now.config) self.old.members.items
+            → OnOk result (AllByRecursion (IsNumbered fold.now.config) self.new.members.items) }
+    {
+        if stays(fold, number, pair.member, pair.node) {
+            self.keep(pair.member)
+        } else {
+            self.add(
+                &pair.zone,
+                &judge(fold, number, position, pair.member, pair.node),
+            )
+        }
+    }
+
+    /// Adds a member as it is.
+    fn keep(&mut self, member: Option<&Membership>) -> Result<(), AllocError>
+        ensures members { OnOk result (self.new.members.items
+            ≡ self.old.members.items ++ option_to_list (option_map (λ r. r.now) member.entry)) }
+        ensures changes { OnOk result (self.new.changes.items ≡ self.old.changes.items) }
+    {
+        if let Some(member) = member {
+            self.members.push(*member)?;
+        }
+        Ok(())
+    }
+
     /// Adds what was judged of a zone.
     fn add(&mut self, zone: &NameRef, judged: &Judged) -> Result<(), AllocError>
         ensures members { OnOk result (self.new.members.items
@@ -142,10 +188,7 @@ pub(crate) fn walk(
     let mut held = members;
     let mut at = 0;
     'zones: while let Some(pair) = first_pair(held, listing.node_by_zone(at)) {
-        processed.add(
-            &pair.zone,
-            &judge(fold, number, position, pair.member, pair.node),
-        )?;
+        processed.add_pair(fold, number, position, &pair)?;
         held = pair.held;
         at = behind(listing, at, pair.node.is_some());
     }

@@ -1,11 +1,11 @@
-use Rattle.std.proofs.Common.{◌≡◌, sym, ◌∙◌, ap, map, append-nil}
+use Rattle.std.proofs.Common.{◌≡◌, sym, ◌∙◌, map, append-nil}
 use Rattle.std.specs.Prelude.{drop}
 use Rattle.std.specs.Option.{option_map}
 use Rattle.dz_member.specs.Membership.{shown, settings_at, IsNumbered}
-use Rattle.dz_member.specs.Process.{Judgement, in_zone_order}
+use Rattle.dz_member.specs.Process.{in_zone_order}
 use Rattle.dz_member.specs.inner.Walk.{judge_of, pair_of}
 use Rattle.dz_member.proofs.SpotLemmas.{steps, spots_end, first_behind, left_of}
-use Rattle.dz_member.proofs.WalkedLemmas.{shown_more, all_more, parts_of, is_some_map, walked_members, walked_changes}
+use Rattle.dz_member.proofs.WalkedLemmas.{parts_of, is_some_map, walked_members, walked_changes}
 use Rattle.dz_member.proofs.walking.walk.Goals as goal
 
 pub zones-smaller : goal.zones-smaller
@@ -32,15 +32,13 @@ zones-preserved c =
     let s = steps judge c.zones.held.now (drop c.zones.at ns) p (map (shown fold.config) c.zones.processed.members.items) c.zones.processed.changes.items _ _ (inv.held, inv.listed) first inv.members inv.changes in
     let next : drop c.behind-at.result ns ≡ left_of p (drop c.zones.at ns) = rw (is_some_map (λ r. r.now) c.in-Some.pair.node, ← c.is_some.ensures) c.behind-at.ensures in
     let parts = parts_of (IsNumbered fold.config) c.zones.held.now o p (sym c.in-Some.ensures) inv.numbered in
-    let stands = ap (λ (j : Judgement). j.stands) c.judge.ensures.is in
-    let change = ap (λ (j : Judgement). j.change) c.judge.ensures.is in
     record {
       held = s.goes.held;
       listed = rw next s.goes.listed;
       numbered = parts.1;
-      kept = rw c.in_ok-add.ensures.members (all_more (IsNumbered fold.config) c.zones.processed.members.items c.judge.result.stands inv.kept c.judge.ensures.numbered);
-      members = rw (c.in_ok-add.ensures.members, next, shown_more (shown fold.config) c.zones.processed.members.items c.judge.result.stands, stands) s.members_on;
-      changes = rw (c.in_ok-add.ensures.changes, next, change) s.changes_on;
+      kept = c.in_ok-add_pair.ensures.numbered inv.kept;
+      members = rw (c.in_ok-add_pair.ensures.members, next) s.members_on;
+      changes = rw (c.in_ok-add_pair.ensures.changes, next) s.changes_on;
     }
 
 pub returns-clause-members : goal.returns-clause-members
