@@ -14,8 +14,10 @@ returns-then-incarnation-membership c =
 pub returns-else-incarnation-membership : goal.returns-else-incarnation-membership
 returns-else-incarnation-membership c =
     let m = shown c.args.before.now.fold.config c.args.membership.now in
-    c.new.ensures ∙ sym (slot_again c.args.before.now m c.in-Some.member (rw c.fold.ensures.fold at c.in-Some.ensures) (λ e. c.if-incarnation-membership.false (c.incarnation.ensures ∙ e)))
+    let again = slot_again c.args.before.now m c.in-Some.member (rw c.fold.ensures.fold at c.in-Some.ensures) (λ e. c.if-incarnation-membership.false (c.incarnation.ensures ∙ e)) in
+    IfOk-weaker c.new.result _ _ (λ x e. e ∙ sym again) c.new.ensures
 
 pub returns-in-None : goal.returns-in-None
 returns-in-None c =
-    c.new-in-None.ensures ∙ sym (slot_new c.args.before.now (shown c.args.before.now.fold.config c.args.membership.now) (rw c.fold.ensures.fold at c.in-None.ensures))
+    let none = slot_new c.args.before.now (shown c.args.before.now.fold.config c.args.membership.now) (rw c.fold.ensures.fold at c.in-None.ensures) in
+    IfOk-weaker c.new-in-None.result _ _ (λ x e. e ∙ sym none) c.new-in-None.ensures

@@ -8,7 +8,7 @@ use Rattle.dz_history.proofs.holdings.Holdings.take_version.Goals as goal
 pub with_slot-requires : goal.with_slot-requires
 with_slot-requires c =
     let none = rw c.deref.ensures at c.in-None.ensures in
-    rw c.new-slot.ensures (rw (← c.self.view_is) (slot_there _ c.args.zone.now c.self.invariant none (rw (← c.self.view_is) at c.requires.assigned)))
+    rw c.in_ok-slot-in-None.ensures (rw (← c.self.view_is) (slot_there _ c.args.zone.now c.self.invariant none (rw (← c.self.view_is) at c.requires.assigned)))
 
 pub returns-in-Some-clause-state : goal.returns-in-Some-clause-state
 returns-in-Some-clause-state c =
@@ -30,7 +30,7 @@ returns-in_ok-with_slot-in-None-clause-state c =
     let is : taken c.args.self.now c.args.zone.now c.args.moment (new c.args.version.now.value) ≡ counted (member_after c.args.self.now c.args.zone.now c.args.moment (new c.args.version.now.value)) =
     rw (← c.self.view_is) (taken_member _ c.args.zone.now c.args.moment (new c.args.version.now.value) none) in
     c.counted.ensures
-    ∙ (ap counted (rw (c.new-slot.ensures, c.in_ok-version.ensures) at c.in_ok-with_slot-in-None.ensures ∙ sym (new_member c.args.self.now c.args.zone.now c.args.moment c.args.version.now.value)) ∙ sym is)
+    ∙ (ap counted (rw (c.in_ok-slot-in-None.ensures, c.in_ok-version.ensures) at c.in_ok-with_slot-in-None.ensures ∙ sym (new_member c.args.self.now c.args.zone.now c.args.moment c.args.version.now.value)) ∙ sym is)
 
 pub returns-in_ok-with_slot-in-None-clause-aftermath : goal.returns-in_ok-with_slot-in-None-clause-aftermath
 returns-in_ok-with_slot-in-None-clause-aftermath c =
