@@ -242,20 +242,20 @@ fn ahead(rest: &VecDeque<Held>, added: &BTreeSet<Rr>) -> usize
 /// Moves what joined in front of a record, and says how many of the next records need no look. So many needed none
 /// before this one.
 fn pass_to(
-    record: &Rr,
+    bound: &Rr,
     rest: &VecDeque<Held>,
     free: usize,
     out: &mut Vec<Rr>,
     added: &mut BTreeSet<Rr>,
 ) -> Result<usize, AllocError>
     requires rises { Rises record_order (items rest.now.items) }
-    requires here { 0 < free → first_before record_order added.old.keys record.now ≡ false }
+    requires here { 0 < free → first_before record_order added.old.keys bound.now ≡ false }
     requires next { AreAhead record_order added.old.keys (take (free - 1) rest.now.items) }
-    ensures moves { OnOk result (Moves record_order out.old.items added.old.keys record.now out.new.items added.new.keys) }
+    ensures moves { OnOk result (Moves record_order out.old.items added.old.keys bound.now out.new.items added.new.keys) }
     ensures ahead { IfOk result (λ n. AreAhead record_order added.new.keys (take n rest.now.items)) }
 {
     if free == 0 {
-        push_before(out, added, record)?;
+        push_before(out, added, bound)?;
         return Ok(ahead(rest, added));
     }
     Ok(free - 1)
