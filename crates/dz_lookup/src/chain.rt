@@ -9,8 +9,8 @@ ghost use Rattle.dz_lookup.specs.inner.Links.{behind, IsNext};
 
 use crate::found::{Found, find};
 use arrayvec::ArrayVec;
-use dz_name::{Name, NameRef};
 use dz_name::dns::ALIASES;
+use dz_name::{Name, NameRef};
 use dz_record::Rr;
 use dz_steps::Steps;
 use dz_zone::Version;

@@ -154,13 +154,7 @@ fn put_soa(writer: &mut Writer, question: &Name, version: &Version)
     ensures one { length (soa_entries version.now) ≡ 1 }
 {
     let soa = version.apex_soa();
-    put_entry(
-        writer,
-        question,
-        &version.apex(),
-        negative_ttl(soa),
-        soa,
-    );
+    put_entry(writer, question, &version.apex(), negative_ttl(soa), soa);
 }
 
 /// The TTL of the SOA of a negative answer in seconds: the lesser of its own and MINIMUM (RFC 2308 section 3).
