@@ -181,42 +181,6 @@ fn expect_standing(
     expect_records(rt, alloc, held.records(), &before)
 }
 
-/// A zone of forty addresses, whose owners are `00.example.` to `39.example.`.
-fn make_forty(rt: &impl Abort, alloc: Global) -> Result<Version, AllocError> {
-    let mut records = make_records(rt, alloc, &[NS, Soa(5)])?;
-    for number in 0..40 {
-        let mut owner = *b"\x0200\x07example\x00";
-        owner[1] = b'0' + number / 10;
-        owner[2] = b'0' + number % 10;
-        let rdata = Vec::from_slice(alloc, b"\xc0\x00\x02\x50")?;
-        records.push(make_row(rt, alloc, &owner, 1, 3600, rdata))?;
-    }
-    match check(alloc, &make_name(rt, APEX), records) {
-        Ok(version) => Ok(version),
-        Err(error) => panic!(rt; "{error:?}"),
-    }
-}
-
-#[test]
-fn records_join_at_their_places_far_behind_others(rt: HostRuntime) -> Result<(), AllocError> {
-    let held = make_forty(&rt, rt.alloc())?;
-    let mut standing = Standing::over(rt.alloc(), &held)?;
-    for item in [
-        A_OF_APEX,
-        Other((b"\x0220\x07example\x00", 1, 3600, b"\xc0\x00\x02\x51")),
-        A_OF_Z,
-    ] {
-        assert!(rt; standing.insert(make_record(&rt, rt.alloc(), item)?)?);
-    }
-    let merged = standing.merge(rt.alloc(), make_record(&rt, rt.alloc(), Soa(6))?)?;
-    assert_eq!(rt; merged.len(), 45);
-    for place in 1..merged.len() {
-        let order = merged[place - 1].record_cmp(&merged[place]);
-        assert!(rt; order.is_lt(), "at {place}");
-    }
-    Ok(())
-}
-
 #[test]
 fn the_new_soa_stands_in_place_of_the_held_one(rt: HostRuntime) -> Result<(), AllocError> {
     let want = [NS, Soa(6), A_OF_MAIL, A_OF_NO, A_OF_WWW];
