@@ -1,3 +1,4 @@
+pub mod AheadLemmas
 pub mod ApartLemmas
 pub mod BegunLemmas
 pub mod EndedLemmas

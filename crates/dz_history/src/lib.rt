@@ -3,6 +3,7 @@
 #![tactic(auto)]
 
 mod aftermath;
+mod ahead;
 mod entry;
 mod held;
 mod history;

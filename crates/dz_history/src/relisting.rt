@@ -6,7 +6,9 @@ ghost use Rattle.dz_member.specs.Fold.{IsFold};
 ghost use Rattle.std.specs.Option.{unwrap_or};
 ghost use Rattle.dz_table.specs.Table.{slot_of};
 ghost use Rattle.dz_history.specs.After.{slot_after, fresh};
+ghost use Rattle.dz_history.specs.inner.Ahead.{AreOf};
 
+use crate::ahead::Ahead;
 use crate::holdings::Holdings;
 use dz_chunks::Share;
 use dz_member::{Fold, Membership};
@@ -39,25 +41,39 @@ fn slots_after(
 {
     let mut slots = Vec::with_capacity(alloc, memberships.len())?;
     let mut likely = 0;
+    let mut ahead = all_ahead(before);
     'members: for membership in memberships {
-        slots.push(slot_after(alloc, before, &mut likely, membership)?)?;
+        let slot = slot_after(alloc, before, &mut likely, &mut ahead, membership)?;
+        slots.push(slot)?;
     }
     Ok(slots)
 }
 
-/// The slot of a member, whose membership before is looked for first at a likely place.
-fn slot_after(
+/// All slots that are held.
+fn all_ahead(before: &Holdings) -> Ahead<'_>
+    ensures { AreOf before.now.table result }
+{
+    Ahead::of(before.table())
+}
+
+/// The slot of a member, whose membership before is looked for first at a likely place, and whose slot before among
+/// those ahead.
+fn slot_after<'a>(
     alloc: Global,
-    before: &Holdings,
+    before: &'a Holdings,
     likely: &mut usize,
+    ahead: &mut Ahead<'a>,
     membership: &Membership,
 ) -> Result<Slot, AllocError>
-    ensures { IfOk result (λ slot. slot ≡ slot_after before.now (shown before.now.fold.config membership.now)) }
+    requires { AreOf before.now.table ahead.old }
+    ensures slot { IfOk result (λ slot. slot
+        ≡ slot_after before.now (shown before.now.fold.config membership.now)) }
+    ensures ahead { AreOf before.now.table ahead.new }
 {
     match before.fold().find_near(likely, &membership.zone) {
         Some(member) => {
             if member.incarnation() == membership.incarnation {
-                same_slot(alloc, before.table(), &membership.zone)
+                same_slot(alloc, before.table(), ahead, &membership.zone)
             } else {
                 Slot::new(alloc, &membership.zone, 0, None)
             }
@@ -67,10 +83,18 @@ fn slot_after(
 }
 
 /// The slot of a zone, once more.
-fn same_slot(alloc: Global, table: &Table, zone: &Name) -> Result<Slot, AllocError>
-    ensures { IfOk result (λ slot. slot ≡ unwrap_or (slot_of zone.now table.now) (fresh zone.now)) }
+fn same_slot<'a>(
+    alloc: Global,
+    table: &'a Table,
+    ahead: &mut Ahead<'a>,
+    zone: &Name,
+) -> Result<Slot, AllocError>
+    requires { AreOf table.now ahead.old }
+    ensures slot { IfOk result (λ slot. slot
+        ≡ unwrap_or (slot_of zone.now table.now) (fresh zone.now)) }
+    ensures ahead { AreOf table.now ahead.new }
 {
-    match table.get(zone) {
+    match ahead.slot(table, zone) {
         Some(slot) => slot.share(),
         None => Slot::new(alloc, zone, 0, None),
     }

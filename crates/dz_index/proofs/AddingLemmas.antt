@@ -5,7 +5,7 @@ use Rattle.std.specs.Str.{bytes_eq}
 use Rattle.std.specs.Cmp.{first_so, second_so}
 use Rattle.std.proofs.lemmas.Slice.Eq.{bytes_eq-Decides}
 use Rattle.std.proofs.lemmas.Bool.Decides.{nat_tests}
-use Rattle.std.specs.Ordering.{is_lt, is_le, ordering_reverse}
+use Rattle.std.specs.Ordering.{is_lt, is_le, is_gt, ordering_reverse}
 use Rattle.std.specs.Cmp.{tied_itself}
 use Rattle.std.specs.Cmp.Lexicographic.{nat_list_cmp_total}
 use Rattle.std.specs.declared.cmp.Ordering.{Ordering}
@@ -14,9 +14,11 @@ use Rattle.std.proofs.lemmas.Bool.{cases_lt, false≢true}
 use Rattle.std.proofs.lemmas.List.{get_or_append_left, take-append-le, drop-append-le, drop_at, take_all, get_or-append_right}
 use Rattle.std.specs.FinMap.{slice_cmp-IsAntisymmetric, nat_cmp-IsAntisymmetric}
 use Rattle.dz_index.specs.SortKey.{key_of}
-use Rattle.dz_index.specs.Index.{IsLast}
-use Rattle.dz_index.specs.inner.Rows.{Rows, compared, key_at, count, total, IsKept, IsIndex, repeated, added}
+use Rattle.dz_name.specs.Name.{canonical_order}
+use Rattle.dz_index.specs.Index.{IsLast, order_behind}
+use Rattle.dz_index.specs.inner.Rows.{Rows, compared, key_at, count, total, IsKept, IsIndex, repeated, added, last_compared}
 use Rattle.dz_index.proofs.KeyLemmas.{key_order}
+use Rattle.dz_index.proofs.OrderLemmas.{le_le}
 
 -- an element of a list with one more behind it
 old_item : {A : Type 0} (xs : List A) (y : A) (j : ℕ) (d : A) → j < length xs → get_or (xs ++ y ∷ []) j d ≡ get_or xs j d
@@ -237,3 +239,82 @@ ends_no n a b h some e =
 pub ok_is : {A E : Type 0} (P : A → Type 0) (r : Result A E) (s : A) → IfOk r (λ i. i ≡ s) → P s → IfOk r P
 ok_is P (Ok i) s h p = subst P (sym h) p
 ok_is P (Err e) s h p = tt
+
+lt_true : (n : ℕ) → 0 < n → nat_lt 0 n ≡ true
+lt_true n h = grind (arith, nat_tests)
+
+le_not_gt : (o : Ordering) → is_gt o ≡ false → is_le o ≡ true
+le_not_gt Less h = refl
+le_not_gt Equal h = refl
+le_not_gt Greater h = absurd (false≢true (sym h))
+
+-- the last key is that of the last owner
+module _ (owners : List (List (List ℕ))) (r : Rows) (kept : IsKept r) (index : IsIndex owners r) where
+  same_le : (o : Ordering) → is_le o ≡ true → is_lt o ≡ false → o ≡ Equal
+  same_le Less a b = absurd (false≢true (sym b))
+  same_le Equal a b = refl
+  same_le Greater a b = absurd (false≢true a)
+
+  some_keys : 0 < length owners → 0 < count r
+  some_keys some = elim (cases_lt 0 (count r)) [
+    | inl lt ↦ lt
+    | inr le ↦
+        let e : length r.firsts - 1 ≡ 0 = omega arith in
+        let z : total r ≡ 0 = ap (slice_index r.firsts) e ∙ index.first in
+        absurd (omega (arith, index.total_is))
+  ]
+
+  no_keys : length owners ≡ 0 → count r ≡ 0
+  no_keys none = elim (cases_lt 0 (count r)) [
+    | inl lt ↦ absurd (omega (arith, index.grow 0 lt, kept.within 1 (omega arith), index.total_is))
+    | inr le ↦ omega arith
+  ]
+
+  pub last_key : 0 < length owners → key_at r (count r - 1) ≡ key_of (get_or owners (length owners - 1) [])
+  last_key some =
+      let i = count r - 1 in
+      let j = length owners - 1 in
+      let keys = some_keys some in
+      let e : i + 1 ≡ count r = omega arith in
+      let up : j < slice_index r.firsts (i + 1) = rw e (omega (arith, index.total_is)) in
+      let low : slice_index r.firsts i ≤ j = omega (arith, rw e at (index.grow i (omega arith)), index.total_is) in
+      let tied = same_le (compared (key_of (get_or owners j [])) (key_at r i)) (index.upto i j [] (omega arith) up) (index.behind i j [] (omega arith) low (omega arith)) in
+      sym (slice_cmp-IsAntisymmetric nat_cmp-IsAntisymmetric (key_of (get_or owners j [])) (key_at r i) tied)
+
+  pub order_is : (name : List (List ℕ)) → last_compared r (key_of name) ≡ order_behind owners name
+  order_is name = elim (cases_lt 0 (length owners)) [
+    | inl some ↦
+        let k : nat_lt 0 (count r) ≡ true = lt_true (count r) (some_keys some) in
+        let l : nat_lt 0 (length owners) ≡ true = lt_true (length owners) some in
+        rw (k, l, last_key some) (key_order (get_or owners (length owners - 1) []) name)
+    | inr le ↦
+        let z : length owners ≡ 0 = omega arith in
+        rw (no_keys z, z) refl
+  ]
+
+  -- a name that the last owner doesn't come behind is behind all
+  pub last_of : (name : List (List ℕ)) → is_gt (order_behind owners name) ≡ false → IsLast name owners
+  last_of name h j d within =
+      let some : 0 < length owners = omega arith in
+      let l : nat_lt 0 (length owners) ≡ true = lt_true (length owners) some in
+      let i = count r - 1 in
+      let e : i + 1 ≡ count r = omega (arith, some_keys some) in
+      let up : is_le (compared (key_of (get_or owners j d)) (key_at r i)) ≡ true = index.upto i j d (omega (arith, some_keys some)) (rw e (omega (arith, index.total_is))) in
+      let first : is_le (canonical_order (get_or owners j d) (get_or owners (length owners - 1) [])) ≡ true =
+      ap is_le (sym (key_order (get_or owners j d) (get_or owners (length owners - 1) []))) ∙ rw (last_key some) at up in
+      le_le (get_or owners j d) (get_or owners (length owners - 1) []) name first (le_not_gt (canonical_order (get_or owners (length owners - 1) []) name) (rw l at h))
+
+pub compared_none : (r : Rows) (key : List ℕ) (n : ℕ) → n ≡ count r → n ≡ 0 → Less ≡ last_compared r key
+compared_none r key n is none = let z : count r ≡ 0 = omega arith in rw z refl
+
+pub compared_some : (r : Rows) (key : List ℕ) (n : ℕ) {o : Ordering} → n ≡ count r → n ≢ 0 → o ≡ compared (key_at r (count r - 1)) key → o ≡ last_compared r key
+compared_some r key n {o} is some e = let t : nat_lt 0 (count r) ≡ true = lt_true (count r) (omega arith) in rw t e
+
+pub other_less : (r : Rows) (key : List ℕ) → Less ≡ last_compared r key → 0 < count r → key_at r (count r - 1) ≢ key
+other_less r key h some e = let g : Less ≡ Equal = rw (lt_true (count r) some, e, itself key) at h in cc
+
+pub equal_some : (r : Rows) (key : List ℕ) → Equal ≡ last_compared r key → (0 < count r) × (key_at r (count r - 1) ≡ key)
+equal_some r key h = elim (cases_lt 0 (count r)) [
+  | inl some ↦ (some, slice_cmp-IsAntisymmetric nat_cmp-IsAntisymmetric (key_at r (count r - 1)) key (sym (rw (lt_true (count r) some) at h)))
+  | inr le ↦ let z : count r ≡ 0 = omega arith in absurd (let g : Equal ≡ Less = rw z at h in cc)
+]

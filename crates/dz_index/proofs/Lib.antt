@@ -1,4 +1,4 @@
 pub mod KeyLemmas
 pub mod SearchLemmas
-pub mod AddingLemmas
 pub mod OrderLemmas
+pub mod AddingLemmas

@@ -10,7 +10,7 @@ use Rattle.std.proofs.lemmas.List.{get_or-take, take_more, get_or_default}
 use Rattle.std.specs.Cmp.{tied_itself}
 use Rattle.dz_index.specs.Index.{InOrder, IsLast}
 
-le_le : (a b c : List (List ℕ)) → is_le (canonical_order a b) ≡ true → is_le (canonical_order b c) ≡ true → is_le (canonical_order a c) ≡ true
+pub le_le : (a b c : List (List ℕ)) → is_le (canonical_order a b) ≡ true → is_le (canonical_order b c) ≡ true → is_le (canonical_order a c) ≡ true
 le_le a b c p q = go (canonical_order a b) refl p
   where
     rest : (o : Ordering) → canonical_order b c ≡ o → canonical_order a b ≡ Less → is_le o ≡ true → is_le (canonical_order a c) ≡ true

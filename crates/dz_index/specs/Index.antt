@@ -1,7 +1,9 @@
 -- Meaning: the place of a name among the owners of a zone in canonical order (RFC 4034 section 6.1), and how many
 -- comparisons a search takes.
-use Rattle.std.specs.Prelude.{◌≡◌, ℕ, ◌+◌, ◌*◌, ◌≤◌, ◌^◌, true, false, List, length}
+use Rattle.std.specs.Prelude.{◌≡◌, ℕ, ◌+◌, ◌-◌, ◌*◌, ◌≤◌, ◌^◌, nat_lt, true, false, List, [], length, if◌then◌else◌}
 use Rattle.std.specs.Ordering.{is_lt, is_le}
+use Rattle.std.specs.declared.cmp.Ordering.{Ordering}
+use Rattle.std.specs.declared.cmp.Ordering.TheVariants.{Less}
 use Rattle.std.specs.Prelude.{◌<◌, slice_index_or}
 use Rattle.std.specs.List.Sorted.{IsPartitionPoint}
 use Rattle.dz_name.specs.Name.{canonical_order}
@@ -20,6 +22,10 @@ IsEndOf name owners place =
 -- no owner comes behind the name
 abbrev pub IsLast : Name → List Name → Type 0
 IsLast name owners = (at : ℕ) (d : Name) → at < length owners → is_le (canonical_order (slice_index_or owners at d) name) ≡ true
+
+-- how the last owner stands beside a name: before it where there is none
+abbrev pub order_behind : List Name → Name → Ordering
+order_behind owners name = if nat_lt 0 (length owners) then canonical_order (slice_index_or owners (length owners - 1) []) name else Less
 
 -- owners in canonical order, each of which may stand more than once
 abbrev pub InOrder : List Name → Type 0

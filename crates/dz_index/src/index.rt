@@ -1,11 +1,11 @@
 //! An index of owners.
 
-ghost use Rattle.std.specs.Prelude.{◌≡◌, ℕ, ◌+◌, ◌-◌, ◌*◌, ◌<◌, ◌≤◌, List, [], ◌∷◌, ◌++◌, length, IfOk, slice_index, nat_lt, ◌&&◌};
+ghost use Rattle.std.specs.Prelude.{◌≡◌, ℕ, ◌+◌, ◌-◌, ◌*◌, ◌<◌, ◌≤◌, List, [], ◌∷◌, ◌++◌, length, IfOk, slice_index, nat_lt, ◌&&◌, false};
 ghost use Rattle.std.specs.Str.{bytes_eq};
-ghost use Rattle.std.specs.Ordering.{is_eq};
+ghost use Rattle.std.specs.Ordering.{is_eq, is_gt};
 ghost use Rattle.dz_name.specs.Words.{Name};
-ghost use Rattle.dz_index.specs.Index.{IsFirstOf, IsEndOf, IsLast, InOrder, IsSearch, TakesAtMost};
-ghost use Rattle.dz_index.specs.inner.Rows.{count, total, key_at, compared, IsIndex, AreRising, IsPlaceAmong, repeated, added};
+ghost use Rattle.dz_index.specs.Index.{IsFirstOf, IsEndOf, IsLast, InOrder, order_behind, IsSearch, TakesAtMost};
+ghost use Rattle.dz_index.specs.inner.Rows.{count, total, key_at, compared, IsIndex, AreRising, IsPlaceAmong, repeated, added, last_compared};
 
 use crate::sort_key::SortKey;
 use dz_name::{Name, NameRef};
@@ -91,6 +91,30 @@ impl Index {
             Ok(self.repeated())
         } else {
             self.added(key.octets())
+        }
+    }
+
+    /// One more owner behind the others, or the last one once more; and how the last one stands beside it, which is
+    /// before it where there is none. An owner that comes before the last one isn't added.
+    pub fn with_next(
+        self,
+        name: &NameRef<'_>,
+        key: &mut SortKey,
+    ) -> Result<(Index, Ordering), AllocError>
+        requires few { total self < 250000 }
+        ensures total { IfOk result (λ s. is_gt s.1 ≡ false → total s.0 ≡ total self + 1) }
+        ensures order { (owners : List Name) → IsIndex owners self → IfOk result (λ s. s.1 ≡ order_behind owners name.now) }
+        ensures index { (owners : List Name) → IsIndex owners self → IfOk result (λ s. is_gt s.1 ≡ false → IsIndex (owners ++ name.now ∷ []) s.0) }
+    {
+        let _ = &self.firsts;
+        key.set(name);
+        match self.last_cmp(key.octets()) {
+            Ordering::Less => {
+                let index = self.added(key.octets())?;
+                Ok((index, Ordering::Less))
+            }
+            Ordering::Equal => Ok((self.repeated(), Ordering::Equal)),
+            Ordering::Greater => Ok((self, Ordering::Greater)),
         }
     }
 
@@ -219,6 +243,17 @@ impl Index {
     {
         let count = self.len();
         0 < count && self.key(count - 1) == key
+    }
+
+    /// How the last key stands beside this one: before it where there is none.
+    fn last_cmp(&self, key: &[u8]) -> Ordering
+        ensures { result ≡ last_compared self.now key.now }
+    {
+        let count = self.len();
+        if count == 0 {
+            return Ordering::Less;
+        }
+        self.key(count - 1).cmp(key)
     }
 
     /// The last owner once more.

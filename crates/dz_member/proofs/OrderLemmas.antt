@@ -9,6 +9,7 @@ use Rattle.std.proofs.lemmas.List.{get_or-map, length-map}
 use Rattle.std.proofs.lemmas.List.Sorted.{ranks_by, IsPermutation-map, IsPermutation-sym}
 use Rattle.std.proofs.lemmas.Map.Keys.{IsDistinct-IsPermutation, IsDistinct-head, IsDistinct-tail, IsDistinct-from_sorted, apart_from_distinct, sorted_from_all_adjacent}
 use Rattle.std.proofs.lemmas.Map.Made.{IsDistinct-from_AllPairs}
+use Rattle.std.proofs.lemmas.Cmp.{tied_itself}
 use Rattle.std.proofs.lemmas.Simd.{map-map}
 use Rattle.std.proofs.lemmas.Bool.Decides.{same_from_decides}
 use Rattle.dz_name.specs.Words.{Name}
@@ -22,6 +23,10 @@ use Rattle.dz_member.specs.declared.listing.Node.{Node}
 use Rattle.dz_member.proofs.SortLemmas.{stable_is}
 use Rattle.dz_member.proofs.NumberLemmas.{one_place}
 use Rattle.dz_member.proofs.WalkLemmas.{all_more}
+
+-- names that are one tie
+pub tied_same : (a b : Name) → a ≡ b → canonical_order a b ≡ Equal
+tied_same a b e = subst (λ z. canonical_order z b ≡ Equal) (sym e) (tied_itself canonical_total b)
 
 abbrev pub node_before : Node → Node → Bool
 node_before a b = is_lt (canonical_order a.zone b.zone)

@@ -36,6 +36,18 @@ struct Pair<'a> {
     held: &'a [Membership],
 }
 
+/// The canonical order of two zones, which mostly are one.
+#[tactic(auto, using(crate::proofs::OrderLemmas::tied_same))]
+fn zone_order(a: &NameRef, b: &NameRef) -> Ordering
+    ensures { result ≡ canonical_order a.now b.now }
+{
+    if a.same(b) {
+        Ordering::Equal
+    } else {
+        a.canonical_cmp(b)
+    }
+}
+
 /// The first zone of memberships and of a list of nodes whose first is given.
 fn first_pair<'a>(held: &'a [Membership], node: Option<&'a Node>) -> Option<Pair<'a>>
     ensures { option_map pair_of result ≡ first_pair held.now (option_map (λ r. r.now) node.entry) }
@@ -57,7 +69,7 @@ fn first_pair<'a>(held: &'a [Membership], node: Option<&'a Node>) -> Option<Pair
                 node: None,
                 held: members,
             }),
-            Some(n) => Some(match m.zone.as_ref().canonical_cmp(&n.zone.as_ref()) {
+            Some(n) => Some(match zone_order(&m.zone.as_ref(), &n.zone.as_ref()) {
                 Ordering::Less => Pair {
                     zone: m.zone.as_ref(),
                     member: Some(m),

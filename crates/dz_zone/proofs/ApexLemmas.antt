@@ -1,5 +1,5 @@
 -- The apex of a zone without a fault owns the first of its records in canonical order.
-use Rattle.std.proofs.Common.{◌≡◌, ℕ, ◌<◌, Bool, true, false, None, List, [], ◌∷◌, length, refl, sym, subst, inl, inr, arith}
+use Rattle.std.proofs.Common.{◌≡◌, ℕ, ◌<◌, Bool, true, false, None, List, [], ◌∷◌, length, refl, sym, ◌∙◌, ap, subst, Option, inl, inr, arith}
 use Rattle.std.specs.Prelude.{◌==◌, ◌&&◌, not}
 use Rattle.std.specs.List.{All, AllByRecursion, list_any}
 use Rattle.std.specs.List.Sorted.{IsStrictlySortedBy}
@@ -17,7 +17,8 @@ use Rattle.dz_zone.specs.Valid.{at_apex, fault_of}
 use Rattle.dz_zone.specs.Version.{zone_of, owners_of}
 use Rattle.dz_zone.specs.inner.Kept.{apex_in, zone_in, IsKept}
 use Rattle.dz_zone.proofs.CanonicalLemmas.{within_not_less}
-use Rattle.dz_zone.proofs.FaultLemmas.{has_soa}
+use Rattle.dz_zone.specs.declared.fault.ZoneFault.{ZoneFault}
+use Rattle.dz_zone.proofs.FaultLemmas.{has_soa, fault_in_order}
 use Rattle.dz_zone.proofs.OwnerLemmas.{first_le}
 use Rattle.dz_zone.proofs.WithinLemmas.{all_within}
 
@@ -78,3 +79,8 @@ kept_made apex rs index cuts up none held is has =
       indexed = is;
       cuts_are = subst (λ a. cuts ≡ list_any (λ r. r.kind == 2 && not (same_name r.owner a)) rs) e has;
     }
+
+-- what the faults of records in order say of the records that were given
+pub judged : (apex : List (List ℕ)) (records tidied slice : List Record) (r : Option ZoneFault) → tidied ≡ in_order (distinct records) → slice ≡ tidied → r ≡ fault_of apex slice
+    → fault_of apex (distinct records) ≡ r
+judged apex records tidied slice r t s e = sym (e ∙ (ap (fault_of apex) (s ∙ t) ∙ fault_in_order apex (distinct records)))

@@ -7,3 +7,4 @@ pub mod OwnerLemmas
 pub mod CanonicalLemmas
 pub mod ApexLemmas
 pub mod EndLemmas
+pub mod RisingLemmas

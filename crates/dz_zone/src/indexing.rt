@@ -1,18 +1,23 @@
 //! The index of a version.
 
-ghost use Rattle.std.specs.Prelude.{◌≡◌, ◌==◌, ◌&&◌, ◌≤◌, not, length, IfOk};
+ghost use Rattle.std.specs.Prelude.{◌≡◌, ◌==◌, ◌&&◌, ◌<◌, ◌≤◌, not, [], length, take, false, slice_index_or, IfOk, IfSome, IsTrue};
+ghost use Rattle.std.specs.Ordering.{is_gt};
 ghost use Rattle.std.specs.List.{list_any};
 ghost use Rattle.std.specs.List.Sorted.{IsStrictlySortedBy};
 ghost use Rattle.dz_name.specs.Name.{same_name};
 ghost use Rattle.dz_record.specs.Record.{record_order};
+ghost use Rattle.dz_index.specs.Index.{order_behind};
 ghost use Rattle.dz_index.specs.inner.Rows.{IsIndex};
 ghost use Rattle.dz_zone.specs.Version.{owners_of};
+ghost use Rattle.dz_zone.specs.inner.Kept.{IsRisen, RisesAt};
 
+use crate::order::comes_before;
 use dz_index::{Index, SortKey};
 use dz_name::Name;
 use dz_name::dns::{TYPE_NS, ZONE_RECORDS};
 use dz_record::Rr;
 use std::alloc::{AllocError, Global};
+use std::cmp::Ordering;
 
 /// The index of the owners of these records, in one pass.
 pub(crate) fn index_of(alloc: Global, records: &[Rr]) -> Result<Index, AllocError>
@@ -26,6 +31,39 @@ pub(crate) fn index_of(alloc: Global, records: &[Rr]) -> Result<Index, AllocErro
         index = index.with_key(&record.owner_ref(), &mut key)?;
     }
     Ok(index)
+}
+
+/// The index of the owners of records that rise, each before the next; none of other records. The keys tell the order
+/// of the owners, so one pass does for both.
+pub(crate) fn index_rising(alloc: Global, records: &[Rr]) -> Result<Option<Index>, AllocError>
+    ensures { IfOk result (λ o. IfSome o (IsRisen records.now)) }
+{
+    if ZONE_RECORDS < records.len() {
+        return Ok(None);
+    }
+    let mut index = Index::empty(alloc)?;
+    let mut key = SortKey::empty();
+    'records: for place in 0..records.len() {
+        let (next, order) = index.with_next(&records[place].owner_ref(), &mut key)?;
+        if !rises_at(order, records, place) {
+            return Ok(None);
+        }
+        index = next;
+    }
+    Ok(Some(index))
+}
+
+/// Whether the record at a place comes behind the one in front of it, as the first does, by the order of their owners.
+fn rises_at(owners: Ordering, records: &[Rr], place: usize) -> bool
+    requires within { place < length records.now }
+    requires owners { owners ≡ order_behind (take place (owners_of records.now)) (slice_index_or (owners_of records.now) place []) }
+    ensures order { IsTrue result → is_gt owners ≡ false }
+    ensures rises { IsTrue result → RisesAt records.now place }
+{
+    if place == 0 {
+        return true;
+    }
+    comes_before(owners, &records[place - 1], &records[place])
 }
 
 /// Whether a name below the apex owns an NS record.

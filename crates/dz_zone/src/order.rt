@@ -3,6 +3,7 @@
 ghost use Rattle.std.specs.Prelude.{◌≡◌, ◌↔◌, IsTrue, MatchResult, OnOk};
 ghost use Rattle.std.specs.Ordering.{is_lt};
 ghost use Rattle.std.specs.List.Sorted.{IsStrictlySortedBy};
+ghost use Rattle.dz_name.specs.Name.{canonical_order};
 ghost use Rattle.dz_record.specs.Record.{record_order};
 ghost use Rattle.dz_record.specs.Records.{distinct, in_order};
 
@@ -17,11 +18,20 @@ fn rises(records: &[Rr]) -> bool
     records.is_sorted_by(|a, b| precedes(a, b))
 }
 
-/// Whether a record comes before another. Types and RDATA are compared only where the owner is one.
+/// Whether a record comes before another.
 fn precedes(a: &Rr, b: &Rr) -> bool
     ensures { result ≡ is_lt (record_order a.now b.now) }
 {
-    match a.owner_ref().canonical_cmp(&b.owner_ref()) {
+    comes_before(a.owner_ref().canonical_cmp(&b.owner_ref()), a, b)
+}
+
+/// Whether a record comes before another, by the order of their owners. Types and RDATA are compared only where the
+/// owner is one.
+pub(crate) fn comes_before(owners: Ordering, a: &Rr, b: &Rr) -> bool
+    requires { owners ≡ canonical_order a.now.owner b.now.owner }
+    ensures { result ≡ is_lt (record_order a.now b.now) }
+{
+    match owners {
         Ordering::Less => true,
         Ordering::Greater => false,
         Ordering::Equal => a

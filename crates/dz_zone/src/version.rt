@@ -1,16 +1,18 @@
 //! Versions of zones.
 
-ghost use Rattle.std.specs.Prelude.{◌≡◌, Some, All, true, option_map};
+ghost use Rattle.std.specs.Prelude.{◌≡◌, Some, None, All, true, option_map};
 ghost use Rattle.dz_name.specs.Name.{is_within};
 ghost use Rattle.std.specs.List.{find};
+ghost use Rattle.std.specs.List.Sorted.{IsStrictlySortedBy};
 ghost use Rattle.std.specs.Option.{option_and_then};
-ghost use Rattle.dz_record.specs.Record.{soa_of, IsRecord};
+ghost use Rattle.dz_record.specs.Record.{soa_of, IsRecord, record_order};
 ghost use Rattle.dz_index.specs.inner.Rows.{IsIndex};
 ghost use Rattle.dz_zone.specs.Version.{IsValid, IsChecked, apex_soa, owners_of, has_cuts};
-ghost use Rattle.dz_zone.specs.Valid.{at_apex};
+ghost use Rattle.dz_zone.specs.Valid.{at_apex, fault_of};
+ghost use Rattle.dz_zone.specs.inner.Kept.{zone_in, IsRisen};
 
 use crate::fault::ZoneError;
-use crate::indexing::{has_cuts, index_of};
+use crate::indexing::{has_cuts, index_of, index_rising};
 use crate::order::tidy;
 use crate::valid::fault_of;
 use dz_index::Index;
@@ -98,22 +100,53 @@ impl Version {
 
 /// The version of a zone that these records make, in any order: of those that are the same the first is kept. An error
 /// is the first fault that holds, or want of memory.
-pub fn check(alloc: Global, apex: &Name, mut records: Vec<Rr>) -> Result<Version, ZoneError>
+pub fn check(alloc: Global, apex: &Name, records: Vec<Rr>) -> Result<Version, ZoneError>
+    ensures { IsChecked apex.now records.items result }
+{
+    match index_rising(alloc, records.as_slice())? {
+        None => check_tidied(alloc, apex, records),
+        Some(index) => check_risen(apex, records, index),
+    }
+}
+
+/// The same of records that rise, with the index of their owners.
+fn check_risen(apex: &Name, records: Vec<Rr>, index: Index) -> Result<Version, ZoneError>
+    requires { IsRisen records.items index }
+    ensures { IsChecked apex.now records.items result }
+{
+    match fault_of(apex, records.as_slice()) {
+        Some(fault) => Err(ZoneError::Fault(fault)),
+        None => Ok(version_of(apex, records, index)),
+    }
+}
+
+/// The same, the records being put in order first.
+fn check_tidied(alloc: Global, apex: &Name, mut records: Vec<Rr>) -> Result<Version, ZoneError>
     ensures { IsChecked apex.now records.items result }
 {
     tidy(&mut records)?;
     match fault_of(apex, records.as_slice()) {
         Some(fault) => Err(ZoneError::Fault(fault)),
         None => {
-            prove!(are_records(records.as_slice()));
             let index = index_of(alloc, records.as_slice())?;
-            let has_cuts = has_cuts(apex, records.as_slice());
-            Ok(Version {
-                records,
-                index,
-                has_cuts,
-            })
+            Ok(version_of(apex, records, index))
         }
+    }
+}
+
+/// The version of records in canonical order that have no fault.
+fn version_of(apex: &Name, records: Vec<Rr>, index: Index) -> Version
+    requires rises { IsStrictlySortedBy record_order records.items }
+    requires faultless { fault_of apex.now records.items ≡ None }
+    requires indexed { IsIndex (owners_of records.items) index }
+    ensures { result ≡ zone_in records.items }
+{
+    prove!(are_records(records.as_slice()));
+    let has_cuts = has_cuts(apex, records.as_slice());
+    Version {
+        records,
+        index,
+        has_cuts,
     }
 }
 

@@ -1,5 +1,5 @@
 -- Inner: an index as its fields: the keys of the distinct owners, and the place of the first record of each.
-use Rattle.std.specs.Prelude.{◌≡◌, ℕ, ◌+◌, ◌-◌, ◌*◌, ◌<◌, ◌≤◌, List, [], ◌∷◌, ◌++◌, length, slice_index, slice_index_or, slice_range, slice_set, true, false}
+use Rattle.std.specs.Prelude.{◌≡◌, ℕ, ◌+◌, ◌-◌, ◌*◌, ◌<◌, ◌≤◌, List, [], ◌∷◌, ◌++◌, length, slice_index, slice_index_or, slice_range, slice_set, nat_lt, true, false, if◌then◌else◌}
 use Rattle.std.specs.Ordering.{nat_cmp, is_lt, is_le}
 use Rattle.std.specs.Cmp.Lexicographic.{slice_cmp}
 use Rattle.std.specs.declared.cmp.Ordering.{Ordering}
@@ -38,6 +38,10 @@ pub record IsKept (r : Rows) : Type 0 where
 -- keys compared octet by octet
 abbrev pub compared : Octets → Octets → Ordering
 compared a b = slice_cmp nat_cmp a b
+
+-- the last key beside another
+abbrev pub last_compared : Rows → Octets → Ordering
+last_compared r key = if nat_lt 0 (count r) then compared (key_at r (count r - 1)) key else Less
 
 -- the keys rise
 abbrev pub AreRising : Rows → Type 0

@@ -1,7 +1,9 @@
 -- Inner: a version as its fields: the records of a zone, the index of their owners, and whether there are cuts.
-use Rattle.std.specs.Prelude.{◌≡◌, Bool, List, [], ◌∷◌}
+use Rattle.std.specs.Prelude.{◌≡◌, ℕ, ◌-◌, ◌<◌, Bool, true, List, [], ◌∷◌, slice_index_or}
+use Rattle.std.specs.Ordering.{is_lt}
 use Rattle.dz_name.specs.Words.{Name}
-use Rattle.dz_record.specs.Record.{Record}
+use Rattle.std.specs.List.Sorted.{IsStrictlySortedBy}
+use Rattle.dz_record.specs.Record.{Record, record_order}
 use Rattle.dz_index.specs.inner.Rows.{Rows, IsIndex}
 use Rattle.dz_zone.specs.Version.{Zone, IsVersion, owners_of, has_cuts}
 
@@ -12,6 +14,15 @@ apex_in (r ∷ rs) = r.owner
 
 abbrev pub zone_in : List Record → Zone
 zone_in records = record { apex = apex_in records; records = records }
+
+-- the record at a place comes behind the one in front of it, if there is one
+abbrev pub RisesAt : List Record → ℕ → Type 0
+RisesAt records place = 0 < place → (d : Record) → is_lt (record_order (slice_index_or records (place - 1) d) (slice_index_or records place d)) ≡ true
+
+-- records each of which comes before the next, and the index of their owners
+pub record IsRisen (records : List Record) (index : Rows) : Type 0 where
+  pub rises : IsStrictlySortedBy record_order records
+  pub indexed : IsIndex (owners_of records) index
 
 pub record IsKept (zone : Zone) (index : Rows) (cuts : Bool) : Type 0 where
   pub version : IsVersion zone

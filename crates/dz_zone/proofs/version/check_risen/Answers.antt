@@ -1,0 +1,20 @@
+use Rattle.std.proofs.Common.{sym, ◌∙◌}
+use Rattle.dz_zone.proofs.RecordLemmas.{rising_canonical}
+use Rattle.dz_zone.proofs.ApexLemmas.{zone_made, judged}
+use Rattle.dz_zone.proofs.version.check_risen.Goals as goal
+
+pub returns-in-Some : goal.returns-in-Some
+returns-in-Some c =
+    let records = c.args.records.items in
+    judged c.args.apex.now records records c.as_slice.result.now _ (rising_canonical records c.requires.rises) c.as_slice.ensures.value c.in-Some.ensures
+
+pub version_of-requires-clause-faultless : goal.version_of-requires-clause-faultless
+version_of-requires-clause-faultless c = rw c.as_slice.ensures.value at (sym c.in-None.ensures)
+
+pub returns-in-None : goal.returns-in-None
+returns-in-None c =
+    let records = c.args.records.items in
+    let none = rw c.as_slice.ensures.value at (sym c.in-None.ensures) in (
+      judged c.args.apex.now records records c.as_slice.result.now _ (rising_canonical records c.requires.rises) c.as_slice.ensures.value c.in-None.ensures,
+      c.version_of.ensures ∙ zone_made c.args.apex.now records records c.requires.rises none (rising_canonical records c.requires.rises),
+    )

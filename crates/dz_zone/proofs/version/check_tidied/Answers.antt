@@ -1,0 +1,24 @@
+use Rattle.std.proofs.Common.{sym, ◌∙◌}
+use Rattle.dz_zone.proofs.FaultLemmas.{few_records}
+use Rattle.dz_zone.proofs.ApexLemmas.{zone_made, judged}
+use Rattle.dz_zone.proofs.version.check_tidied.Goals as goal
+
+pub returns-in-Some : goal.returns-in-Some
+returns-in-Some c = judged _ _ _ _ _ c.in_ok-tidy.ensures.value c.as_slice.ensures.value c.in-Some.ensures
+
+pub index_of-requires-clause-few : goal.index_of-requires-clause-few
+index_of-requires-clause-few c =
+    rw c.as_slice-in-None.ensures.value (few_records c.args.apex.now c.tidy.new.records.items (rw c.as_slice.ensures.value at (sym c.in-None.ensures)))
+
+pub returns-in_ok-index-in-None : goal.returns-in_ok-index-in-None
+returns-in_ok-index-in-None c =
+    let none = rw c.as_slice.ensures.value at (sym c.in-None.ensures) in (
+      judged _ _ _ _ _ c.in_ok-tidy.ensures.value c.as_slice.ensures.value c.in-None.ensures,
+      c.version_of.ensures ∙ zone_made c.args.apex.now c.tidy.new.records.items c.args.records.items c.in_ok-tidy.ensures.rises none c.in_ok-tidy.ensures.value,
+    )
+
+pub version_of-requires-clause-faultless : goal.version_of-requires-clause-faultless
+version_of-requires-clause-faultless c = rw c.as_slice.ensures.value at (sym c.in-None.ensures)
+
+pub version_of-requires-clause-indexed : goal.version_of-requires-clause-indexed
+version_of-requires-clause-indexed c = rw c.as_slice-in-None.ensures.value at c.in_ok-index-in-None.ensures
