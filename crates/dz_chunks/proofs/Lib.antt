@@ -4,3 +4,4 @@ pub mod JoinLemmas
 pub mod UptoLemmas
 pub mod CutLemmas
 pub mod NumberLemmas
+pub mod MarkLemmas

@@ -129,6 +129,15 @@ module _ {K X : Type 0} (R : K → K → Ordering) (o : IsTotalOrder R) where
       last_chunk k cs n d (last_or a (filter (is_upto R k) c)) (sorted_back R c (flat cs) s) z.3 (omega arith) t (λ j e low l. h (suc j) e (omega arith) (omega arith))
       ∙ (sym (last_append a (filter (is_upto R k) c) (filter (is_upto R k) (flat cs))) ∙ ap (last_or a) (sym (filter-append (is_upto R k) c (flat cs))))
 
+  -- where the first key of a list doesn't come after the key
+  pub upto_first : (k : K) (es : List (K × X)) → begins_upto R k es ≡ true → IsUptoAt R k es 0
+  upto_first k [] h = absurd (false≢true h)
+  upto_first k (x ∷ es) h = λ d. h
+
+  pub some_upto : (k : K) (es : List (K × X)) → begins_upto R k es ≡ true → 0 < length es
+  some_upto k [] h = absurd (false≢true h)
+  some_upto k (x ∷ es) h = omega arith
+
   -- .. of the chunks of a map
   module _ (k : K) where
     pub seen_begins : (cs : List (List (K × X))) → IsChunked R cs → IsPartitionedBy (begins_upto R k) cs

@@ -1,12 +1,13 @@
 //! Chunks: where a key belongs among them, and copies of references to them.
 
-ghost use Rattle.std.specs.Prelude.{◌≡◌, ℕ, ◌+◌, ◌-◌, ◌^◌, ◌<◌, ◌≤◌, List, [], ◌∷◌, ◌++◌, length, take, drop, min, IfOk, OnOk};
-ghost use Rattle.std.specs.FinMap.{find};
+ghost use Rattle.std.specs.Prelude.{◌≡◌, ℕ, ◌+◌, ◌-◌, ◌^◌, ◌<◌, ◌≤◌, List, [], ◌∷◌, ◌++◌, length, take, drop, min, T, true, Some, IfOk, OnOk};
+ghost use Rattle.std.specs.FinMap.{is_sorted, find};
 ghost use Rattle.std.specs.Option.{option_map};
 ghost use Rattle.dz_chunks.specs.Map.{last_upto};
 ghost use Rattle.dz_chunks.specs.inner.Chunked.{flat, AllBefore, AllBehind, ends_before, begins_upto, length_at, length_before, IsChunked};
 
-use crate::entries::{last_of, value_of};
+use crate::block::Block;
+use crate::entries::value_of;
 use crate::entry::Entry;
 use crate::keyed::Keyed;
 use crate::lead::{Lead, compare_leads};
@@ -26,7 +27,7 @@ pub(crate) const CHUNK: usize = 128;
 #[derive(Drop)]
 pub(crate) struct Chunk<K: Lead, V: Keyed<K>> {
     lead: [u8; 16],
-    entries: Arc<Vec<Entry<K, V>>>,
+    block: Arc<Block<K, V>>,
 }
 
 impl<K: Lead, V: Keyed<K>> Model for Chunk<K, V> {
@@ -36,9 +37,9 @@ impl<K: Lead, V: Keyed<K>> Model for Chunk<K, V> {
 
     ghost Value = { List (K × V) };
 
-    ghost view = { λ c. (arc_value c.entries).items };
+    ghost view = { λ c. arc_value c.block };
 
-    ghost invariant = { λ c. IsLedBy K.lead c.lead (arc_value c.entries).items };
+    ghost invariant = { λ c. IsLedBy K.lead c.lead (arc_value c.block) };
 }
 
 impl<K: Lead + Copy, V: Keyed<K>> Chunk<K, V> {
@@ -51,14 +52,24 @@ impl<K: Lead + Copy, V: Keyed<K>> Chunk<K, V> {
     {
         Ok(Chunk {
             lead: entries[0].lead(),
-            entries: Arc::new(alloc, entries)?,
+            block: Arc::new(alloc, Block::of(entries))?,
         })
     }
 
     pub(crate) fn entries(&self) -> &[Entry<K, V>]
         ensures { result.now ≡ self.now }
     {
-        self.entries.as_slice()
+        self.block.entries()
+    }
+
+    /// The value of the last entry whose key doesn't come after a key, where the first doesn't.
+    fn last_upto(&self, key: &K) -> &V
+        requires sorted { T (is_sorted K.cmp self.now) }
+        requires short { length self.now ≤ 128 }
+        requires upto { begins_upto K.cmp key.now self.now ≡ true }
+        ensures { Some (V.key result.now, result.now) ≡ last_upto K.cmp key.now self.now }
+    {
+        self.block.last_upto(key)
     }
 
     /// Whether the last key comes before a key.
@@ -94,7 +105,7 @@ impl<K: Lead, V: Keyed<K>> Share for Chunk<K, V> {
     fn share(&self) -> Result<Chunk<K, V>, AllocError> {
         Ok(Chunk {
             lead: self.lead,
-            entries: Arc::try_clone(&self.entries)?,
+            block: Arc::try_clone(&self.block)?,
         })
     }
 }
@@ -172,7 +183,7 @@ pub(crate) fn last_among<'a, K: Lead + Copy, V: Keyed<K>>(
     if count == 0 {
         None
     } else {
-        last_of(chunks[count - 1].entries(), key)
+        Some(chunks[count - 1].last_upto(key))
     }
 }
 

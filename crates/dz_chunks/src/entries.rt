@@ -1,6 +1,6 @@
 //! Entries in ascending order of their keys.
 
-ghost use Rattle.std.specs.Prelude.{◌≡◌, ℕ, ◌+◌, ◌-◌, ◌<◌, ◌≤◌, List, [], ◌∷◌, ◌++◌, length, take, drop, T, true, OnOk, IfOk};
+ghost use Rattle.std.specs.Prelude.{◌≡◌, ℕ, ◌+◌, ◌-◌, ◌<◌, ◌≤◌, List, [], ◌∷◌, ◌++◌, length, take, drop, T, true, Some, OnOk, IfOk};
 ghost use Rattle.std.specs.FinMap.{is_sorted, find, put};
 ghost use Rattle.std.specs.Option.{option_map};
 ghost use Rattle.dz_chunks.specs.Map.{last_upto, without_key};
@@ -14,8 +14,8 @@ use dz_steps::Steps;
 use std::alloc::{AllocError, Global};
 use std::sync::ledger::Ledger;
 
-/// How many entries stand from one that is read first to the next.
-const RUN: usize = 16;
+/// How many entries stand from one whose first octets stand beside the chunk to the next.
+pub(crate) const RUN: usize = 16;
 
 /// Copies entries behind others. All entries are copied here, and each is counted.
 pub(crate) fn copy_entries<K: Lead + Copy, V: Keyed<K> + Drop, L: Ledger>(
@@ -67,28 +67,26 @@ pub(crate) fn value_of<'a, K: Lead + Copy, V: Keyed<K>>(
     }
 }
 
-/// The last of the places `begin`, `begin + step` and so on in front of `end` whose key doesn't come after a key. It
-/// reads all of them, without waiting for one to know which comes next: what is not in the cache comes at once.
-fn last_step<K: Lead + Copy, V: Keyed<K>>(
+/// The last of the places from `begin` on in front of `end` whose key doesn't come after a key. It reads all of them,
+/// without waiting for one to know which comes next: what is not in the cache comes at once.
+fn last_between<K: Lead + Copy, V: Keyed<K>>(
     entries: &[Entry<K, V>],
     key: &K,
     begin: usize,
     end: usize,
-    step: usize,
 ) -> usize
     requires begin { begin < end }
     requires end { end ≤ length entries.now }
-    requires step { 0 < step }
     requires upto { IsUptoAt K.cmp key.now entries.now begin }
     ensures within { result < end }
     ensures from { begin ≤ result }
     ensures upto { IsUptoAt K.cmp key.now entries.now result }
-    ensures last { result + step < end → IsBehindAt K.cmp key.now entries.now (result + step) }
+    ensures last { result + 1 < end → IsBehindAt K.cmp key.now entries.now (result + 1) }
 {
     let mut found = begin;
     let mut place = begin;
-    'steps: while step < end - place {
-        place += step;
+    'steps: while 1 < end - place {
+        place += 1;
         if !entries[place].compare(key).is_gt() {
             found = place;
         }
@@ -96,22 +94,22 @@ fn last_step<K: Lead + Copy, V: Keyed<K>>(
     found
 }
 
-/// The value of the last entry whose key doesn't come after a key: it is sought among each sixteenth entry, and then among sixteen.
-pub(crate) fn last_of<'a, K: Lead + Copy, V: Keyed<K>>(
+/// The value of the last entry whose key doesn't come after a key, where it is one of the sixteen from a place on.
+pub(crate) fn last_from<'a, K: Lead + Copy, V: Keyed<K>>(
     entries: &'a [Entry<K, V>],
     key: &K,
-) -> Option<&'a V>
-    requires { T (is_sorted K.cmp entries.now) }
-    ensures { option_map (λ value. (V.key value.now, value.now)) result
-        ≡ last_upto K.cmp key.now entries.now }
+    run: usize,
+) -> &'a V
+    requires sorted { T (is_sorted K.cmp entries.now) }
+    requires within { run < length entries.now }
+    requires upto { IsUptoAt K.cmp key.now entries.now run }
+    requires last { run + 16 < length entries.now
+        → IsBehindAt K.cmp key.now entries.now (run + 16) }
+    ensures { Some (V.key result.now, result.now) ≡ last_upto K.cmp key.now entries.now }
 {
-    if entries.is_empty() || entries[0].compare(key).is_gt() {
-        return None;
-    }
-    let run = last_step(entries, key, 0, entries.len(), RUN);
     let end = run + RUN.min(entries.len() - run);
-    let last = last_step(entries, key, run, end, 1);
-    Some(entries[last].value())
+    let last = last_between(entries, key, run, end);
+    entries[last].value()
 }
 
 /// The entries with another value at a place.

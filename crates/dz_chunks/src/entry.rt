@@ -57,14 +57,23 @@ impl<K: Lead + Copy, V: Keyed<K>> Entry<K, V> {
         &self.value
     }
 
-    /// How the key stands to another one. It is read only where the first octets are alike.
+    /// How the key stands to another one. The value is read only where the first octets are alike.
+    #[inline(always)]
     pub(crate) fn compare(&self, key: &K) -> Ordering
         ensures { result ≡ K.Ord.cmp self.now.0 key.now }
     {
         match compare_leads(&self.lead, &key.lead()) {
-            Ordering::Equal => self.value.compare(key),
+            Ordering::Equal => self.compare_value(key),
             order => order,
         }
+    }
+
+    /// The same by the value. It stands apart, so that a loop over first octets is short.
+    #[inline(never)]
+    fn compare_value(&self, key: &K) -> Ordering
+        ensures { result ≡ K.Ord.cmp self.now.0 key.now }
+    {
+        self.value.compare(key)
     }
 }
 

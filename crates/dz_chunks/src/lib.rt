@@ -1,6 +1,7 @@
 //! A finite map in shared chunks: a changed map shares all but a few chunks with the map that it was made from.
 #![tactic(auto)]
 
+mod block;
 mod chunk;
 mod chunks;
 mod cutting;

@@ -1,5 +1,5 @@
 -- Inner: entries in the order of their keys, cut into chunks.
-use Rattle.std.specs.Prelude.{◌≡◌, ℕ, zero, suc, ◌+◌, ◌≤◌, Bool, true, false, not, T, List, [], ◌∷◌, ◌++◌, length, slice_index_or}
+use Rattle.std.specs.Prelude.{◌≡◌, ℕ, zero, suc, ◌+◌, ◌<◌, ◌≤◌, Bool, true, false, not, T, List, [], ◌∷◌, ◌++◌, length, slice_index_or}
 use Rattle.std.specs.Ordering.{is_lt, is_gt, is_eq}
 use Rattle.std.specs.FinMap.{is_sorted}
 use Rattle.std.specs.declared.cmp.Ordering.{Ordering}
@@ -30,6 +30,13 @@ AreFull (c ∷ cs) = (length c ≡ 128) × AreFull cs
 abbrev pub IsLedBy : {K X : Type 0} → (K → List ℕ) → List ℕ → List (K × X) → Type 0
 IsLedBy lead octets [] = ⊥
 IsLedBy lead octets (e ∷ es) = octets ≡ lead e.0
+
+-- the first octets of the key at a place, and of each sixteenth behind it, as far as there are entries
+module _ {K X : Type 0} (lead : K → List ℕ) where
+  abbrev pub AreMarks : List (List ℕ) → ℕ → List (K × X) → Type 0
+  AreMarks [] place es = Unit {0}
+  AreMarks (m ∷ ms) place es =
+      ((d : K × X) → place < length es → m ≡ lead (slice_index_or es place d).0) × AreMarks ms (place + 16) es
 
 -- how many entries the chunk at a place has, and the one before it. Where there is none, 128: nothing is joined with it
 abbrev pub length_at : {A : Type 0} → List (List A) → ℕ → ℕ

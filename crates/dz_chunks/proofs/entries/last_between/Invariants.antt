@@ -1,6 +1,6 @@
 use Rattle.std.proofs.Common.{◌+◌, ◌-◌, ◌<◌, ◌≤◌}
 use Rattle.dz_chunks.specs.inner.Chunked.{IsUptoAt, IsBehindAt}
-use Rattle.dz_chunks.proofs.entries.last_step.Given as goal
+use Rattle.dz_chunks.proofs.entries.last_between.Given as goal
 
 -- the one that was found is the last so far: where others came behind it, the next is behind the key
 abbrev pub invariant-steps : goal.invariant-steps
@@ -9,7 +9,7 @@ invariant-steps g l =
     × (l.begin ≤ l.found)
     × (l.found ≤ l.place)
     × IsUptoAt g.K.Ord.cmp l.key l.entries l.found
-    × (l.found < l.place → IsBehindAt g.K.Ord.cmp l.key l.entries (l.found + l.step))
+    × (l.found < l.place → IsBehindAt g.K.Ord.cmp l.key l.entries (l.found + 1))
 
 abbrev pub decreases-steps : goal.decreases-steps
 decreases-steps g l = l.end - l.place
