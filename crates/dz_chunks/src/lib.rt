@@ -19,6 +19,3 @@ pub use laws::few_chunks;
 pub use lead::Lead;
 pub use share::Share;
 pub use walk::Walk;
-
-#[cfg(test)]
-mod tests;
