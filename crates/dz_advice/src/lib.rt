@@ -6,8 +6,6 @@ mod entry;
 mod kept;
 mod key;
 mod reading;
-#[cfg(test)]
-mod tests;
 
 pub use advice::{Advice, Expected, advise};
 pub use kept::Kept;

@@ -1,8 +1,6 @@
 //! The whole form of a transfer (RFC 5936 section 2.2), assembled from the records of message after message.
 #![tactic(auto)]
 
-#[cfg(test)]
-mod tests;
 mod whole;
 
 pub use dz_form::{FeedError, Progress, ShapeFault};

@@ -20,6 +20,3 @@ pub use laws::few_chunks;
 pub use lead::Lead;
 pub use share::Share;
 pub use walk::Walk;
-
-#[cfg(test)]
-mod tests;

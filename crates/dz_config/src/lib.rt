@@ -7,8 +7,6 @@ mod fault;
 mod keys;
 mod laws;
 mod reading;
-#[cfg(test)]
-mod tests;
 mod tree;
 
 pub use config::{TEXT_OCTETS, read_config};

@@ -5,8 +5,6 @@
 mod apex;
 mod fault;
 mod fed;
-#[cfg(test)]
-mod tests;
 
 pub use apex::{apex_serial, held_serial, is_apex_soa, same_rdata};
 pub use fault::{FeedError, Progress, ShapeFault};

@@ -6,8 +6,6 @@ mod messages;
 mod records;
 mod script;
 mod summary;
-#[cfg(test)]
-mod tests;
 mod texts;
 
 pub use laws::is_readable;

@@ -10,8 +10,6 @@ mod header;
 mod question;
 mod record_head;
 mod shape;
-#[cfg(test)]
-mod tests;
 mod writer;
 
 pub use buffer::ReplyBuffer;

@@ -6,6 +6,3 @@ mod sort_key;
 
 pub use index::{Index, OWNERS, Run};
 pub use sort_key::SortKey;
-
-#[cfg(test)]
-mod tests;

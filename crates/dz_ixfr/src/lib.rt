@@ -4,8 +4,6 @@
 mod differences;
 mod laws;
 mod standing;
-#[cfg(test)]
-mod tests;
 
 pub use differences::Differences;
 pub use dz_form::{FeedError, Progress, ShapeFault};

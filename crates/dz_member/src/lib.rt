@@ -16,8 +16,6 @@ mod number;
 mod peer;
 mod process;
 mod sorting;
-#[cfg(test)]
-mod tests;
 mod walking;
 
 pub use change::{Change, Changes, What};

@@ -6,8 +6,6 @@ mod frame;
 mod message;
 mod query;
 mod reading;
-#[cfg(test)]
-mod tests;
 mod writing;
 
 pub use dz_header::{Header, Question};

@@ -11,8 +11,6 @@ mod octets;
 mod order;
 mod parts;
 mod reading;
-#[cfg(test)]
-mod tests;
 mod text;
 mod wire;
 

@@ -3,8 +3,6 @@
 
 mod notify;
 mod reply;
-#[cfg(test)]
-mod tests;
 
 pub use notify::{Heard, read_notify};
 pub use reply::{notify_reply_to, write_notify_reply};

@@ -4,8 +4,6 @@
 mod fields;
 mod order;
 mod rr;
-#[cfg(test)]
-mod tests;
 
 pub use fields::{Field, fields_of, is_rdata};
 pub use rr::{Rr, RrError, RrFault, Soa, is_bad_type, look_at_all};

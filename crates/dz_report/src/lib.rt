@@ -4,8 +4,6 @@
 mod line;
 mod lines;
 mod reason;
-#[cfg(test)]
-mod tests;
 mod verdict;
 
 pub use line::LogLine;

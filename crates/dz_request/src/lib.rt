@@ -4,8 +4,6 @@
 
 mod frame;
 mod request;
-#[cfg(test)]
-mod tests;
 
 pub use frame::{Frame, Heading, Transport, reply_curt};
 pub use request::{Asked, Request, read_request};

@@ -4,8 +4,6 @@
 
 mod laws;
 mod schedule;
-#[cfg(test)]
-mod tests;
 mod tournament;
 mod values;
 mod wait;

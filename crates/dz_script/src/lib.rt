@@ -7,8 +7,6 @@ mod hex_text;
 mod laws;
 mod line;
 mod settings;
-#[cfg(test)]
-mod tests;
 
 pub use hex_text::read_octets;
 pub use laws::fields_are_the_line;

@@ -2,7 +2,5 @@
 #![tactic(auto)]
 
 mod serial;
-#[cfg(test)]
-mod tests;
 
 pub use serial::{add, neither_half_way, never_both, never_itself, newer, sums_are_newer};

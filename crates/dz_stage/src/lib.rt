@@ -26,8 +26,6 @@ mod stage_link;
 mod stage_log;
 mod stage_ports;
 mod streams;
-#[cfg(test)]
-mod tests;
 
 pub use stage::{Play, Stage};
 pub use stage_clock::StageClock;

@@ -5,8 +5,6 @@ mod shared;
 mod slot;
 mod slots;
 mod table;
-#[cfg(test)]
-mod tests;
 mod zone_key;
 
 pub use slot::Slot;

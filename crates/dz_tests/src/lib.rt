@@ -17,6 +17,8 @@ mod fetch;
 #[cfg(test)]
 mod fleet;
 #[cfg(test)]
+mod generated;
+#[cfg(test)]
 mod history;
 #[cfg(test)]
 mod links;
@@ -32,6 +34,8 @@ mod provision;
 mod query;
 #[cfg(test)]
 mod records;
+#[cfg(test)]
+mod report;
 #[cfg(test)]
 mod sharing;
 #[cfg(test)]

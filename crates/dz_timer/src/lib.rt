@@ -3,8 +3,6 @@
 #![tactic(auto)]
 
 mod laws;
-#[cfg(test)]
-mod tests;
 mod timer;
 
 pub use laws::{job_waits, notify_is_kept};

@@ -5,8 +5,6 @@
 mod fault;
 mod indexing;
 mod order;
-#[cfg(test)]
-mod tests;
 mod valid;
 mod version;
 

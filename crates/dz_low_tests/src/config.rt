@@ -1,0 +1,315 @@
+//! Tests of `dz_config`.
+
+use dz_config::{ConfigError, ConfigFault, TEXT_OCTETS, read_config};
+use dz_io::Peer;
+use dz_member::{CatalogSettings, Config, Policy};
+use dz_name::Name;
+use std::alloc::{AllocError, Global};
+use std::process::Abort;
+use std::test::*;
+
+const CATALOG: &[u8] = b"[[catalog]]
+name = \"catalog.example.\"
+policy = \"present\"
+primaries = [\"192.0.2.1\", \"192.0.2.2:5353\"]
+";
+
+const GROUP: &[u8] = b"[[catalog.group]]
+word = \"edge\"
+policy = \"require\"
+primaries = [\"192.0.2.3\"]
+";
+
+const LISTEN: &[u8] = b"listen = \"192.0.2.10:53\"\n";
+
+fn named(rt: &impl Abort, text: &[u8]) -> Name {
+    match Name::parse(text) {
+        Ok(name) => name,
+        Err(error) => panic!(rt; "{error:?}"),
+    }
+}
+
+fn peer(last: u8, port: u16) -> Peer {
+    Peer {
+        address: [192, 0, 2, last],
+        port,
+    }
+}
+
+/// The pieces one behind the other.
+fn joined(alloc: Global, pieces: &[&[u8]]) -> Result<Vec<u8>, AllocError> {
+    let mut text = Vec::new(alloc);
+    for piece in pieces {
+        text.extend_from_slice(piece)?;
+    }
+    Ok(text)
+}
+
+/// The text has this fault.
+fn fails(
+    rt: &impl Abort,
+    alloc: Global,
+    pieces: &[&[u8]],
+    wanted: ConfigFault,
+) -> Result<(), AllocError> {
+    let text = joined(alloc, pieces)?;
+    match read_config(alloc, text.as_slice()) {
+        Ok(_) => panic!(rt; "read"),
+        Err(error) => assert_eq!(rt; error, ConfigError::Fault(wanted)),
+    }
+    Ok(())
+}
+
+/// The catalog of the sample text.
+fn is_sample(rt: &impl Abort, catalog: &CatalogSettings) {
+    assert!(rt; catalog.name.same(&named(rt, b"catalog.example")));
+    assert_eq!(rt; catalog.policy, Policy::Present);
+    assert_eq!(rt; catalog.primaries.as_slice().len(), 2);
+    assert_eq!(rt; catalog.primaries.as_slice().first(), Some(&peer(1, 53)));
+    assert_eq!(rt; catalog.primaries.as_slice().last(), Some(&peer(2, 5353)));
+    assert_eq!(rt; catalog.groups.as_slice().len(), 1);
+    for group in catalog.groups.as_slice() {
+        assert_eq!(rt; group.word.as_slice(), b"edge".as_slice());
+        assert_eq!(rt; group.policy, Policy::Require);
+        assert_eq!(rt; group.primaries.as_slice().len(), 1);
+        assert_eq!(rt; group.primaries.as_slice().first(), Some(&peer(3, 53)));
+    }
+}
+
+/// The text reads to the sample's value.
+fn reads(rt: &impl Abort, alloc: Global, pieces: &[&[u8]]) -> Result<(), AllocError> {
+    let text = joined(alloc, pieces)?;
+    match read_config(alloc, text.as_slice()) {
+        Ok((listen, config)) => {
+            assert_eq!(rt; listen, peer(10, 53));
+            assert_eq!(rt; config.catalogs().len(), 1);
+            for catalog in config.catalogs() {
+                is_sample(rt, catalog);
+            }
+        }
+        Err(error) => panic!(rt; "{error:?}"),
+    }
+    Ok(())
+}
+
+#[test]
+fn a_configuration_reads_however_toml_writes_it(rt: HostRuntime) -> Result<(), Fail> {
+    reads(&rt, rt.alloc(), &[LISTEN, CATALOG, GROUP])?;
+    let inline: &[u8] =
+        b"catalog = [{ name = 'catalog.example', policy = \"present\", primaries = ['192.0.2.1:53', '192.0.2.2:5353'], group = [{ primaries = ['192.0.2.3'], policy = 'require', word = 'edge' }] }]\n";
+    reads(
+        &rt,
+        rt.alloc(),
+        &[b"# a comment\n", inline, b"listen = '192.0.2.10'\n"],
+    )?;
+    Ok(())
+}
+
+#[test]
+fn each_fault_comes_and_the_least_wins(rt: HostRuntime) -> Result<(), Fail> {
+    let alloc = rt.alloc();
+    let unknown: &[u8] = b"x = 1\n";
+    let missing: &[u8] = b"[[catalog]]\nname = \"b\"\npolicy = \"off\"\n";
+    let name: &[u8] =
+        b"[[catalog]]\nname = \"a..b\"\npolicy = \"off\"\nprimaries = [\"192.0.2.1\"]\n";
+    let policy: &[u8] =
+        b"[[catalog]]\nname = \"c\"\npolicy = \"maybe\"\nprimaries = [\"192.0.2.1\"]\n";
+    let host: &[u8] =
+        b"[[catalog]]\nname = \"d\"\npolicy = \"off\"\nprimaries = [\"192.0.2.01\"]\n";
+    let none: &[u8] = b"[[catalog]]\nname = \"e\"\npolicy = \"off\"\nprimaries = []\n";
+    let faults: [(&[u8], ConfigFault); 8] = [
+        (b"x = \n", ConfigFault::NotToml),
+        (unknown, ConfigFault::UnknownKey),
+        (missing, ConfigFault::MissingValue),
+        (name, ConfigFault::BadName),
+        (policy, ConfigFault::UnknownPolicy),
+        (host, ConfigFault::BadPeer),
+        (none, ConfigFault::OutOfLimits),
+        (CATALOG, ConfigFault::Twice),
+    ];
+    for (text, fault) in faults {
+        fails(&rt, alloc, &[LISTEN, text, CATALOG], fault)?;
+    }
+    fails(
+        &rt,
+        alloc,
+        &[LISTEN, unknown, missing, name, CATALOG, CATALOG],
+        ConfigFault::UnknownKey,
+    )?;
+    fails(
+        &rt,
+        alloc,
+        &[LISTEN, CATALOG, CATALOG, none, host, policy, name, missing],
+        ConfigFault::MissingValue,
+    )?;
+    fails(
+        &rt,
+        alloc,
+        &[LISTEN, CATALOG, CATALOG, none, host, policy, name],
+        ConfigFault::BadName,
+    )?;
+    fails(
+        &rt,
+        alloc,
+        &[LISTEN, CATALOG, CATALOG, none, host, policy],
+        ConfigFault::UnknownPolicy,
+    )?;
+    fails(
+        &rt,
+        alloc,
+        &[LISTEN, CATALOG, CATALOG, none, host],
+        ConfigFault::BadPeer,
+    )?;
+    fails(
+        &rt,
+        alloc,
+        &[LISTEN, CATALOG, CATALOG, none],
+        ConfigFault::OutOfLimits,
+    )?;
+    Ok(())
+}
+
+#[test]
+fn keys_and_kinds_are_exact(rt: HostRuntime) -> Result<(), Fail> {
+    let alloc = rt.alloc();
+    fails(&rt, alloc, &[], ConfigFault::MissingValue)?;
+    fails(&rt, alloc, &[LISTEN, b"x = 1\n"], ConfigFault::UnknownKey)?;
+    fails(&rt, alloc, &[LISTEN], ConfigFault::MissingValue)?;
+    fails(&rt, alloc, &[CATALOG], ConfigFault::MissingValue)?;
+    fails(
+        &rt,
+        alloc,
+        &[LISTEN, CATALOG, GROUP, b"x = 1979-05-27\n"],
+        ConfigFault::UnknownKey,
+    )?;
+    fails(
+        &rt,
+        alloc,
+        &[LISTEN, CATALOG, b"group = []\nx.y = 1.5\n"],
+        ConfigFault::UnknownKey,
+    )?;
+    fails(
+        &rt,
+        alloc,
+        &[b"listen = 1.5\n", CATALOG],
+        ConfigFault::MissingValue,
+    )?;
+    fails(
+        &rt,
+        alloc,
+        &[b"listen.x = 1\n", CATALOG],
+        ConfigFault::MissingValue,
+    )?;
+    fails(
+        &rt,
+        alloc,
+        &[LISTEN, b"catalog = { x = 1 }\n"],
+        ConfigFault::MissingValue,
+    )?;
+    fails(
+        &rt,
+        alloc,
+        &[LISTEN, b"catalog = [1979-05-27]\n"],
+        ConfigFault::MissingValue,
+    )?;
+    fails(
+        &rt,
+        alloc,
+        &[LISTEN, CATALOG, b"group = 1\n"],
+        ConfigFault::MissingValue,
+    )?;
+    fails(
+        &rt,
+        alloc,
+        &[LISTEN, b"catalog = []\n"],
+        ConfigFault::OutOfLimits,
+    )?;
+    fails(
+        &rt,
+        alloc,
+        &[LISTEN, CATALOG, GROUP, GROUP],
+        ConfigFault::Twice,
+    )?;
+    Ok(())
+}
+
+#[test]
+fn text_that_is_no_toml_counts_first(rt: HostRuntime) -> Result<(), Fail> {
+    let alloc = rt.alloc();
+    fails(&rt, alloc, &[LISTEN, LISTEN, CATALOG], ConfigFault::NotToml)?;
+    fails(
+        &rt,
+        alloc,
+        &[LISTEN, CATALOG, b"# \xff\n"],
+        ConfigFault::NotToml,
+    )?;
+    let sample = joined(alloc, &[LISTEN, CATALOG, GROUP])?;
+    let mut long = Vec::new(alloc);
+    for _ in sample.len()..TEXT_OCTETS {
+        long.push(b'\n')?;
+    }
+    reads(&rt, alloc, &[long.as_slice(), sample.as_slice()])?;
+    fails(
+        &rt,
+        alloc,
+        &[b"\n", long.as_slice(), sample.as_slice()],
+        ConfigFault::NotToml,
+    )?;
+    Ok(())
+}
+
+/// A group with so many primaries, and with a word of so many letters behind these.
+fn group(alloc: Global, primaries: usize, word: &[u8], more: usize) -> Result<Vec<u8>, AllocError> {
+    let mut text = Vec::from_slice(alloc, b"[[catalog.group]]\npolicy = 'off'\nprimaries = [")?;
+    for _ in 0..primaries {
+        text.extend_from_slice(b"'192.0.2.1',")?;
+    }
+    text.extend_from_slice(b"]\nword = '")?;
+    text.extend_from_slice(word)?;
+    for _ in 0..more {
+        text.push(b'w')?;
+    }
+    text.extend_from_slice(b"'\n")?;
+    Ok(text)
+}
+
+#[test]
+fn limits_are_those_of_configurations(rt: HostRuntime) -> Result<(), Fail> {
+    let alloc = rt.alloc();
+    let largest = group(alloc, 8, b"", 255)?;
+    fails(
+        &rt,
+        alloc,
+        &[LISTEN, CATALOG, largest.as_slice(), largest.as_slice()],
+        ConfigFault::Twice,
+    )?;
+    let primaries = group(alloc, 9, b"", 255)?;
+    fails(
+        &rt,
+        alloc,
+        &[LISTEN, CATALOG, primaries.as_slice()],
+        ConfigFault::OutOfLimits,
+    )?;
+    let long = group(alloc, 8, b"", 256)?;
+    fails(
+        &rt,
+        alloc,
+        &[LISTEN, CATALOG, long.as_slice()],
+        ConfigFault::OutOfLimits,
+    )?;
+    let empty = group(alloc, 8, b"", 0)?;
+    fails(
+        &rt,
+        alloc,
+        &[LISTEN, CATALOG, empty.as_slice()],
+        ConfigFault::OutOfLimits,
+    )?;
+    let blank = group(alloc, 8, b"a b", 0)?;
+    fails(
+        &rt,
+        alloc,
+        &[LISTEN, CATALOG, blank.as_slice()],
+        ConfigFault::OutOfLimits,
+    )?;
+    Ok(())
+}

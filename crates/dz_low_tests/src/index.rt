@@ -1,0 +1,104 @@
+//! Tests of `dz_index`.
+
+ghost use Rattle.std.specs.Prelude.{◌≡◌};
+
+use dz_index::{Index, OWNERS, SortKey};
+use dz_name::Name;
+use dz_steps::Steps;
+use std::alloc::{AllocError, Global};
+use std::cmp::Ordering;
+use std::marker::Brand;
+use std::process::Abort;
+use std::sync::ledger::{Blank, Ledger};
+use std::test::*;
+
+/// Names in canonical order: the example of RFC 4034 section 6.1 with the octets 0 and 1 at the end of a label.
+const NAMES: [&[u8]; 12] = [
+    b".",
+    b"example.",
+    b"a.example.",
+    b"yljkjljk.a.example.",
+    b"Z.a.example.",
+    b"zABC.a.EXAMPLE.",
+    b"a\\000.example.",
+    b"a\\001.example.",
+    b"a\\001\\000.example.",
+    b"a\\002.example.",
+    b"z.example.",
+    b"\\200.z.example.",
+];
+
+fn name(rt: &impl Abort, text: &[u8]) -> Name {
+    match Name::parse(text) {
+        Ok(name) => name,
+        Err(fault) => panic!(rt; "{fault:?} of {text:?}"),
+    }
+}
+
+#[test]
+fn keys_stand_in_the_order_of_their_names(rt: HostRuntime) {
+    for (i, text) in NAMES.iter().enumerate() {
+        let key = SortKey::of(&name(&rt, text).as_ref());
+        for (j, other) in NAMES.iter().enumerate() {
+            let expected = i.cmp(&j);
+            let found = key
+                .octets()
+                .cmp(SortKey::of(&name(&rt, other).as_ref()).octets());
+            assert!(rt; found == expected, "{text:?} and {other:?}");
+        }
+    }
+}
+
+/// An index of the names, each of which stands so often.
+fn index(
+    rt: &impl Abort,
+    alloc: Global,
+    names: &[&[u8]],
+    times: usize,
+) -> Result<Index, AllocError> {
+    let mut index = Index::empty(alloc)?;
+    for text in names {
+        for _ in 0..times {
+            assert!(rt; index.total() < OWNERS);
+            index = index.with(&name(rt, text).as_ref())?;
+        }
+    }
+    Ok(index)
+}
+
+/// The places of names in an index, counted in a ledger of its own.
+fn expect_places<L: Ledger>(rt: &impl Abort, blank: Blank, index: &Index, rows: &[(&[u8], usize)])
+    requires name { blank.name ≡ L.name }
+    requires parts { blank.parts ≡ L.parts }
+    requires whole { blank.parts ≡ 1 }
+{
+    let mut steps = Steps::<L>::new(blank);
+    for (text, place) in rows {
+        let found = index.first_of(&name(rt, text), &mut steps);
+        assert!(rt; found == *place, "{text:?} at {found}, not {place}");
+    }
+}
+
+#[test]
+fn a_name_is_placed_among_owners_that_repeat(rt: HostRuntime) -> Result<(), Fail> {
+    let index = index(&rt, rt.alloc(), &NAMES[1..5], 3)?;
+    assert!(rt; index.len() == 4 && index.total() == 12);
+    let rows: [(&[u8], usize); 7] = [
+        (b".", 0),
+        (b"example.", 0),
+        (b"a.example.", 3),
+        (b"y.a.example.", 6),
+        (b"yljkjljk.a.example.", 6),
+        (b"z.a.example.", 9),
+        (b"zz.a.example.", 12),
+    ];
+    expect_places::<Brand>(&rt, Blank::new(1), &index, &rows);
+    Ok(())
+}
+
+#[test]
+fn no_owner_comes_before_a_name_where_there_is_none(rt: HostRuntime) -> Result<(), Fail> {
+    let index = Index::empty(rt.alloc())?;
+    expect_places::<Brand>(&rt, Blank::new(1), &index, &[(b"example.", 0)]);
+    Ok(())
+}

@@ -1,0 +1,517 @@
+//! Tests of `dz_ixfr`.
+
+ghost use Rattle.dz_form.specs.Feeding.{IsOpen};
+ghost use Rattle.dz_ixfr.specs.Incremental.{IsIncremental, Blames};
+
+use dz_form::is_apex_soa;
+use dz_ixfr::{Differences, FeedError, Progress, ShapeFault};
+use dz_name::{Name, Octets};
+use dz_record::Rr;
+use dz_zone::{Version, check};
+use std::alloc::{AllocError, Global};
+use std::process::Abort;
+use std::test::*;
+
+/// Owner in wire form, type, TTL and RDATA of a record.
+type Row = (&'static [u8], u16, u32, &'static [u8]);
+
+/// A record of `example.`.
+#[derive(Clone, Copy, Debug)]
+enum Item {
+    /// The SOA of this serial: `ns.invalid. host.invalid. serial 100 60 600 30`.
+    Soa(u32),
+    /// The same with MINIMUM 31.
+    OtherSoa(u32),
+    /// The first SOA with TTL 60.
+    SoonSoa(u32),
+    Other(Row),
+}
+
+use Item::{Other, OtherSoa, Soa, SoonSoa};
+
+const APEX: &[u8] = b"\x07example\x00";
+
+const WWW: &[u8] = b"\x03www\x07example\x00";
+
+const NS: Item = Other((APEX, 2, 3600, b"\x02ns\x07invalid\x00"));
+
+const A_OF_WWW: Item = Other((WWW, 1, 3600, b"\xc0\x00\x02\x50"));
+
+const A_OF_WWW_60: Item = Other((WWW, 1, 60, b"\xc0\x00\x02\x50"));
+
+const OTHER_A_OF_WWW: Item = Other((WWW, 1, 3600, b"\xc0\x00\x02\x51"));
+
+const OTHER_A_OF_WWW_60: Item = Other((WWW, 1, 60, b"\xc0\x00\x02\x51"));
+
+const A_OF_MAIL: Item = Other((b"\x04mail\x07example\x00", 1, 3600, b"\xc0\x00\x02\x19"));
+
+const A_OF_NO: Item = Other((b"\x02no\x07example\x00", 1, 3600, b"\xc0\x00\x02\x01"));
+
+/// Comes in front of every other record.
+const A_OF_APEX: Item = Other((APEX, 1, 3600, b"\xc0\x00\x02\x01"));
+
+/// Comes behind every other record.
+const A_OF_Z: Item = Other((b"\x01z\x07example\x00", 1, 3600, b"\xc0\x00\x02\x01"));
+
+const SOA_BELOW: Item = Other((
+    WWW,
+    6,
+    3600,
+    b"\x00\x00\x00\x00\x00\x07\x00\x00\x00\x02\x00\x00\x00\x03\x00\x00\x00\x04\x00\x00\x00\x05",
+));
+
+fn make_name(rt: &impl Abort, wire: &[u8]) -> Name {
+    match Name::read_at(wire, 0) {
+        Ok((name, _)) => name,
+        Err(fault) => panic!(rt; "{fault:?} of {wire:?}"),
+    }
+}
+
+fn make_row(
+    rt: &impl Abort,
+    alloc: Global,
+    owner: &[u8],
+    kind: u16,
+    ttl: u32,
+    rdata: Vec<u8>,
+) -> Rr {
+    match Rr::make(
+        alloc,
+        make_name(rt, owner),
+        kind,
+        ttl,
+        Octets::from_vec(rdata),
+    ) {
+        Ok(made) => made,
+        Err(error) => panic!(rt; "{error:?} of type {kind} at {owner:?}"),
+    }
+}
+
+fn make_soa(
+    rt: &impl Abort,
+    alloc: Global,
+    serial: u32,
+    ttl: u32,
+    minimum: u32,
+) -> Result<Rr, AllocError> {
+    let mut rdata = Vec::from_slice(alloc, b"\x02ns\x07invalid\x00\x04host\x07invalid\x00")?;
+    for number in [serial, 100, 60, 600, minimum] {
+        rdata.extend_from_slice(&number.to_be_bytes())?;
+    }
+    Ok(make_row(rt, alloc, APEX, 6, ttl, rdata))
+}
+
+fn make_record(rt: &impl Abort, alloc: Global, item: Item) -> Result<Rr, AllocError> {
+    match item {
+        Soa(serial) => make_soa(rt, alloc, serial, 3600, 30),
+        OtherSoa(serial) => make_soa(rt, alloc, serial, 3600, 31),
+        SoonSoa(serial) => make_soa(rt, alloc, serial, 60, 30),
+        Other((owner, kind, ttl, octets)) => {
+            let rdata = Vec::from_slice(alloc, octets)?;
+            Ok(make_row(rt, alloc, owner, kind, ttl, rdata))
+        }
+    }
+}
+
+fn make_records(rt: &impl Abort, alloc: Global, items: &[Item]) -> Result<Vec<Rr>, AllocError> {
+    let mut records = Vec::new(alloc);
+    for item in items {
+        records.push(make_record(rt, alloc, *item)?)?;
+    }
+    Ok(records)
+}
+
+fn make_version(rt: &impl Abort, alloc: Global, items: &[Item]) -> Result<Version, AllocError> {
+    let records = make_records(rt, alloc, items)?;
+    match check(alloc, &make_name(rt, APEX), records) {
+        Ok(version) => Ok(version),
+        Err(error) => panic!(rt; "{error:?} of {items:?}"),
+    }
+}
+
+/// The records are these, TTLs included.
+fn expect_records(
+    rt: &impl Abort,
+    alloc: Global,
+    found: &[Rr],
+    want: &[Item],
+) -> Result<(), AllocError> {
+    assert_eq!(rt; found.len(), want.len(), "for {want:?}");
+    for (record, item) in found.iter().zip(want) {
+        let made = make_record(rt, alloc, *item)?;
+        assert_eq!(rt; record.octets(), made.octets(), "for {item:?}");
+    }
+    Ok(())
+}
+
+/// Feeds message after message until there is an answer other than `More`: the records at the end, none where more is to
+/// come.
+fn feed_messages(
+    mut differences: Differences,
+    messages: Vec<Vec<Rr>>,
+) -> Result<Option<Vec<Rr>>, FeedError>
+    requires { IsOpen (IsIncremental differences.held) (Blames differences.held.apex) differences.fed }
+{
+    let mut rest = messages.into_iter();
+    'messages: while let Some(records) = rest.next() {
+        match differences.feed(records) {
+            Ok(progress) => match progress {
+                Progress::More => {}
+                Progress::Ended => return Ok(Some(differences.finish())),
+            },
+            Err(error) => return Err(error),
+        }
+    }
+    Ok(None)
+}
+
+/// What comes of the items, in messages of so many behind the first.
+fn assemble(
+    rt: &impl Abort,
+    alloc: Global,
+    held: &Version,
+    items: &[Item],
+    at_a_time: usize,
+) -> Result<Result<Option<Vec<Rr>>, FeedError>, AllocError> {
+    let [first, rest @ ..] = items else {
+        panic!(rt; "no item");
+    };
+    assert!(rt; 0 < at_a_time);
+    let mut messages = Vec::new(alloc);
+    for piece in rest.chunks(at_a_time) {
+        messages.push(make_records(rt, alloc, piece)?)?;
+    }
+    let first = make_record(rt, alloc, *first)?;
+    assert!(rt; is_apex_soa(&held.apex().to_name(), &first), "{first:?}");
+    let differences = Differences::start(alloc, held, first)?;
+    Ok(feed_messages(differences, messages))
+}
+
+/// However the items are cut, more is to come.
+fn expect_more(
+    rt: &impl Abort,
+    alloc: Global,
+    held: &Version,
+    items: &[Item],
+) -> Result<(), AllocError> {
+    for at_a_time in [1, 2, 100] {
+        match assemble(rt, alloc, held, items, at_a_time)? {
+            Ok(None) => {}
+            answer => panic!(rt; "{answer:?} of {items:?} {at_a_time} at a time"),
+        }
+    }
+    Ok(())
+}
+
+/// However the items are cut, they make these records.
+fn expect_zone(
+    rt: &impl Abort,
+    alloc: Global,
+    held: &Version,
+    items: &[Item],
+    want: &[Item],
+) -> Result<(), AllocError> {
+    for at_a_time in [1, 2, 3, 1000] {
+        match assemble(rt, alloc, held, items, at_a_time)? {
+            Ok(Some(records)) => expect_records(rt, alloc, records.as_slice(), want)?,
+            answer => panic!(rt; "{answer:?} of {want:?} {at_a_time} at a time"),
+        }
+    }
+    Ok(())
+}
+
+/// In one message the items have this fault.
+fn expect_fault(
+    rt: &impl Abort,
+    alloc: Global,
+    items: &[Item],
+    want: ShapeFault,
+) -> Result<(), AllocError> {
+    let held = make_held(rt, alloc)?;
+    match assemble(rt, alloc, &held, items, 100)? {
+        Err(found) => assert_eq!(rt; found, FeedError::Shape(want), "{items:?}"),
+        Ok(_) => panic!(rt; "no fault of {items:?}"),
+    }
+    Ok(())
+}
+
+/// However the items are cut, up to the last of them more is to come, and the last has this fault.
+fn expect_fault_of_last(
+    rt: &impl Abort,
+    alloc: Global,
+    items: &[Item],
+    want: ShapeFault,
+) -> Result<(), AllocError> {
+    let held = make_held(rt, alloc)?;
+    let [front @ .., _] = items else {
+        panic!(rt; "no item");
+    };
+    expect_more(rt, alloc, &held, front)?;
+    for at_a_time in [1, 2, 3, 100] {
+        match assemble(rt, alloc, &held, items, at_a_time)? {
+            Err(found) => assert_eq!(rt; found, FeedError::Shape(want), "{items:?}"),
+            Ok(_) => panic!(rt; "no fault of {items:?} {at_a_time} at a time"),
+        }
+    }
+    Ok(())
+}
+
+/// The zone that differences are read against: NS, SOA 5, and the A record of `www.example.`.
+fn make_held(rt: &impl Abort, alloc: Global) -> Result<Version, AllocError> {
+    make_version(rt, alloc, &[Soa(5), NS, A_OF_WWW])
+}
+
+/// The items, fed to a zone of five records, leave these.
+fn expect_of_five(
+    rt: &impl Abort,
+    alloc: Global,
+    items: &[Item],
+    want: &[Item],
+) -> Result<(), AllocError> {
+    let held = make_version(rt, alloc, &[A_OF_WWW, Soa(5), A_OF_NO, NS, A_OF_MAIL])?;
+    expect_zone(rt, alloc, &held, items, want)?;
+    let before = [NS, Soa(5), A_OF_MAIL, A_OF_NO, A_OF_WWW];
+    expect_records(rt, alloc, held.records(), &before)
+}
+
+#[test]
+fn the_new_soa_stands_in_place_of_the_held_one(rt: HostRuntime) -> Result<(), AllocError> {
+    let items = [Soa(6), Soa(5), Soa(6), Soa(6)];
+    let want = [NS, Soa(6), A_OF_MAIL, A_OF_NO, A_OF_WWW];
+    expect_of_five(&rt, rt.alloc(), &items, &want)
+}
+
+#[test]
+fn a_record_leaves_once_whatever_its_ttl(rt: HostRuntime) -> Result<(), AllocError> {
+    let alloc = rt.alloc();
+    let items = [Soa(6), Soa(5), A_OF_WWW_60, Soa(6), Soa(6)];
+    expect_of_five(&rt, alloc, &items, &[NS, Soa(6), A_OF_MAIL, A_OF_NO])?;
+    for again in [A_OF_WWW, OTHER_A_OF_WWW] {
+        let items = [Soa(6), Soa(5), A_OF_WWW_60, again];
+        expect_fault_of_last(&rt, alloc, &items, ShapeFault::DeleteMissing)?;
+    }
+    Ok(())
+}
+
+#[test]
+fn a_record_joins_once_whatever_its_ttl(rt: HostRuntime) -> Result<(), AllocError> {
+    let alloc = rt.alloc();
+    let items = [Soa(6), Soa(5), Soa(6), OTHER_A_OF_WWW, Soa(6)];
+    let want = [NS, Soa(6), A_OF_MAIL, A_OF_NO, A_OF_WWW, OTHER_A_OF_WWW];
+    expect_of_five(&rt, alloc, &items, &want)?;
+    for again in [OTHER_A_OF_WWW_60, A_OF_WWW_60] {
+        let items = [Soa(6), Soa(5), Soa(6), OTHER_A_OF_WWW, again];
+        expect_fault_of_last(&rt, alloc, &items, ShapeFault::AddPresent)?;
+    }
+    Ok(())
+}
+
+#[test]
+fn a_record_that_left_comes_again_with_its_new_ttl(rt: HostRuntime) -> Result<(), AllocError> {
+    let items = [
+        Soa(7),
+        Soa(5),
+        A_OF_WWW,
+        Soa(6),
+        A_OF_WWW_60,
+        OTHER_A_OF_WWW,
+        Soa(6),
+        OTHER_A_OF_WWW_60,
+        Soa(7),
+        Soa(7),
+    ];
+    let want = [NS, Soa(7), A_OF_MAIL, A_OF_NO, A_OF_WWW_60];
+    expect_of_five(&rt, rt.alloc(), &items, &want)
+}
+
+#[test]
+fn records_join_at_both_ends_and_between(rt: HostRuntime) -> Result<(), AllocError> {
+    let items = [
+        Soa(6),
+        Soa(5),
+        A_OF_WWW,
+        A_OF_MAIL,
+        NS,
+        Soa(6),
+        A_OF_Z,
+        A_OF_APEX,
+        OTHER_A_OF_WWW,
+        Soa(6),
+    ];
+    let want = [A_OF_APEX, Soa(6), A_OF_NO, OTHER_A_OF_WWW, A_OF_Z];
+    expect_of_five(&rt, rt.alloc(), &items, &want)
+}
+
+const TWO_DIFFERENCES: [Item; 9] = [
+    Soa(7),
+    Soa(5),
+    A_OF_WWW,
+    Soa(6),
+    A_OF_WWW_60,
+    Soa(6),
+    Soa(7),
+    A_OF_MAIL,
+    Soa(7),
+];
+
+#[test]
+fn two_differences_are_applied(rt: HostRuntime) -> Result<(), AllocError> {
+    let alloc = rt.alloc();
+    let held = make_held(&rt, alloc)?;
+    let want = [NS, Soa(7), A_OF_MAIL, A_OF_WWW_60];
+    expect_zone(&rt, alloc, &held, &TWO_DIFFERENCES, &want)?;
+    expect_records(&rt, alloc, held.records(), &[NS, Soa(5), A_OF_WWW])
+}
+
+#[test]
+fn more_is_to_come_before_the_closing_soa_of_an_ixfr(rt: HostRuntime) -> Result<(), AllocError> {
+    let alloc = rt.alloc();
+    let held = make_held(&rt, alloc)?;
+    for count in 1..TWO_DIFFERENCES.len() {
+        expect_more(&rt, alloc, &held, &TWO_DIFFERENCES[..count])?;
+    }
+    Ok(())
+}
+
+#[test]
+fn a_serial_goes_round_to_0(rt: HostRuntime) -> Result<(), AllocError> {
+    let alloc = rt.alloc();
+    let held = make_version(&rt, alloc, &[Soa(0xffff_ffff), NS])?;
+    let items = [Soa(0), Soa(0xffff_ffff), Soa(0), A_OF_MAIL, Soa(0)];
+    expect_zone(&rt, alloc, &held, &items, &[NS, Soa(0), A_OF_MAIL])
+}
+
+/// TTLs of deleted records and of SOAs behind the first aren't looked at; the first SOA stands as it came.
+#[test]
+fn the_first_soa_stands_with_its_ttl(rt: HostRuntime) -> Result<(), AllocError> {
+    let alloc = rt.alloc();
+    let held = make_held(&rt, alloc)?;
+    let items = [SoonSoa(6), SoonSoa(5), A_OF_WWW_60, OtherSoa(6), Soa(6)];
+    expect_zone(&rt, alloc, &held, &items, &[NS, SoonSoa(6)])
+}
+
+/// An SOA below the apex is a record like another.
+#[test]
+fn an_soa_below_the_apex_joins(rt: HostRuntime) -> Result<(), AllocError> {
+    let alloc = rt.alloc();
+    let held = make_held(&rt, alloc)?;
+    let items = [Soa(6), Soa(5), Soa(6), SOA_BELOW, Soa(6)];
+    expect_zone(
+        &rt,
+        alloc,
+        &held,
+        &items,
+        &[NS, Soa(6), A_OF_WWW, SOA_BELOW],
+    )
+}
+
+#[test]
+fn each_gap_is_found_at_its_record(rt: HostRuntime) -> Result<(), AllocError> {
+    let rows: [&[Item]; 6] = [
+        // no difference begins
+        &[Soa(6), A_OF_WWW],
+        // the first doesn't begin at the held serial
+        &[Soa(6), Soa(4)],
+        // the second doesn't begin where the first came to
+        &[Soa(7), Soa(5), Soa(6), Soa(5)],
+        &[Soa(7), Soa(5), A_OF_WWW, Soa(6), A_OF_MAIL, Soa(7)],
+        // the closing SOA isn't the first
+        &[Soa(6), Soa(5), Soa(6), OtherSoa(6)],
+        &[Soa(6), Soa(5), Soa(6), A_OF_MAIL, Soa(7)],
+    ];
+    for items in rows {
+        expect_fault_of_last(&rt, rt.alloc(), items, ShapeFault::SerialGap)?;
+    }
+    Ok(())
+}
+
+#[test]
+fn an_absent_record_cannot_be_deleted(rt: HostRuntime) -> Result<(), AllocError> {
+    let rows: [&[Item]; 4] = [
+        &[Soa(6), Soa(5), A_OF_NO],
+        &[Soa(6), Soa(5), OTHER_A_OF_WWW],
+        &[Soa(6), Soa(5), A_OF_WWW, A_OF_WWW],
+        &[Soa(7), Soa(5), A_OF_WWW, Soa(6), Soa(6), A_OF_WWW],
+    ];
+    for items in rows {
+        expect_fault_of_last(&rt, rt.alloc(), items, ShapeFault::DeleteMissing)?;
+    }
+    Ok(())
+}
+
+#[test]
+fn a_record_that_is_there_cannot_be_added(rt: HostRuntime) -> Result<(), AllocError> {
+    let rows: [&[Item]; 4] = [
+        &[Soa(6), Soa(5), Soa(6), A_OF_WWW],
+        &[Soa(6), Soa(5), Soa(6), A_OF_WWW_60],
+        &[Soa(6), Soa(5), Soa(6), A_OF_MAIL, A_OF_MAIL],
+        &[Soa(7), Soa(5), Soa(6), A_OF_MAIL, Soa(6), Soa(7), A_OF_MAIL],
+    ];
+    for items in rows {
+        expect_fault_of_last(&rt, rt.alloc(), items, ShapeFault::AddPresent)?;
+    }
+    Ok(())
+}
+
+/// A record in a further message isn't fed any more.
+#[test]
+fn a_record_stands_behind_the_end(rt: HostRuntime) -> Result<(), AllocError> {
+    let rows: [&[Item]; 3] = [
+        &[Soa(6), Soa(5), Soa(6), Soa(6), A_OF_MAIL],
+        &[Soa(6), Soa(5), Soa(6), Soa(6), Soa(6)],
+        &[Soa(6), Soa(5), Soa(6), A_OF_MAIL, Soa(6), A_OF_NO],
+    ];
+    for items in rows {
+        expect_fault(&rt, rt.alloc(), items, ShapeFault::AfterEnd)?;
+    }
+    Ok(())
+}
+
+#[test]
+fn of_two_faults_the_first_record_counts(rt: HostRuntime) -> Result<(), AllocError> {
+    let rows: [(&[Item], ShapeFault); 5] = [
+        (
+            &[Soa(6), Soa(5), A_OF_NO, Soa(6), Soa(6)],
+            ShapeFault::DeleteMissing,
+        ),
+        (
+            &[Soa(7), Soa(5), A_OF_NO, Soa(6), A_OF_WWW, Soa(5)],
+            ShapeFault::DeleteMissing,
+        ),
+        (
+            &[Soa(7), Soa(5), Soa(6), A_OF_WWW, Soa(5), A_OF_NO],
+            ShapeFault::AddPresent,
+        ),
+        (
+            &[Soa(7), Soa(5), Soa(6), Soa(5), A_OF_NO, Soa(6), A_OF_WWW],
+            ShapeFault::SerialGap,
+        ),
+        (
+            &[Soa(6), Soa(5), Soa(6), OtherSoa(6), Soa(6), A_OF_WWW],
+            ShapeFault::SerialGap,
+        ),
+    ];
+    for (items, fault) in rows {
+        expect_fault(&rt, rt.alloc(), items, fault)?;
+    }
+    Ok(())
+}
+
+/// Each of 10,000 differences deletes the A record of `www.example.` and adds it with another TTL.
+#[test]
+fn ten_thousand_differences_are_applied(rt: HostRuntime) -> Result<(), AllocError> {
+    let alloc = rt.alloc();
+    let held = make_held(&rt, alloc)?;
+    let mut items = vec![in alloc; Soa(10_005)]?;
+    for serial in 5..10_005 {
+        let added = Other((WWW, 1, serial + 1, b"\xc0\x00\x02\x50"));
+        items.extend_from_slice(&[Soa(serial), A_OF_WWW, Soa(serial + 1), added])?;
+    }
+    items.push(Soa(10_005))?;
+    let added = Other((WWW, 1, 10_005, b"\xc0\x00\x02\x50"));
+    let want = [NS, Soa(10_005), added];
+    match assemble(&rt, alloc, &held, items.as_slice(), 1000)? {
+        Ok(Some(records)) => expect_records(&rt, alloc, records.as_slice(), &want),
+        answer => panic!(&rt; "{answer:?}"),
+    }
+}
