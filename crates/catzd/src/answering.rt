@@ -84,7 +84,8 @@ impl Answering {
         number: u64,
         line: &[u8],
     ) -> Result<Saying, AllocError>
-        ensures { IfOk result (λ s. answer_turn self.old number line.now ≡ turn_from s.text.items s.ending self.new) }
+        ensures { IfOk result (λ s. answer_turn self.old number line.now
+            ≡ turn_from s.text.items s.ending self.new) }
     {
         if is_skipped(line) {
             return Ok(Saying {
@@ -102,7 +103,8 @@ impl Answering {
         number: u64,
         line: &[u8],
     ) -> Result<Saying, AllocError>
-        ensures { IfOk result (λ s. line_turn self.old number line.now ≡ turn_from s.text.items s.ending self.new) }
+        ensures { IfOk result (λ s. line_turn self.old number line.now
+            ≡ turn_from s.text.items s.ending self.new) }
     {
         match &self.table {
             Some(table) => take_request(alloc, number, line, table, &mut self.buffer),
@@ -113,7 +115,8 @@ impl Answering {
     /// Takes the first line.
     fn take_first(&mut self, alloc: Global, number: u64, line: &[u8]) -> Result<Saying, AllocError>
         requires { self.old ≡ None }
-        ensures { IfOk result (λ s. zone_turn number (zone_line line.now) ≡ turn_from s.text.items s.ending self.new) }
+        ensures { IfOk result (λ s. zone_turn number (zone_line line.now)
+            ≡ turn_from s.text.items s.ending self.new) }
     {
         match read_zone_line(alloc, line)? {
             None => say_bad(alloc, number),
@@ -130,7 +133,9 @@ impl Answering {
     ) -> Result<Saying, AllocError>
         requires none { self.old ≡ None }
         requires short { length octets.now ≤ MESSAGE_OCTETS }
-        ensures { IfOk result (λ s. taking_turn apex.now (outcome (transfer_of apex.now) (frame octets.now)) ≡ turn_from s.text.items s.ending self.new) }
+        ensures { IfOk result (λ s.
+            taking_turn apex.now (outcome (transfer_of apex.now) (frame octets.now))
+            ≡ turn_from s.text.items s.ending self.new) }
     {
         let finished = take_zone(alloc, apex, octets)?;
         self.serve(alloc, apex, finished.outcome())
@@ -140,7 +145,8 @@ impl Answering {
     fn serve(&mut self, alloc: Global, apex: &Name, outcome: &Outcome) -> Result<Saying, AllocError>
         requires none { self.old ≡ None }
         requires fits { Fits (transfer_of apex.now) (meaning_of outcome.now) }
-        ensures { IfOk result (λ s. taking_turn apex.now (meaning_of outcome.now) ≡ turn_from s.text.items s.ending self.new) }
+        ensures { IfOk result (λ s. taking_turn apex.now (meaning_of outcome.now)
+            ≡ turn_from s.text.items s.ending self.new) }
     {
         match outcome {
             Outcome::UpToDate => unreachable!(),
@@ -176,7 +182,8 @@ fn take_request(
     table: &Table,
     buffer: &mut ReplyBuffer,
 ) -> Result<Saying, AllocError>
-    ensures { IfOk result (λ s. request_turn table.now number (octets_in line.now) ≡ turn_from s.text.items s.ending (Some table.now)) }
+    ensures { IfOk result (λ s. request_turn table.now number (octets_in line.now)
+        ≡ turn_from s.text.items s.ending (Some table.now)) }
 {
     match read_octets(alloc, line)? {
         None => say_bad(alloc, number),
@@ -194,7 +201,8 @@ fn reply_text(
     octets: &[u8],
     buffer: &mut ReplyBuffer,
 ) -> Result<Vec<u8>, AllocError>
-    ensures { IfOk result (λ text. text.items ≡ reply_text (reply_of table.now octets.now 0 false)) }
+    ensures { IfOk result (λ text. text.items
+        ≡ reply_text (reply_of table.now octets.now 0 false)) }
 {
     match reply_into(table, octets, 0, Transport::Udp, buffer) {
         Turn::Silent => Vec::from_slice(alloc, b"none\n"),
@@ -204,7 +212,8 @@ fn reply_text(
 }
 
 fn notify_text(alloc: Global, name: &Name) -> Result<Vec<u8>, AllocError>
-    ensures { IfOk result (λ text. text.items ≡ codes "notify " ++ (text_of name.now ++ (10 ∷ []))) }
+    ensures { IfOk result (λ text. text.items
+        ≡ codes "notify " ++ (text_of name.now ++ (10 ∷ []))) }
 {
     let mut text = Vec::from_slice(alloc, b"notify ")?;
     text.extend_from_slice(name.print().as_bytes())?;
@@ -256,7 +265,8 @@ fn say_refusal(alloc: Global, fault: &TakeFault) -> Result<Saying, AllocError>
 
 /// Says a word and a number, and goes on.
 fn say(alloc: Global, word: &[u8], number: u64) -> Result<Saying, AllocError>
-    ensures { IfOk result (λ s. (s.text.items ≡ numbered_line word.now number) × (s.ending ≡ None)) }
+    ensures { IfOk result (λ s. (s.text.items ≡ numbered_line word.now number)
+        × (s.ending ≡ None)) }
 {
     Ok(Saying {
         text: numbered_line(alloc, word, number)?,

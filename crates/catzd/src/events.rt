@@ -68,7 +68,8 @@ impl<K: Sink, J: Naming> Model for Running<K, J> {
 
     ghost view = { λ r. r.provisioner };
 
-    ghost invariant = { λ r. (r.provisioner.failed ≡ false → r.jobs.items ≡ r.provisioner.core.flight)
+    ghost invariant = { λ r. (r.provisioner.failed ≡ false
+        → r.jobs.items ≡ r.provisioner.core.flight)
         × IsAtRest J.publisher r.reading };
 }
 
@@ -81,7 +82,8 @@ impl<K: Sink, J: Naming> Running<K, J> {
         ends: Ends<K>,
     ) -> Result<Running<K, J>, Ends<K>>
         requires config { IsAllowed config }
-        requires ends { CanStart J.publisher (K.held ends.output) (K.faults ends.output) ends.publisher ends.reading }
+        requires ends { CanStart J.publisher (K.held ends.output)
+            (K.faults ends.output) ends.publisher ends.reading }
         ensures ok { IfOk result (λ r. r ≡ record {
           core = opened_core config;
           written = K.held ends.output;
@@ -163,7 +165,8 @@ impl<K: Sink, J: Naming> Running<K, J> {
     ) -> Result<Took, TurnError>
         requires moment { moment < 2 ^ 40 }
         requires open { self.old.failed ≡ false }
-        ensures { (number : ℕ) → IsTaken (event_turn self.old.core number moment event.now) number self.old result self.new }
+        ensures { (number : ℕ) → IsTaken
+            (event_turn self.old.core number moment event.now) number self.old result self.new }
     {
         match event {
             Event::Job => self.hand_out(moment),
@@ -197,7 +200,8 @@ impl<K: Sink, J: Naming> Running<K, J> {
     fn hand_out(&mut self, moment: u64) -> Result<Took, TurnError>
         requires moment { moment < 2 ^ 40 }
         requires open { self.old.failed ≡ false }
-        ensures { (number : ℕ) → IsTaken (job_turn self.old.core moment) number self.old result self.new }
+        ensures { (number : ℕ) → IsTaken
+            (job_turn self.old.core moment) number self.old result self.new }
     {
         if self.jobs.reserve(1).is_err() {
             return Err(TurnError::OutOfMemory);
@@ -272,7 +276,8 @@ impl<K: Sink, J: Naming> Running<K, J> {
     ) -> Result<Took, TurnError>
         requires open { self.old.failed ≡ false }
         ensures { (number : ℕ) → IsTaken
-            (query_turn self.old.core query.entry.moment query.entry.transport query.entry.request.now)
+            (query_turn self.old.core query.entry.moment query.entry.transport
+            query.entry.request.now)
             number self.old result self.new }
     {
         match look(rt, &self.provisioner, &mut self.reading, query, buffer) {
@@ -359,7 +364,8 @@ fn look<R: Wait, K: Sink, J: Naming>(
     requires { IsAtRest J.publisher reading.old }
     ensures rest { IsAtRest J.publisher reading.new }
     ensures reply { IsReply result buffer.new.reply.writing
-        (reply_at provisioner.now.core.list query.entry.request.now query.entry.moment (is_tcp query.entry.transport)) }
+        (reply_at provisioner.now.core.list query.entry.request.now query.entry.moment
+        (is_tcp query.entry.transport)) }
     ensures size { FitsBuffer result }
 {
     'looks: for _ in rt.forever() {

@@ -118,7 +118,8 @@ fn add_at(
     group: GroupSettings,
 ) -> Result<(), AllocError>
     requires { place < length catalogs.old.items }
-    ensures { OnOk result (catalogs.new.items ≡ at_place (with_group group) place catalogs.old.items) }
+    ensures { OnOk result (catalogs.new.items
+        ≡ at_place (with_group group) place catalogs.old.items) }
 {
     add_to(alloc, &mut catalogs[place], group)?;
     Ok(())

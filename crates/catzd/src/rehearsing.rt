@@ -23,10 +23,12 @@ pub(crate) fn rehearse<R: Wait, K: Sink>(
     requires number { number ≤ ZONES }
     requires desk { IsNewDesk desk.publisher desk.readings.items }
     ensures rehearses { Rehearses number result.status (K.held output) (K.held result.output) }
-    ensures published { result.status ≡ Status.Done → result.desk.publisher.list ≡ list_of_script (script number) }
+    ensures published { result.status ≡ Status.Done
+        → result.desk.publisher.list ≡ list_of_script (script number) }
     ensures other { (result.status ≢ Status.Usage) × (result.status ≢ Status.PortFault) }
     ensures read { result.status ≢ Status.ReadFault }
-    ensures write_cause { HasCauseIn (K.faults output) (K.faults result.output) result.status Status.WriteFault }
+    ensures write_cause { HasCauseIn (K.faults output)
+        (K.faults result.output) result.status Status.WriteFault }
 {
     let Ok(script) = generate(alloc, number) else {
         return Ended {
@@ -65,8 +67,10 @@ fn has_ended(status: Status) -> bool
 /// Writes the summary of a text.
 fn tell<K: Sink>(alloc: Global, text: &[u8], output: &mut K) -> Status
     ensures sums_up { SumsUp text.now result (K.held output.old) (K.held output.new) }
-    ensures ways { (result ≢ Status.Usage) × (result ≢ Status.PortFault) × (result ≢ Status.ReadFault) }
-    ensures cause { HasCauseIn (K.faults output.old) (K.faults output.new) result Status.WriteFault }
+    ensures ways { (result ≢ Status.Usage) × (result ≢ Status.PortFault)
+        × (result ≢ Status.ReadFault) }
+    ensures cause { HasCauseIn (K.faults output.old)
+        (K.faults output.new) result Status.WriteFault }
 {
     match sum_up(alloc, text) {
         Err(_) => Status::NoMemory,

@@ -44,11 +44,13 @@ impl<'a, R, K: Sink, J: Naming> Model for Replaying<'a, R, K, J> {
     ghost Value = { Shown };
 
     ghost view = { λ r. shown r.opening r.running (option_map (λ s. s.value) r.last)
-        (option_map (λ e. K.held e.output) r.ends) (option_map (λ e. K.faults e.output) r.ends) r.is_over };
+        (option_map (λ e. K.held e.output) r.ends)
+        (option_map (λ e. K.faults e.output) r.ends) r.is_over };
 
     ghost invariant = { λ r. IsKept J.publisher r.running (option_map (λ s. s.value) r.last)
         (option_map (λ e. e.publisher) r.ends) (option_map (λ e. e.reading) r.ends)
-        (option_map (λ e. K.held e.output) r.ends) (option_map (λ e. K.faults e.output) r.ends) r.is_over };
+        (option_map (λ e. K.held e.output) r.ends)
+        (option_map (λ e. K.faults e.output) r.ends) r.is_over };
 }
 
 impl<'a, R: Wait, K: Sink, J: Naming> Replaying<'a, R, K, J> {
@@ -59,7 +61,8 @@ impl<'a, R: Wait, K: Sink, J: Naming> Replaying<'a, R, K, J> {
         ends: Ends<K>,
         buffer: ReplyBuffer,
     ) -> Replaying<'a, R, K, J>
-        requires { CanStart J.publisher (K.held ends.output) (K.faults ends.output) ends.publisher ends.reading }
+        requires { CanStart J.publisher (K.held ends.output)
+            (K.faults ends.output) ends.publisher ends.reading }
         ensures { result ≡ record {
           state = opening [];
           written = K.held ends.output;
@@ -194,7 +197,8 @@ impl<'a, R: Wait, K: Sink, J: Naming> Replaying<'a, R, K, J> {
     ) -> Result<Option<End>, TurnError>
         requires moment { moment < 2 ^ 40 }
         requires goes { self.old.is_over ≡ false }
-        ensures { HasTurned (event_line self.old.state number moment event) self.old result self.new }
+        ensures { HasTurned (event_line self.old.state number moment event) self.old result
+            self.new }
     {
         if self.running.is_some() {
             return self.go_on(alloc, number, moment, event);
@@ -236,7 +240,8 @@ impl<'a, R: Wait, K: Sink, J: Naming> Replaying<'a, R, K, J> {
         requires goes { self.old.is_over ≡ false }
         requires some { HasConfig self.old.state }
         ensures ok { OnOk result (HasBegun self.old self.new) }
-        ensures err { OnErr result ((self.new.written ≡ self.old.written) × (self.new.faults ≡ self.old.faults)) }
+        ensures err { OnErr result
+            ((self.new.written ≡ self.old.written) × (self.new.faults ≡ self.old.faults)) }
     {
         let config = self.opening.take(alloc);
         match Running::start(self.rt, alloc, config, some_of(self.ends.take())) {
@@ -258,7 +263,8 @@ impl<'a, R: Wait, K: Sink, J: Naming> Replaying<'a, R, K, J> {
         requires goes { self.old.is_over ≡ false }
         requires runs { IsRunning self.old.state }
         ensures { (c : Core) → self.old.state ≡ running c →
-            (number : ℕ) → HasRun (event_turn c number moment event.now) number self.old result self.new }
+            (number : ℕ) → HasRun (event_turn c number moment event.now) number self.old result
+            self.new }
     {
         match &mut self.running {
             None => unreachable!(),
@@ -355,7 +361,8 @@ fn ends_of<K: Sink, J: Naming>(
     running: &mut Option<Running<K, J>>,
     last: &mut Option<Snapshot<Fleet>>,
 ) -> Ends<K>
-    requires one { (IsSome ends.old × (running.old ≡ None)) ⊎ ((ends.old ≡ None) × IsSome running.old) }
+    requires one { (IsSome ends.old × (running.old ≡ None))
+        ⊎ ((ends.old ≡ None) × IsSome running.old) }
     ensures none { (ends.new ≡ None) × (running.new ≡ None) }
     ensures kept { running.old ≡ None → (ends.old ≡ Some result) × (last.new ≡ last.old) }
     ensures closed { IfSome running.old (λ h. IsClosed J.publisher h

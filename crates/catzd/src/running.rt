@@ -95,17 +95,22 @@ pub fn run<R: Threads + Wait + Sync, S: Source, K: Sink + Send, P: Ports, C: Clo
         Rehearses number result.status (K.held output) (K.held result.output) }
     ensures rehearsed { (number : ℕ) → command_of words.now ≡ Ok (Command.Rehearse number) →
         result.status ≡ Status.Done → result.desk.publisher.list ≡ list_of_script (script number) }
-    ensures serves { command_of words.now ≡ Ok Command.Serve → (how : ServeEnd) × (result.status ≡ status_after how)
-        × IsServe how ((k : K) × HasRisen 0 (K.faults k)) (C.may_give clock.now) (C.may_stop clock.now)
+    ensures serves { command_of words.now ≡ Ok Command.Serve
+        → (how : ServeEnd) × (result.status ≡ status_after how)
+        × IsServe how ((k : K) × HasRisen 0 (K.faults k)) (C.may_give clock.now)
+        (C.may_stop clock.now)
         (S.left input.old) (K.held result.output) result.desk.publisher.list
         (rows (P.datagrams ports.old) (P.acceptors ports.old) (P.dialers ports.old))
         (rows (P.datagrams ports.new) (P.acceptors ports.new) (P.dialers ports.new)) }
-    ensures desk { command_of words.now ≢ Ok Command.Replay → command_of words.now ≢ Ok Command.Serve →
+    ensures desk { command_of words.now ≢ Ok Command.Replay
+        → command_of words.now ≢ Ok Command.Serve →
         ((number : ℕ) → command_of words.now ≢ Ok (Command.Rehearse number)) → result.desk ≡ desk }
     ensures ports { command_of words.now ≢ Ok Command.Serve → ports.new ≡ ports.old }
-    ensures words { Decides (command_of words.now) result.status (K.held output) (K.held result.output) }
+    ensures words { Decides (command_of words.now) result.status (K.held output)
+        (K.held result.output) }
     ensures usage { result.status ≡ Status.Usage → command_of words.now ≡ Err WordsError.Usage }
-    ensures unread { command_of words.now ≢ Ok Command.Answer → command_of words.now ≢ Ok Command.Replay →
+    ensures unread { command_of words.now ≢ Ok Command.Answer
+        → command_of words.now ≢ Ok Command.Replay →
         command_of words.now ≢ Ok Command.Serve → input.new ≡ input.old }
     ensures done { ((number : ℕ) → command_of words.now ≢ Ok (Command.Rehearse number)) →
         (octets : Octets) → S.left input.old ≡ Some octets →
@@ -118,7 +123,8 @@ pub fn run<R: Threads + Wait + Sync, S: Source, K: Sink + Send, P: Ports, C: Clo
         HasRisen (S.faults input.old) (S.faults input.new) }
     ensures write_fault { result.status ≡ Status.WriteFault →
         HasRisen (K.faults output) (K.faults result.output) }
-    ensures port_fault { result.status ≡ Status.PortFault → HasRisen (P.faults ports.old) (P.faults ports.new) }
+    ensures port_fault { result.status ≡ Status.PortFault
+        → HasRisen (P.faults ports.old) (P.faults ports.new) }
     ensures ports_later { P.faults ports.old ≤ P.faults ports.new }
 {
     match read_words(words) {
@@ -156,8 +162,10 @@ fn run_command<S: Source, K: Sink>(
     ensures done { (octets : Octets) → S.left input.old ≡ Some octets →
         result ≡ Status.Done → S.left input.new ≡ Some [] }
     ensures ports { result ≢ Status.PortFault }
-    ensures read_cause { HasCauseIn (S.faults input.old) (S.faults input.new) result Status.ReadFault }
-    ensures write_cause { HasCauseIn (K.faults output.old) (K.faults output.new) result Status.WriteFault }
+    ensures read_cause { HasCauseIn (S.faults input.old)
+        (S.faults input.new) result Status.ReadFault }
+    ensures write_cause { HasCauseIn (K.faults output.old)
+        (K.faults output.new) result Status.WriteFault }
 {
     match command {
         Ok(Command::Answer) => answer(alloc, input, output),
@@ -184,16 +192,20 @@ fn run_serve<R: Threads + Wait + Sync, S: Source, K: Sink + Send, P: Ports, C: C
     requires written { IfSome (K.held output) (λ text. text ≡ []) }
     requires faultless { K.faults output ≡ 0 }
     ensures serves { (how : ServeEnd) × (result.status ≡ status_after how)
-        × IsServe how ((k : K) × HasRisen 0 (K.faults k)) (C.may_give clock.now) (C.may_stop clock.now)
+        × IsServe how ((k : K) × HasRisen 0 (K.faults k)) (C.may_give clock.now)
+        (C.may_stop clock.now)
         (S.left input.old) (K.held result.output) result.desk.publisher.list
         (rows (P.datagrams ports.old) (P.acceptors ports.old) (P.dialers ports.old))
         (rows (P.datagrams ports.new) (P.acceptors ports.new) (P.dialers ports.new)) }
     ensures other { result.status ≢ Status.Usage }
     ensures done { (octets : Octets) → S.left input.old ≡ Some octets →
         result.status ≡ Status.Done → S.left input.new ≡ Some [] }
-    ensures read_cause { HasCauseIn (S.faults input.old) (S.faults input.new) result.status Status.ReadFault }
-    ensures write_cause { HasCauseIn (K.faults output) (K.faults result.output) result.status Status.WriteFault }
-    ensures port_fault { result.status ≡ Status.PortFault → HasRisen (P.faults ports.old) (P.faults ports.new) }
+    ensures read_cause { HasCauseIn (S.faults input.old)
+        (S.faults input.new) result.status Status.ReadFault }
+    ensures write_cause { HasCauseIn (K.faults output)
+        (K.faults result.output) result.status Status.WriteFault }
+    ensures port_fault { result.status ≡ Status.PortFault
+        → HasRisen (P.faults ports.old) (P.faults ports.new) }
     ensures ports_later { P.faults ports.old ≤ P.faults ports.new }
 {
     let Served { end, output, desk } = serve_input::<S, K, Brand, P, C, R>(
@@ -232,13 +244,16 @@ pub(crate) fn run_replay<R: Wait, S: Source, K: Sink>(
     requires faultless { K.faults output ≡ 0 }
     ensures ends { (octets : Octets) → S.left input.old ≡ Some octets →
         Replays octets result.status (S.left input.new) (K.held output) (K.held result.output) }
-    ensures published { (octets : Octets) → S.left input.old ≡ Some octets → HasEnded result.status →
+    ensures published { (octets : Octets) → S.left input.old ≡ Some octets → HasEnded result.status
+        →
         result.desk.publisher.list ≡ list_of_script octets }
     ensures other { (result.status ≢ Status.Usage) × (result.status ≢ Status.PortFault) }
     ensures done { (octets : Octets) → S.left input.old ≡ Some octets →
         result.status ≡ Status.Done → S.left input.new ≡ Some [] }
-    ensures read_cause { HasCauseIn (S.faults input.old) (S.faults input.new) result.status Status.ReadFault }
-    ensures write_cause { HasCauseIn (K.faults output) (K.faults result.output) result.status Status.WriteFault }
+    ensures read_cause { HasCauseIn (S.faults input.old)
+        (S.faults input.new) result.status Status.ReadFault }
+    ensures write_cause { HasCauseIn (K.faults output)
+        (K.faults result.output) result.status Status.WriteFault }
 {
     let Desk {
         publisher,
@@ -284,8 +299,10 @@ pub fn answer<S: Source, K: Sink>(alloc: Global, input: &mut S, output: &mut K) 
     ensures other { (result ≢ Status.Usage) × (result ≢ Status.PortFault) }
     ensures done { (octets : Octets) → S.left input.old ≡ Some octets →
         result ≡ Status.Done → S.left input.new ≡ Some [] }
-    ensures read_cause { HasCauseIn (S.faults input.old) (S.faults input.new) result Status.ReadFault }
-    ensures write_cause { HasCauseIn (K.faults output.old) (K.faults output.new) result Status.WriteFault }
+    ensures read_cause { HasCauseIn (S.faults input.old)
+        (S.faults input.new) result Status.ReadFault }
+    ensures write_cause { HasCauseIn (K.faults output.old)
+        (K.faults output.new) result Status.WriteFault }
 {
     match ReplyBuffer::make(alloc) {
         Err(_) => Status::NoMemory,
@@ -309,15 +326,19 @@ pub fn replay<R: Wait, S: Source, K: Sink, J: Naming>(
     input: &mut S,
     ends: Ends<K>,
 ) -> Played<K>
-    requires { CanStart J.publisher (K.held ends.output) (K.faults ends.output) ends.publisher ends.reading }
+    requires { CanStart J.publisher (K.held ends.output)
+        (K.faults ends.output) ends.publisher ends.reading }
     ensures ends { (octets : Octets) → S.left input.old ≡ Some octets →
-        Replays octets result.status (S.left input.new) (K.held ends.output) (K.held result.ends.output) }
-    ensures published { (octets : Octets) → S.left input.old ≡ Some octets → HasEnded result.status →
+        Replays octets result.status (S.left input.new) (K.held ends.output)
+        (K.held result.ends.output) }
+    ensures published { (octets : Octets) → S.left input.old ≡ Some octets → HasEnded result.status
+        →
         result.ends.publisher.list ≡ list_of_script octets }
     ensures other { (result.status ≢ Status.Usage) × (result.status ≢ Status.PortFault) }
     ensures done { (octets : Octets) → S.left input.old ≡ Some octets →
         result.status ≡ Status.Done → S.left input.new ≡ Some [] }
-    ensures read_cause { HasCauseIn (S.faults input.old) (S.faults input.new) result.status Status.ReadFault }
+    ensures read_cause { HasCauseIn (S.faults input.old)
+        (S.faults input.new) result.status Status.ReadFault }
     ensures write_cause { HasCauseIn (K.faults ends.output) (K.faults result.ends.output)
         result.status Status.WriteFault }
 {
@@ -353,7 +374,8 @@ fn status_of(run: Result<End, ScriptError>) -> Status
 fn say<K: Sink>(text: &[u8], status: Status, output: &mut K) -> Status
     requires { IsWithoutFault status }
     ensures says { Says text.now status result (K.held output.old) (K.held output.new) }
-    ensures cause { HasCauseIn (K.faults output.old) (K.faults output.new) result Status.WriteFault }
+    ensures cause { HasCauseIn (K.faults output.old)
+        (K.faults output.new) result Status.WriteFault }
 {
     match output.write(text) {
         Ok(()) => status,

@@ -25,8 +25,10 @@ impl<'a, K: Sink> AnswerScript<'a, K> {
         ensures ends { (octets : Octets) → S.left input.old ≡ Some octets →
             IsRun answer_rules self.old.answering.now octets result self.new.answering.now
             (S.left input.new) (K.held self.old.output.now) (K.held self.new.output.now) }
-        ensures read_cause { HasCauseOf (S.faults input.old) (S.faults input.new) result ScriptError.Read }
-        ensures write_cause { HasCauseOf (K.faults self.old.output.now) (K.faults self.new.output.now)
+        ensures read_cause { HasCauseOf (S.faults input.old)
+            (S.faults input.new) result ScriptError.Read }
+        ensures write_cause { HasCauseOf (K.faults self.old.output.now)
+            (K.faults self.new.output.now)
             result ScriptError.Write }
     {
         run_script(alloc, self, input)
@@ -43,8 +45,10 @@ pub fn run_answering<S: Source, K: Sink>(
     ensures ends { (octets : Octets) → S.left input.old ≡ Some octets →
         IsRun answer_rules answering.old octets result answering.new
         (S.left input.new) (K.held output.old) (K.held output.new) }
-    ensures read_cause { HasCauseOf (S.faults input.old) (S.faults input.new) result ScriptError.Read }
-    ensures write_cause { HasCauseOf (K.faults output.old) (K.faults output.new) result ScriptError.Write }
+    ensures read_cause { HasCauseOf (S.faults input.old)
+        (S.faults input.new) result ScriptError.Read }
+    ensures write_cause { HasCauseOf (K.faults output.old)
+        (K.faults output.new) result ScriptError.Write }
 {
     let mut script = AnswerScript { answering, output };
     script.run(alloc, input)

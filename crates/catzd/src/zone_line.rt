@@ -29,7 +29,8 @@ fn read_fields(
     name: &[u8],
     text: &[u8],
 ) -> Result<Option<(Name, Vec<u8>)>, AllocError>
-    ensures fields { IfOk result (λ r. option_map (λ x. (x.0, x.1.items)) r ≡ two_fields (Some (name.now, text.now))) }
+    ensures fields { IfOk result
+        (λ r. option_map (λ x. (x.0, x.1.items)) r ≡ two_fields (Some (name.now, text.now))) }
     ensures short { IfOk result (λ r. IfSome r (λ x. length x.1.items ≤ MESSAGE_OCTETS)) }
 {
     match Name::parse(name) {

@@ -70,7 +70,8 @@ impl fmt::Display for Advice {
 
 /// What to mend in a configuration that can't be read. None where it can, or where memory is wanting.
 pub fn advise(alloc: Global, text: &[u8]) -> Option<Advice>
-    ensures faulty { IfSome result (λ _. (fault : ConfigFault) × Reads text.now (Err (ConfigError.Fault fault))) }
+    ensures faulty { IfSome result
+        (λ _. (fault : ConfigFault) × Reads text.now (Err (ConfigError.Fault fault))) }
 {
     match read_config(alloc, text) {
         Ok(_) | Err(ConfigError::OutOfMemory) => None,

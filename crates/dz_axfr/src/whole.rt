@@ -71,7 +71,8 @@ impl Whole {
         ensures apex { self.new.apex ≡ self.old.apex }
         ensures fed { OnOk result (self.new.fed ≡ self.old.fed ++ records.items) }
         ensures kept { OnErr result (self.new ≡ self.old) }
-        ensures says { Says result (Stands (IsWhole self.old.apex) Blames (self.old.fed ++ records.items)) }
+        ensures says { Says result
+            (Stands (IsWhole self.old.apex) Blames (self.old.fed ++ records.items)) }
     {
         let fed = self.fed.and_all(&records);
         match extend(&self.apex, &mut self.records, records) {

@@ -89,7 +89,8 @@ fn primary_of(value: &Value) -> Result<Peer, ConfigFault>
 
 /// The primaries of these values.
 fn primaries(alloc: Global, values: &[Value]) -> Result<Result<Vec<Peer>, ConfigFault>, AllocError>
-    ensures { IfOk result (λ r. made (λ v. v.items) r ≡ gathered (map primary_of (map view values.now))) }
+    ensures { IfOk result (λ r. made (λ v. v.items) r
+        ≡ gathered (map primary_of (map view values.now))) }
 {
     let mut all = Ok(Vec::new(alloc));
     'values: for value in values {
@@ -128,7 +129,8 @@ fn word_at(alloc: Global, table: &Table) -> Result<Result<Octets, ConfigFault>, 
 fn group_from(
     parts: Result<((), (Octets, (Policy, Peers))), ConfigFault>,
 ) -> Result<GroupSettings, ConfigFault>
-    ensures { result ≡ made (λ p. record { word = p.1.0; policy = p.1.1.0; primaries = p.1.1.1 }) parts }
+    ensures { result ≡ made (λ p. record { word = p.1.0; policy = p.1.1.0; primaries = p.1.1.1 })
+        parts }
 {
     match parts {
         Ok(((), (word, (policy, primaries)))) => Ok(GroupSettings {
@@ -168,7 +170,8 @@ fn groups(
     alloc: Global,
     values: &[Value],
 ) -> Result<Result<Vec<GroupSettings>, ConfigFault>, AllocError>
-    ensures { IfOk result (λ r. made (λ v. v.items) r ≡ gathered (map group_of (map view values.now))) }
+    ensures { IfOk result (λ r. made (λ v. v.items) r
+        ≡ gathered (map group_of (map view values.now))) }
 {
     let mut all = Ok(Vec::new(alloc));
     'values: for value in values {
@@ -198,7 +201,9 @@ fn groups_at(alloc: Global, table: &Table) -> Result<Result<Groups, ConfigFault>
 fn catalog_from(
     parts: Result<((), (Name, (Policy, (Peers, Groups)))), ConfigFault>,
 ) -> Result<CatalogSettings, ConfigFault>
-    ensures { result ≡ made (λ p. record { name = p.1.0; policy = p.1.1.0; primaries = p.1.1.1.0; groups = p.1.1.1.1 }) parts }
+    ensures { result ≡ made (λ p.
+        record { name = p.1.0; policy = p.1.1.0; primaries = p.1.1.1.0; groups = p.1.1.1.1 })
+        parts }
 {
     match parts {
         Ok(((), (name, (policy, (primaries, groups))))) => Ok(CatalogSettings {
@@ -246,7 +251,8 @@ fn catalogs(
     alloc: Global,
     values: &[Value],
 ) -> Result<Result<Vec<CatalogSettings>, ConfigFault>, AllocError>
-    ensures { IfOk result (λ r. made (λ v. v.items) r ≡ gathered (map catalog_of (map view values.now))) }
+    ensures { IfOk result (λ r. made (λ v. v.items) r
+        ≡ gathered (map catalog_of (map view values.now))) }
 {
     let mut all = Ok(Vec::new(alloc));
     'values: for value in values {

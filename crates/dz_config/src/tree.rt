@@ -60,7 +60,8 @@ fn array_of(value: &Value) -> Result<&Array, ConfigFault>
 
 /// The values of an array.
 fn values_of(value: &Value) -> Result<&[Value], ConfigFault>
-    ensures { made (λ values. map view values.now) result ≡ made list_of (wanted (as_array (view value.now))) }
+    ensures { made (λ values. map view values.now) result
+        ≡ made list_of (wanted (as_array (view value.now))) }
 {
     match array_of(value) {
         Ok(array) => Ok(array.as_slice()),
@@ -70,7 +71,8 @@ fn values_of(value: &Value) -> Result<&[Value], ConfigFault>
 
 /// The values of the array at a key.
 pub(crate) fn values_at<'a>(table: &'a Table, key: &str) -> Result<&'a [Value], ConfigFault>
-    ensures { made (λ values. map view values.now) result ≡ values_at key.now (table_view table.now) }
+    ensures { made (λ values. map view values.now) result
+        ≡ values_at key.now (table_view table.now) }
 {
     match value_at(table, key) {
         Some(value) => values_of(value),

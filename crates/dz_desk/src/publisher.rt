@@ -35,7 +35,8 @@ impl Model for Publisher {
 
     ghost view = { λ p. published p.writer.desk.shown.value p.staged };
 
-    ghost invariant = { λ p. IsKept (last_seen p.writer.desk.place) (drop p.writer.behind p.writer.log.items) p.word p.writer.desk.shown.value p.staged };
+    ghost invariant = { λ p. IsKept (last_seen p.writer.desk.place)
+        (drop p.writer.behind p.writer.log.items) p.word p.writer.desk.shown.value p.staged };
 }
 
 impl Publisher {
@@ -65,7 +66,8 @@ impl Publisher {
         requires room { length self.old.list < 2 ^ 64 - 1 }
         requires legal { IsLegal (self.old.list ++ step.entry ∷ []) }
         requires table { step.table.value ≡ (after (self.old.list ++ step.entry ∷ [])).table }
-        ensures staged { IfOk result (λ _. self.new ≡ record self.old { staged = Some (self.old.list ++ step.entry ∷ []) }) }
+        ensures staged { IfOk result
+            (λ _. self.new ≡ record self.old { staged = Some (self.old.list ++ step.entry ∷ []) }) }
         ensures back { IfErr result (λ back. (back ≡ step) × (self.new ≡ self.old)) }
     {
         let told = self.writer.published().told();

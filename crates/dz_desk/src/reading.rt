@@ -115,7 +115,8 @@ impl Reading {
     /// Whether a note's list begins with all that was seen. Else what was seen begins with the note's list.
     pub fn is_within(&self, told: &Told) -> bool
         requires { told.now.book ≡ self.now.book }
-        ensures { MatchBool result (IsPrefix self.now.list told.now.list) (IsPrefix told.now.list self.now.list) }
+        ensures { MatchBool result (IsPrefix self.now.list told.now.list)
+            (IsPrefix told.now.list self.now.list) }
     {
         told.has(&self.seen)
     }

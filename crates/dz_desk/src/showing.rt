@@ -40,7 +40,8 @@ pub(crate) fn show<R: Wait>(rt: &R, writer: &mut Showing, next: Edition)
 /// Puts an edition behind the one that is shown; where there is no memory it tries again.
 fn put<R: Wait>(rt: &R, writer: &mut Showing, next: Edition)
     ensures desk { writer.new.desk ≡ writer.old.desk }
-    ensures next { drop writer.new.behind writer.new.log.items ≡ drop writer.old.behind writer.old.log.items ++ next ∷ [] }
+    ensures next { drop writer.new.behind writer.new.log.items
+        ≡ drop writer.old.behind writer.old.log.items ++ next ∷ [] }
 {
     let mut next = next;
     'memory: for _ in rt.forever() {

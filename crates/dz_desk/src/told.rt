@@ -66,7 +66,8 @@ impl Told {
     /// Whether this list begins with that of another note of the same book. Else the other list begins with this one.
     pub(crate) fn has(&self, other: &Told) -> bool
         requires { other.now.book ≡ self.now.book }
-        ensures { MatchBool result (IsPrefix other.now.list self.now.list) (IsPrefix self.now.list other.now.list) }
+        ensures { MatchBool result (IsPrefix other.now.list self.now.list)
+            (IsPrefix self.now.list other.now.list) }
     {
         let mut both = self.reached.again();
         both.learn(&other.reached);
@@ -81,7 +82,8 @@ impl Told {
         requires own { word.now ≡ length_of self.now.book }
         requires room { length self.now.list < 2 ^ 64 - 1 }
         requires legal { IsLegal (self.now.list ++ entry.now ∷ []) }
-        ensures { IfSome result (λ told. told ≡ page (self.now.list ++ entry.now ∷ []) self.now.book) }
+        ensures { IfSome result (λ told. told
+            ≡ page (self.now.list ++ entry.now ∷ []) self.now.book) }
     {
         let mut reached = self.reached.again();
         let mut offer: Offer<Entry, u64, Counts, Gratis> = reached.plain::<Gratis, Entry, Enter>(

@@ -19,7 +19,8 @@ fn read_front<S: Source>(source: &mut S, buffer: &mut [u8], room: usize) -> Resu
     requires some { 0 < room }
     requires fits { room ≤ length buffer.old }
     ensures count { IfOk result (λ n. n ≤ room) }
-    ensures given { IfOk result (λ n. Gains (take n buffer.new) (S.given source.old) (S.given source.new)) }
+    ensures given { IfOk result
+        (λ n. Gains (take n buffer.new) (S.given source.old) (S.given source.new)) }
     ensures end { IfOk result (λ n. n ≡ 0 → IsAtEnd (S.left source.new)) }
     ensures beside { S.beside source.new ≡ S.beside source.old }
     ensures cause { HasCause (S.faults source.old) (S.faults source.new) result }

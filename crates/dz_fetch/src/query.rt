@@ -22,7 +22,8 @@ pub(crate) fn framed_query(alloc: Global, job: &Job) -> Result<Vec<u8>, AllocErr
 }
 
 fn query(alloc: Global, job: &Job) -> Result<Octets, AllocError>
-    ensures octets { IfOk result (λ o. o ≡ query_octets job.now.flight.id job.now.flight.zone (soa_asked job.now)) }
+    ensures octets { IfOk result
+        (λ o. o ≡ query_octets job.now.flight.id job.now.flight.zone (soa_asked job.now)) }
     ensures short { IfOk result (λ o. length o ≤ 65535) }
 {
     let apex = job.zone();

@@ -20,7 +20,8 @@ use std::alloc::{AllocError, Global};
 /// What comes of a job's transfer whose octets a source gives: messages are read up to the first that decides, or to the
 /// source's end. A part of a frame at the end is not looked at. `LinkFault` is a fault of the source.
 pub fn take_all<S: Source>(alloc: Global, source: &mut S, job: &Job) -> Fetched
-    ensures taken { IsTaken result job.now (S.given source.old) (S.given source.new) (S.left source.new) }
+    ensures taken { IsTaken result job.now (S.given source.old) (S.given source.new)
+        (S.left source.new) }
     ensures beside { S.beside source.new ≡ S.beside source.old }
     ensures later { S.faults source.old ≤ S.faults source.new }
     ensures faults { Counts result (S.faults source.old) (S.faults source.new) }
@@ -84,7 +85,8 @@ fn feed_frame(taking: &mut Taking, frame: &[u8]) -> Result<Progress, AllocError>
     ensures transfer { OnOk result (taking.new.transfer ≡ taking.old.transfer) }
     ensures octets { OnOk result (taking.new.octets ≡ taking.old.octets ++ frame.now) }
     ensures frames { OnOk result (AreFrames taking.new.octets) }
-    ensures progress { IfOk result (λ p. Shows p (decided taking.old.transfer (messages_in taking.new.octets))) }
+    ensures progress { IfOk result
+        (λ p. Shows p (decided taking.old.transfer (messages_in taking.new.octets))) }
     ensures fits { OnOk result (decided taking.old.transfer (messages_in taking.new.octets) ≡ None
         → length taking.new.octets ≤ TRANSFER_OCTETS) }
 {

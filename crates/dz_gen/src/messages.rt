@@ -39,7 +39,8 @@ fn message(
     questions: Vec<Question>,
     answers: Vec<Rr>,
 ) -> Result<Octets, AllocError>
-    ensures written { IfOk result (λ octets. IsWritten (message id flags questions.items answers.items) (Ok octets)) }
+    ensures written { IfOk result
+        (λ octets. IsWritten (message id flags questions.items answers.items) (Ok octets)) }
 {
     let (Ok(asked), Ok(answered)) = (u16::try_from(questions.len()), u16::try_from(answers.len()))
     else {

@@ -98,7 +98,8 @@ fn changed(alloc: Global, numbers: &[u16]) -> Result<Vec<u16>, AllocError>
 
 /// The settings, and the catalog's transfer.
 fn put_catalog(alloc: Global, numbers: &[u16], out: &mut Vec<u8>) -> Result<(), AllocError>
-    ensures { OnOk result (out.new.items ≡ out.old.items ++ (settings ++ catalog_text numbers.now)) }
+    ensures { OnOk result (out.new.items
+        ≡ out.old.items ++ (settings ++ catalog_text numbers.now)) }
 {
     let mut octets = catalog_begins(alloc)?;
     put_members(alloc, numbers, &mut octets)?;
@@ -109,7 +110,8 @@ fn put_catalog(alloc: Global, numbers: &[u16], out: &mut Vec<u8>) -> Result<(), 
 
 /// The messages with the zones' member nodes.
 fn put_members(alloc: Global, numbers: &[u16], octets: &mut Vec<u8>) -> Result<(), AllocError>
-    ensures { OnOk result (octets.new.items ≡ octets.old.items ++ flat_map catalog_member numbers.now) }
+    ensures { OnOk result (octets.new.items
+        ≡ octets.old.items ++ flat_map catalog_member numbers.now) }
 {
     'members: for k in numbers {
         octets.extend_from_slice(&catalog_member(alloc, *k)?)?;
@@ -146,7 +148,8 @@ fn put_first_of(alloc: Global, k: u16, out: &mut Vec<u8>) -> Result<(), AllocErr
 fn put_next(alloc: Global, number: u16, tenths: &[u16], out: &mut Vec<u8>) -> Result<(), AllocError>
     requires number { number ≤ ZONES }
     requires zones { All (λ k. k ≤ ZONES) tenths.now }
-    ensures { OnOk result (out.new.items ≡ out.old.items ++ flat_map (next_transfer number) tenths.now) }
+    ensures { OnOk result (out.new.items
+        ≡ out.old.items ++ flat_map (next_transfer number) tenths.now) }
 {
     'zones: for k in tenths {
         let ticket = number + 1 + *k / 10;
@@ -181,7 +184,8 @@ fn put_changes(
 ) -> Result<(), AllocError>
     requires number { number ≤ ZONES }
     requires zones { All (λ k. k ≤ ZONES) changed.now }
-    ensures { OnOk result (out.new.items ≡ out.old.items ++ flat_map (change_transfer number) changed.now) }
+    ensures { OnOk result (out.new.items
+        ≡ out.old.items ++ flat_map (change_transfer number) changed.now) }
 {
     'zones: for k in changed {
         let ticket = number + number / 10 + 2 + (*k - *k / 10);
@@ -197,7 +201,8 @@ fn put_queries(
     numbers: &[u16],
     out: &mut Vec<u8>,
 ) -> Result<(), AllocError>
-    ensures { OnOk result (out.new.items ≡ out.old.items ++ flat_map (asked moment.now) numbers.now) }
+    ensures { OnOk result (out.new.items
+        ≡ out.old.items ++ flat_map (asked moment.now) numbers.now) }
 {
     'zones: for k in numbers {
         put_query(alloc, moment, *k, out)?;

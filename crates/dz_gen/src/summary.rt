@@ -51,7 +51,8 @@ fn replies(alloc: Global, text: &[u8]) -> Result<Vec<u8>, AllocError>
 
 /// The line of the digest.
 fn digest(alloc: Global, text: &[u8]) -> Result<Vec<u8>, AllocError>
-    ensures { IfOk result (λ line. line.items ≡ codes "digest " ++ (encode_lower (sha384 text.now) ++ 10 ∷ [])) }
+    ensures { IfOk result (λ line. line.items
+        ≡ codes "digest " ++ (encode_lower (sha384 text.now) ++ 10 ∷ [])) }
 {
     let hex = hex::encode(alloc, Sha384::digest(text))?;
     let mut line = b"digest ".to_vec(alloc)?;

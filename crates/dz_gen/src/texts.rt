@@ -65,7 +65,8 @@ fn put_take(
     ticket: u16,
     octets: &[u8],
 ) -> Result<(), AllocError>
-    ensures { OnOk result (out.new.items ≡ out.old.items ++ take_line moment.now ticket octets.now) }
+    ensures { OnOk result (out.new.items
+        ≡ out.old.items ++ take_line moment.now ticket octets.now) }
 {
     let mut buffer = Buffer::new();
     let hex = hex::encode(alloc, octets)?;

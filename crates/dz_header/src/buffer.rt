@@ -53,7 +53,8 @@ impl ReplyBuffer {
 
     /// The 65,537 octets to read a request into.
     pub fn request_mut(&mut self) -> &mut [u8]
-        ensures* lends { sem 𝓛 (Lends the_row (Array u8 0) self.entry result (with_request self.entry.now)) }
+        ensures* lends { sem 𝓛 (Lends the_row (Array u8 0) self.entry result
+            (with_request self.entry.now)) }
         ensures octets { result.now ≡ self.old.request }
         ensures size { length result.now ≡ BUFFER_OCTETS }
     {
@@ -62,7 +63,8 @@ impl ReplyBuffer {
 
     /// The writer of the reply.
     pub fn writer(&mut self) -> &mut Writer
-        ensures* lends { sem 𝓛 (Lends the_row writer_row self.entry result (with_reply self.entry.now)) }
+        ensures* lends { sem 𝓛 (Lends the_row writer_row self.entry result
+            (with_reply self.entry.now)) }
         ensures written { result.now ≡ self.old.reply }
     {
         &mut self.reply
@@ -71,7 +73,8 @@ impl ReplyBuffer {
     /// The 65,537 octets of the reply, to be filled by other means, as by a device that reads into them: what was written
     /// is let go.
     pub fn reply_mut(&mut self) -> &mut [u8]
-        ensures* lends { sem 𝓛 (Lends the_row (Array u8 0) self.entry result (with_reply_room self.entry.now)) }
+        ensures* lends { sem 𝓛 (Lends the_row (Array u8 0) self.entry result
+            (with_reply_room self.entry.now)) }
         ensures octets { result.now ≡ self.old.reply.room }
         ensures size { length result.now ≡ BUFFER_OCTETS }
     {
@@ -83,7 +86,8 @@ impl ReplyBuffer {
         requires { count ≤ BUFFER_OCTETS }
         ensures size { length result.now ≡ count }
         ensures octets { result.now ≡ take count self.now.reply.room }
-        ensures written { (text : Octets) → self.now.reply.writing.octets ≡ Some text → count ≤ length text → result.now ≡ take count text }
+        ensures written { (text : Octets) → self.now.reply.writing.octets ≡ Some text
+            → count ≤ length text → result.now ≡ take count text }
     {
         self.reply.first(count)
     }

@@ -63,7 +63,8 @@ pub fn put_opt(writer: &mut Writer, code: ResponseCode, edns: Option<Edns>)
 }
 
 fn put_edns(writer: &mut Writer, code: ResponseCode, edns: Edns)
-    ensures { writer.new.writing ≡ also writer.old.writing (opt_octets (number_of code) (Some edns)) }
+    ensures { writer.new.writing
+        ≡ also writer.old.writing (opt_octets (number_of code) (Some edns)) }
 {
     let root = [0];
     writer.put(&root);

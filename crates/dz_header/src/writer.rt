@@ -32,9 +32,16 @@ impl Model for Writer {
 
     ghost Value = { WriterState };
 
-    ghost view = { λ w. record { writing = record { limit = w.limit; octets = option_map (λ n. take n w.octets.items) w.len }; room = w.octets.items } };
+    ghost view = { λ w. record {
+      writing = record {
+        limit = w.limit;
+        octets = option_map (λ n. take n w.octets.items) w.len;
+      };
+      room = w.octets.items;
+    } };
 
-    ghost invariant = { λ w. (length w.octets.items ≡ BUFFER_OCTETS) × (w.limit ≤ BUFFER_OCTETS) × ForSome w.len (λ n. n ≤ w.limit) };
+    ghost invariant = { λ w. (length w.octets.items ≡ BUFFER_OCTETS) × (w.limit ≤ BUFFER_OCTETS)
+        × ForSome w.len (λ n. n ≤ w.limit) };
 }
 
 impl Writer {
@@ -97,14 +104,16 @@ impl Writer {
         requires { count ≤ BUFFER_OCTETS }
         ensures size { length result.now ≡ count }
         ensures octets { result.now ≡ take count self.now.room }
-        ensures written { (text : Octets) → self.now.writing.octets ≡ Some text → count ≤ length text → result.now ≡ take count text }
+        ensures written { (text : Octets) → self.now.writing.octets ≡ Some text
+            → count ≤ length text → result.now ≡ take count text }
     {
         &self.octets[..count]
     }
 
     /// The 65,537 octets to be filled by other means, as by a device that reads into them: what was written is let go.
     pub fn room_mut(&mut self) -> &mut [u8]
-        ensures* lends { sem 𝓛 (Lends the_row (Array u8 0) self.entry result (with_room self.entry.now)) }
+        ensures* lends { sem 𝓛 (Lends the_row (Array u8 0) self.entry result
+            (with_room self.entry.now)) }
         ensures octets { result.now ≡ self.old.room }
         ensures size { length result.now ≡ BUFFER_OCTETS }
     {
@@ -115,7 +124,8 @@ impl Writer {
 
     fn extend(&mut self, more: &[u8])
         ensures limit { self.new.writing.limit ≡ self.old.writing.limit }
-        ensures octets { self.new.writing.octets ≡ octets_with self.old.writing.limit self.old.writing.octets more.now }
+        ensures octets { self.new.writing.octets
+            ≡ octets_with self.old.writing.limit self.old.writing.octets more.now }
         ensures room { self.new.room ≡ room_with self.old.room self.new.writing.octets }
     {
         self.len = append(&mut self.octets, self.len, self.limit, more);
@@ -129,8 +139,10 @@ fn append(octets: &mut Vec<u8>, len: Option<usize>, limit: usize, more: &[u8]) -
     requires room { limit ≤ length octets.old.items }
     ensures same { length octets.new.items ≡ length octets.old.items }
     ensures len { ForSome result (λ n. n ≤ limit) }
-    ensures octets { option_map (λ n. take n octets.new.items) result ≡ octets_with limit (option_map (λ n. take n octets.old.items) len) more.now }
-    ensures front { octets.new.items ≡ room_with octets.old.items (option_map (λ n. take n octets.new.items) result) }
+    ensures octets { option_map (λ n. take n octets.new.items) result
+        ≡ octets_with limit (option_map (λ n. take n octets.old.items) len) more.now }
+    ensures front { octets.new.items
+        ≡ room_with octets.old.items (option_map (λ n. take n octets.new.items) result) }
 {
     match len {
         None => None,
@@ -143,8 +155,11 @@ fn place(octets: &mut Vec<u8>, at: usize, limit: usize, more: &[u8]) -> Option<u
     requires within { at ≤ limit }
     requires room { limit ≤ length octets.old.items }
     ensures len { length octets.new.items ≡ length octets.old.items }
-    ensures end { result ≡ (if nat_le (length more.now) (limit - at) then Some (at + length more.now) else None) }
-    ensures octets { IsSome result → octets.new.items ≡ take at octets.old.items ++ (more.now ++ drop (at + length more.now) octets.old.items) }
+    ensures end { result ≡ (if nat_le (length more.now) (limit - at)
+        then Some (at + length more.now) else None) }
+    ensures octets { IsSome result
+        → octets.new.items ≡ take at octets.old.items
+        ++ (more.now ++ drop (at + length more.now) octets.old.items) }
     ensures none { IsNone result → octets.new.items ≡ octets.old.items }
 {
     if more.len() <= limit - at {

@@ -44,7 +44,8 @@ pub trait Acceptor {
             × IsFreshLink (Self.L.given link) (Self.L.held link) (Self.L.Source.faults link))
             (out self.new ≡ None)) }
         ensures closed { IfOk result (λ a. ClosesTo a (is_closed self.old) (is_closed self.new)) }
-        ensures err { OnErr result ((out self.new ≡ None) × (is_closed self.new ≡ is_closed self.old)) }
+        ensures err { OnErr result
+            ((out self.new ≡ None) × (is_closed self.new ≡ is_closed self.old)) }
         ensures links { links self.new ≡ links self.old }
         ensures cause { HasCause (faults self.old) (faults self.new) result };
 
@@ -52,8 +53,10 @@ pub trait Acceptor {
     fn done(&mut self, link: Self::L)
         requires { IsSome (out self.old) }
         ensures out { out self.new ≡ None }
-        ensures links { IfSome (out self.old) (λ peer. Gains (dialled peer (Self.L.given link) (Self.L.left link)
-            (Self.L.held link) (Self.L.Source.faults link) ∷ []) (links self.old) (links self.new)) }
+        ensures links { IfSome (out self.old)
+            (λ peer. Gains (dialled peer (Self.L.given link) (Self.L.left link)
+            (Self.L.held link) (Self.L.Source.faults link) ∷ []) (links self.old)
+            (links self.new)) }
         ensures closed { is_closed self.new ≡ is_closed self.old }
         ensures faults { faults self.new ≡ faults self.old };
 }

@@ -34,7 +34,8 @@ pub trait Datagrams {
     /// Moves the next packet into the front of `buffer`, which has room for 65,535 octets.
     fn receive(&mut self, buffer: &mut [u8]) -> Result<Received, Failed>
         requires { 65535 ≤ length buffer.old }
-        ensures came { IfOk result (λ r. Receives r buffer.new (received self.old) (received self.new)) }
+        ensures came { IfOk result
+            (λ r. Receives r buffer.new (received self.old) (received self.new)) }
         ensures closed { IfOk result (λ r. Closes r (is_closed self.old) (is_closed self.new)) }
         ensures err { OnErr result
             ((received self.new ≡ received self.old) × (is_closed self.new ≡ is_closed self.old)) }
@@ -43,7 +44,8 @@ pub trait Datagrams {
 
     /// Sends these octets to a peer as one packet. A call that answers `Failed` sends nothing.
     fn send(&mut self, peer: &Peer, piece: &[u8]) -> Result<(), Failed>
-        ensures went { OnOk result (Gains (packet piece.now peer.now ∷ []) (sent self.old) (sent self.new)) }
+        ensures went { OnOk result
+            (Gains (packet piece.now peer.now ∷ []) (sent self.old) (sent self.new)) }
         ensures err { OnErr result (sent self.new ≡ sent self.old) }
         ensures received { received self.new ≡ received self.old }
         ensures closed { is_closed self.new ≡ is_closed self.old }

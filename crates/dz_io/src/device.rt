@@ -25,8 +25,10 @@ pub trait Source {
     fn read(&mut self, buffer: &mut [u8]) -> Result<usize, Failed>
         requires { 0 < length buffer.old }
         ensures count { IfOk result (λ n. n ≤ length buffer.old) }
-        ensures given { IfOk result (λ n. Gains (take n buffer.new) (given self.old) (given self.new)) }
-        ensures moved { IfOk result (λ n. Gives (take n buffer.new) (left self.old) (left self.new)) }
+        ensures given { IfOk result
+            (λ n. Gains (take n buffer.new) (given self.old) (given self.new)) }
+        ensures moved { IfOk result
+            (λ n. Gives (take n buffer.new) (left self.old) (left self.new)) }
         ensures end { IfOk result (λ n. n ≡ 0 → IsAtEnd (left self.old)) }
         ensures err { OnErr result
             ((given self.new ≡ given self.old) × (left self.new ≡ left self.old)) }

@@ -39,7 +39,9 @@ pub trait Dialer {
     fn done(&mut self, link: Self::L)
         requires { IsSome (out self.old) }
         ensures out { out self.new ≡ None }
-        ensures links { IfSome (out self.old) (λ peer. Gains (dialled peer (Self.L.given link) (Self.L.left link)
-            (Self.L.held link) (Self.L.Source.faults link) ∷ []) (links self.old) (links self.new)) }
+        ensures links { IfSome (out self.old)
+            (λ peer. Gains (dialled peer (Self.L.given link) (Self.L.left link)
+            (Self.L.held link) (Self.L.Source.faults link) ∷ []) (links self.old)
+            (links self.new)) }
         ensures covers { Covers (Self.L.Source.faults link) (faults self.old) (faults self.new) };
 }

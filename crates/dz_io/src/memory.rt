@@ -107,8 +107,10 @@ impl Sink for MemorySink {
 
     /// Fails where the call is to fail or memory is refused, and then appends nothing.
     fn write(&mut self, piece: &[u8]) -> Result<(), Failed>
-        ensures planned { IsTrue (is_to_fail self.old.calls.count self.old.calls.failing) → IsErr result }
-        ensures all { OnOk result (Gains piece.now (Some self.old.written) (Some self.new.written)) }
+        ensures planned { IsTrue (is_to_fail self.old.calls.count self.old.calls.failing)
+            → IsErr result }
+        ensures all { OnOk result
+            (Gains piece.now (Some self.old.written) (Some self.new.written)) }
         ensures err { OnErr result (self.new.written ≡ self.old.written) }
         ensures calls { self.new.calls ≡ after_call self.old.calls (is_err result) }
         ensures cause { HasCause self.old.calls.faults self.new.calls.faults result }
@@ -204,8 +206,10 @@ impl Sink for MemoryLink {
 
     /// Fails where the call is to fail or memory is refused, and then appends nothing.
     fn write(&mut self, piece: &[u8]) -> Result<(), Failed>
-        ensures planned { IsTrue (is_to_fail self.old.calls.count self.old.calls.failing) → IsErr result }
-        ensures all { OnOk result (Gains piece.now (Some self.old.written) (Some self.new.written)) }
+        ensures planned { IsTrue (is_to_fail self.old.calls.count self.old.calls.failing)
+            → IsErr result }
+        ensures all { OnOk result
+            (Gains piece.now (Some self.old.written) (Some self.new.written)) }
         ensures err { OnErr result (self.new.written ≡ self.old.written) }
         ensures tape { self.new.tape ≡ self.old.tape }
         ensures calls { self.new.calls ≡ after_call self.old.calls (is_err result) }

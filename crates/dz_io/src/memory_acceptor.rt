@@ -29,7 +29,13 @@ impl Model for MemoryAcceptor {
 
     ghost Value = { AcceptorOf };
 
-    ghost view = { λ a. record { coming = a.callers.items; back = a.back.items; out = a.out; is_closed = a.is_closed; calls = a.plan } };
+    ghost view = { λ a. record {
+      coming = a.callers.items;
+      back = a.back.items;
+      out = a.out;
+      is_closed = a.is_closed;
+      calls = a.plan;
+    } };
 
     ghost invariant = { λ a. IsSome a.out → vec_len a.back < vec_capacity a.back };
 }
@@ -79,7 +85,8 @@ impl Acceptor for MemoryAcceptor {
     /// Fails where the call is to fail or memory is refused, and is closed where no peer connects any more.
     fn accept(&mut self) -> Result<Accepted<MemoryLink>, Failed>
         requires { self.old.out ≡ None }
-        ensures planned { IsTrue (is_to_fail self.old.calls.count self.old.calls.failing) → IsErr result }
+        ensures planned { IsTrue (is_to_fail self.old.calls.count self.old.calls.failing)
+            → IsErr result }
         ensures given { IfOk result (λ a. IsAccepted a
             (λ link peer. (caller : CallerOf)
             × (self.old.coming ≡ caller ∷ self.new.coming)
@@ -113,7 +120,8 @@ impl Acceptor for MemoryAcceptor {
     fn done(&mut self, link: MemoryLink)
         requires { IsSome self.old.out }
         ensures same { self.new ≡ record self.old { out = None; back = self.new.back } }
-        ensures back { IfSome self.old.out (λ peer. self.new.back ≡ self.old.back ++ told_link peer link ∷ []) }
+        ensures back { IfSome self.old.out
+            (λ peer. self.new.back ≡ self.old.back ++ told_link peer link ∷ []) }
     {
         if let Some(peer) = self.out.take() {
             self.back.push_reserved(Returned::new(peer, link));

@@ -26,9 +26,15 @@ impl Model for MemoryClock {
 
     ghost Value = { ClockOf };
 
-    ghost view = { λ c. record { moments = c.moments.items; last = c.last; count = c.count; rests = c.rests } };
+    ghost view = { λ c. record {
+      moments = c.moments.items;
+      last = c.last;
+      count = c.count;
+      rests = c.rests;
+    } };
 
-    ghost invariant = { λ c. AllByRecursion (λ moment. moment < 2 ^ 40) c.moments.items × (c.last < 2 ^ 40) };
+    ghost invariant = { λ c. AllByRecursion (λ moment. moment < 2 ^ 40) c.moments.items
+        × (c.last < 2 ^ 40) };
 }
 
 impl MemoryClock {
@@ -36,7 +42,12 @@ impl MemoryClock {
     pub fn new(moments: Vec<u64>, last: u64, rests: u64) -> MemoryClock
         requires moments { AllByRecursion (λ moment. moment < 2 ^ 40) moments.items }
         requires last { last < 2 ^ 40 }
-        ensures { result ≡ record { moments = moments.items; last = last; count = 0; rests = rests } }
+        ensures { result ≡ record {
+          moments = moments.items;
+          last = last;
+          count = 0;
+          rests = rests;
+        } }
     {
         MemoryClock {
             moments,

@@ -28,7 +28,13 @@ impl Model for MemoryDatagrams {
 
     ghost Value = { DatagramsOf };
 
-    ghost view = { λ d. record { received = take d.at d.packets.items; coming = drop d.at d.packets.items; sent = d.sent.items; is_closed = d.is_closed; calls = d.plan } };
+    ghost view = { λ d. record {
+      received = take d.at d.packets.items;
+      coming = drop d.at d.packets.items;
+      sent = d.sent.items;
+      is_closed = d.is_closed;
+      calls = d.plan;
+    } };
 
     ghost invariant = { λ d. d.at ≤ length d.packets.items };
 }
@@ -77,10 +83,12 @@ impl Datagrams for MemoryDatagrams {
     fn receive(&mut self, buffer: &mut [u8]) -> Result<Received, Failed>
         requires { 65535 ≤ length buffer.old }
         ensures planned { is_err result ≡ is_to_fail self.old.calls.count self.old.calls.failing }
-        ensures came { IfOk result (λ r. Receives r buffer.new (Some self.old.received) (Some self.new.received)) }
+        ensures came { IfOk result
+            (λ r. Receives r buffer.new (Some self.old.received) (Some self.new.received)) }
         ensures closed { IfOk result (λ r. Closes r self.old.is_closed self.new.is_closed) }
         ensures last { IfOk result (λ r. r ≡ Received.Closed → self.old.coming ≡ []) }
-        ensures packets { self.new.received ++ self.new.coming ≡ self.old.received ++ self.old.coming }
+        ensures packets { self.new.received ++ self.new.coming
+            ≡ self.old.received ++ self.old.coming }
         ensures err { OnErr result
             ((self.new.received ≡ self.old.received) × (self.new.is_closed ≡ self.old.is_closed)) }
         ensures sent { self.new.sent ≡ self.old.sent }
@@ -102,7 +110,8 @@ impl Datagrams for MemoryDatagrams {
 
     /// Fails where the call is to fail, where the piece has over 65,535 octets, or where memory is refused.
     fn send(&mut self, peer: &Peer, piece: &[u8]) -> Result<(), Failed>
-        ensures planned { IsTrue (is_to_fail self.old.calls.count self.old.calls.failing) → IsErr result }
+        ensures planned { IsTrue (is_to_fail self.old.calls.count self.old.calls.failing)
+            → IsErr result }
         ensures long { 65535 < length piece.now → IsErr result }
         ensures went { OnOk result
             (Gains (packet piece.now peer.now ∷ []) (Some self.old.sent) (Some self.new.sent)) }

@@ -28,7 +28,12 @@ impl Model for MemoryDialer {
 
     ghost Value = { DialerOf };
 
-    ghost view = { λ d. record { coming = d.streams.items; back = d.back.items; out = d.out; calls = d.plan } };
+    ghost view = { λ d. record {
+      coming = d.streams.items;
+      back = d.back.items;
+      out = d.out;
+      calls = d.plan;
+    } };
 
     ghost invariant = { λ d. IsSome d.out → vec_len d.back < vec_capacity d.back };
 }
@@ -75,7 +80,8 @@ impl Dialer for MemoryDialer {
     /// Fails where the call is to fail, where no stream is left, or where memory is refused.
     fn dial(&mut self, peer: &Peer) -> Result<MemoryLink, Failed>
         requires { self.old.out ≡ None }
-        ensures planned { IsTrue (is_to_fail self.old.calls.count self.old.calls.failing) → IsErr result }
+        ensures planned { IsTrue (is_to_fail self.old.calls.count self.old.calls.failing)
+            → IsErr result }
         ensures link { IfOk result (λ link. (stream : StreamOf)
             × (self.old.coming ≡ stream ∷ self.new.coming)
             × (link ≡ fresh_link stream)) }
@@ -102,7 +108,8 @@ impl Dialer for MemoryDialer {
         requires { IsSome self.old.out }
         ensures out { self.new.out ≡ None }
         ensures coming { self.new.coming ≡ self.old.coming }
-        ensures back { IfSome self.old.out (λ peer. self.new.back ≡ self.old.back ++ told_link peer link ∷ []) }
+        ensures back { IfSome self.old.out
+            (λ peer. self.new.back ≡ self.old.back ++ told_link peer link ∷ []) }
         ensures calls { self.new.calls ≡ covering link.calls.faults self.old.calls }
         ensures covers { Covers link.calls.faults self.old.calls.faults self.new.calls.faults }
     {

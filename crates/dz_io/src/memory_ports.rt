@@ -31,7 +31,12 @@ impl Model for MemoryPorts {
 
     ghost Value = { PortsOf };
 
-    ghost view = { λ p. record { datagrams = p.datagrams; acceptors = p.acceptors; dialers = p.dialers; calls = p.plan } };
+    ghost view = { λ p. record {
+      datagrams = p.datagrams;
+      acceptors = p.acceptors;
+      dialers = p.dialers;
+      calls = p.plan;
+    } };
 }
 
 impl MemoryPorts {
@@ -107,7 +112,8 @@ impl Ports for MemoryPorts {
     /// Fails where the call is to fail, where no device is left, or where memory is refused.
     fn open_datagrams(&mut self, listen: &Peer, worker: u8) -> Result<MemoryDatagrams, Failed>
         requires { worker < 2 }
-        ensures planned { IsTrue (is_to_fail self.old.calls.count self.old.calls.failing) → IsErr result }
+        ensures planned { IsTrue (is_to_fail self.old.calls.count self.old.calls.failing)
+            → IsErr result }
         ensures opened { IfOk result (λ device. (setup : SetupOf Packet)
             × Opens (place listen.now worker) setup self.old.datagrams self.new.datagrams
             × (device ≡ fresh_datagrams setup)) }
@@ -128,7 +134,8 @@ impl Ports for MemoryPorts {
     /// Fails where the call is to fail, where no acceptor is left, or where memory is refused.
     fn open_acceptor(&mut self, listen: &Peer, worker: u8) -> Result<MemoryAcceptor, Failed>
         requires { worker < 2 }
-        ensures planned { IsTrue (is_to_fail self.old.calls.count self.old.calls.failing) → IsErr result }
+        ensures planned { IsTrue (is_to_fail self.old.calls.count self.old.calls.failing)
+            → IsErr result }
         ensures opened { IfOk result (λ device. (setup : SetupOf CallerOf)
             × Opens (place listen.now worker) setup self.old.acceptors self.new.acceptors
             × (device ≡ fresh_acceptor setup)) }
@@ -149,7 +156,8 @@ impl Ports for MemoryPorts {
     /// Fails where the call is to fail, where no dialer is left, or where memory is refused.
     fn dialer(&mut self, worker: u8) -> Result<MemoryDialer, Failed>
         requires { worker < 2 }
-        ensures planned { IsTrue (is_to_fail self.old.calls.count self.old.calls.failing) → IsErr result }
+        ensures planned { IsTrue (is_to_fail self.old.calls.count self.old.calls.failing)
+            → IsErr result }
         ensures opened { IfOk result (λ device. (setup : SetupOf StreamOf)
             × Opens worker setup self.old.dialers self.new.dialers
             × (device ≡ fresh_dialer setup)) }

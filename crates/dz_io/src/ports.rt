@@ -46,7 +46,8 @@ pub trait Ports {
     /// Opens a datagram device, which has received and sent nothing.
     fn open_datagrams(&mut self, listen: &Peer, worker: u8) -> Result<Self::D, Failed>
         requires { worker < 2 }
-        ensures ok { OnOk result (datagrams self.new ≡ opening (place listen.now worker) (datagrams self.old)) }
+        ensures ok { OnOk result (datagrams self.new
+            ≡ opening (place listen.now worker) (datagrams self.old)) }
         ensures fresh { IfOk result (λ d. IsFreshExchange
             (exchange (Self.D.received d) (Self.D.sent d) (Self.D.is_closed d) (Self.D.faults d))) }
         ensures err { OnErr result (datagrams self.new ≡ datagrams self.old) }
@@ -57,7 +58,8 @@ pub trait Ports {
     /// Opens an acceptor, which has given no link.
     fn open_acceptor(&mut self, listen: &Peer, worker: u8) -> Result<Self::A, Failed>
         requires { worker < 2 }
-        ensures ok { OnOk result (acceptors self.new ≡ opening (place listen.now worker) (acceptors self.old)) }
+        ensures ok { OnOk result (acceptors self.new
+            ≡ opening (place listen.now worker) (acceptors self.old)) }
         ensures fresh { IfOk result (λ a. IsFreshAccepts
             (accepts (Self.A.links a) (Self.A.out a) (Self.A.is_closed a) (Self.A.faults a))) }
         ensures err { OnErr result (acceptors self.new ≡ acceptors self.old) }
@@ -69,7 +71,8 @@ pub trait Ports {
     fn dialer(&mut self, worker: u8) -> Result<Self::L, Failed>
         requires { worker < 2 }
         ensures ok { OnOk result (dialers self.new ≡ opening worker (dialers self.old)) }
-        ensures fresh { IfOk result (λ l. IsFreshDials (dials (Self.L.links l) (Self.L.out l) (Self.L.faults l))) }
+        ensures fresh { IfOk result
+            (λ l. IsFreshDials (dials (Self.L.links l) (Self.L.out l) (Self.L.faults l))) }
         ensures err { OnErr result (dialers self.new ≡ dialers self.old) }
         ensures datagrams { datagrams self.new ≡ datagrams self.old }
         ensures acceptors { acceptors self.new ≡ acceptors self.old }
@@ -78,7 +81,8 @@ pub trait Ports {
     /// Takes a datagram device back. The count of faults covers its own.
     fn close_datagrams(&mut self, device: Self::D)
         requires { 0 < (datagrams self.old).out }
-        ensures back { datagrams self.new ≡ closing (exchange (Self.D.received device) (Self.D.sent device)
+        ensures back { datagrams self.new
+            ≡ closing (exchange (Self.D.received device) (Self.D.sent device)
             (Self.D.is_closed device) (Self.D.faults device)) (datagrams self.old) }
         ensures acceptors { acceptors self.new ≡ acceptors self.old }
         ensures dialers { dialers self.new ≡ dialers self.old }
@@ -87,7 +91,8 @@ pub trait Ports {
     /// Takes an acceptor back. The count of faults covers its own.
     fn close_acceptor(&mut self, device: Self::A)
         requires { 0 < (acceptors self.old).out }
-        ensures back { acceptors self.new ≡ closing (accepts (Self.A.links device) (Self.A.out device)
+        ensures back { acceptors self.new
+            ≡ closing (accepts (Self.A.links device) (Self.A.out device)
             (Self.A.is_closed device) (Self.A.faults device)) (acceptors self.old) }
         ensures datagrams { datagrams self.new ≡ datagrams self.old }
         ensures dialers { dialers self.new ≡ dialers self.old }
@@ -97,7 +102,8 @@ pub trait Ports {
     fn close_dialer(&mut self, device: Self::L)
         requires { 0 < (dialers self.old).out }
         ensures back { dialers self.new ≡ closing
-            (dials (Self.L.links device) (Self.L.out device) (Self.L.faults device)) (dialers self.old) }
+            (dials (Self.L.links device) (Self.L.out device) (Self.L.faults device))
+            (dialers self.old) }
         ensures datagrams { datagrams self.new ≡ datagrams self.old }
         ensures acceptors { acceptors self.new ≡ acceptors self.old }
         ensures faults { faults self.new ≡ faults self.old };

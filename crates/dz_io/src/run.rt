@@ -45,8 +45,10 @@ pub fn run_script<T: Script, S: Source>(
         IsRun T.rules (T.state script.old) octets result
         (T.state script.new) (S.left input.new) (T.held script.old) (T.held script.new) }
     ensures beside { T.beside script.new ≡ T.beside script.old }
-    ensures read_cause { HasCauseOf (S.faults input.old) (S.faults input.new) result ScriptError.Read }
-    ensures write_cause { HasCauseOf (T.faults script.old) (T.faults script.new) result ScriptError.Write }
+    ensures read_cause { HasCauseOf (S.faults input.old)
+        (S.faults input.new) result ScriptError.Read }
+    ensures write_cause { HasCauseOf (T.faults script.old)
+        (T.faults script.new) result ScriptError.Write }
 {
     let mut window = Window::new();
     let mut line = Vec::new(alloc);

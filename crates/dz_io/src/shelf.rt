@@ -22,7 +22,12 @@ impl<P, S, D> Model for Shelf<P, S, D> {
 
     ghost Value = { ShelfOf P S D };
 
-    ghost view = { λ s. record { ready = s.ready.items; opened = s.opened.items; out = s.out; back = s.back.items } };
+    ghost view = { λ s. record {
+      ready = s.ready.items;
+      opened = s.opened.items;
+      out = s.out;
+      back = s.back.items;
+    } };
 
     ghost invariant = { λ s. vec_len s.back + s.out ≤ vec_capacity s.back };
 }

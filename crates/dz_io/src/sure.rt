@@ -46,7 +46,8 @@ impl Source for SureSource {
         ensures amount { result ≡ Ok (min (length buffer.old) (length self.old.left)) }
         ensures given { IfOk result (λ n.
             Gains (take n buffer.new) (Some self.old.given) (Some self.new.given)) }
-        ensures moved { IfOk result (λ n. Gives (take n buffer.new) (Some self.old.left) (Some self.new.left)) }
+        ensures moved { IfOk result
+            (λ n. Gives (take n buffer.new) (Some self.old.left) (Some self.new.left)) }
     {
         Ok(self.tape.read(buffer))
     }
@@ -111,7 +112,8 @@ impl Source for SureLink {
         ensures amount { result ≡ Ok (min (length buffer.old) (length self.old.left)) }
         ensures given { IfOk result (λ n.
             Gains (take n buffer.new) (Some self.old.given) (Some self.new.given)) }
-        ensures moved { IfOk result (λ n. Gives (take n buffer.new) (Some self.old.left) (Some self.new.left)) }
+        ensures moved { IfOk result
+            (λ n. Gives (take n buffer.new) (Some self.old.left) (Some self.new.left)) }
     {
         Ok(self.tape.read(buffer))
     }

@@ -16,7 +16,10 @@ impl Model for Tape {
 
     ghost Value = { TapeOf };
 
-    ghost view = { λ t. record { given = take t.at t.octets.items; left = drop t.at t.octets.items } };
+    ghost view = { λ t. record {
+      given = take t.at t.octets.items;
+      left = drop t.at t.octets.items;
+    } };
 
     ghost invariant = { λ t. t.at ≤ length t.octets.items };
 }

@@ -58,7 +58,8 @@ impl Model for Differences {
 
     ghost view = { λ d. record { held = d.held.value; fed = d.fed } };
 
-    ghost invariant = { λ d. IsKept d.held.value d.fed d.apex d.goal d.first d.stage d.standing d.zone.items };
+    ghost invariant = { λ d. IsKept d.held.value d.fed d.apex d.goal d.first d.stage d.standing
+        d.zone.items };
 }
 
 impl Differences {
@@ -70,7 +71,8 @@ impl Differences {
     pub fn start(alloc: Global, held: &Version, first: Rr) -> Result<Differences, AllocError>
         requires soa { is_apex_soa held.now.apex first ≡ true }
         ensures started { IfOk result (λ d. d ≡ record { held = held.now; fed = first ∷ [] }) }
-        ensures is_open { IfOk result (λ d. IsOpen (IsIncremental held.now) (Blames held.now.apex) (first ∷ [])) }
+        ensures is_open { IfOk result
+            (λ d. IsOpen (IsIncremental held.now) (Blames held.now.apex) (first ∷ [])) }
     {
         let apex = held.apex().to_name();
         let goal = match apex_serial(&apex, &first) {
@@ -102,7 +104,9 @@ impl Differences {
         requires { IsOpen (IsIncremental self.old.held) (Blames self.old.held.apex) self.old.fed }
         ensures held { self.new.held ≡ self.old.held }
         ensures fed { OnOk result (self.new.fed ≡ self.old.fed ++ records.items) }
-        ensures says { Says result (Stands (IsIncremental self.old.held) (Blames self.old.held.apex) (self.old.fed ++ records.items)) }
+        ensures says { Says result
+            (Stands (IsIncremental self.old.held) (Blames self.old.held.apex)
+            (self.old.fed ++ records.items)) }
     {
         let mut progress = Progress::More;
         let mut rest = records.into_iter();
@@ -127,7 +131,8 @@ impl Differences {
     fn take(&mut self, found: Rr) -> Result<Progress, FeedError>
         ensures held { self.new.held ≡ self.old.held }
         ensures fed { OnOk result (self.new.fed ≡ self.old.fed ++ found ∷ []) }
-        ensures says { Says result (λ reading. reading ≡ reading_of self.old.held (self.old.fed ++ found ∷ [])) }
+        ensures says { Says result
+            (λ reading. reading ≡ reading_of self.old.held (self.old.fed ++ found ∷ [])) }
     {
         match apex_serial(&self.apex, &found) {
             Some(serial) => self.take_soa(serial, found),
@@ -141,7 +146,8 @@ impl Differences {
         requires serial { serial ≡ serial_of found }
         ensures held { self.new.held ≡ self.old.held }
         ensures fed { OnOk result (self.new.fed ≡ self.old.fed ++ found ∷ []) }
-        ensures says { Says result (λ reading. reading ≡ reading_of self.old.held (self.old.fed ++ found ∷ [])) }
+        ensures says { Says result
+            (λ reading. reading ≡ reading_of self.old.held (self.old.fed ++ found ∷ [])) }
     {
         match self.stage {
             Stage::Begun(held) => {
@@ -179,7 +185,8 @@ impl Differences {
         requires here { IsAtEnd self.old.held self.old.fed }
         ensures held { self.new.held ≡ self.old.held }
         ensures fed { OnOk result (self.new.fed ≡ self.old.fed ++ found ∷ []) }
-        ensures says { Says result (λ reading. reading ≡ reading_of self.old.held (self.old.fed ++ found ∷ [])) }
+        ensures says { Says result
+            (λ reading. reading ≡ reading_of self.old.held (self.old.fed ++ found ∷ [])) }
     {
         if !same_rdata(&found, &self.first) {
             return Err(FeedError::Shape(ShapeFault::SerialGap));
@@ -206,7 +213,8 @@ impl Differences {
         requires other { is_apex_soa self.old.held.apex found ≡ false }
         ensures held { self.new.held ≡ self.old.held }
         ensures fed { OnOk result (self.new.fed ≡ self.old.fed ++ found ∷ []) }
-        ensures says { Says result (λ reading. reading ≡ reading_of self.old.held (self.old.fed ++ found ∷ [])) }
+        ensures says { Says result
+            (λ reading. reading ≡ reading_of self.old.held (self.old.fed ++ found ∷ [])) }
     {
         match self.stage {
             Stage::Begun(_) => Err(FeedError::Shape(ShapeFault::SerialGap)),

@@ -144,7 +144,8 @@ impl Standing {
 
 /// The records but the SOA of the apex; their octets are shared.
 fn shared(alloc: Global, apex: &Name, records: &[Rr]) -> Result<Vec<Held>, AllocError>
-    ensures { IfOk result (λ v. v.items ≡ map flagged (filter (λ r. not (is_apex_soa apex.now r)) records.now)) }
+    ensures { IfOk result (λ v. v.items
+        ≡ map flagged (filter (λ r. not (is_apex_soa apex.now r)) records.now)) }
 {
     let mut base = Vec::with_capacity(alloc, records.len())?;
     'records: for found in records {
@@ -189,7 +190,8 @@ fn search(base: &[Held], found: &Rr) -> Result<usize, usize>
 /// Clears a flag.
 fn fall_at(base: &mut Vec<Held>, at: usize)
     requires { at < length base.old.items }
-    ensures { (b : Flagged Record) → b ≡ slice_index_or base.old.items at b → base.new.items ≡ slice_set base.old.items at (fallen b) }
+    ensures { (b : Flagged Record) → b ≡ slice_index_or base.old.items at b
+        → base.new.items ≡ slice_set base.old.items at (fallen b) }
 {
     base[at].fall();
 }
@@ -217,7 +219,8 @@ fn comes_first(added: &BTreeSet<Rr>, bound: &Rr) -> bool
 
 /// Moves the records that come before this one.
 fn push_before(out: &mut Vec<Rr>, added: &mut BTreeSet<Rr>, bound: &Rr) -> Result<(), AllocError>
-    ensures { OnOk result (Moves record_order out.old.items added.old.keys bound.now out.new.items added.new.keys) }
+    ensures { OnOk result (Moves record_order out.old.items added.old.keys bound.now out.new.items
+        added.new.keys) }
 {
     'added: while comes_first(added, bound) {
         match added.pop_first() {
@@ -251,8 +254,10 @@ fn pass_to(
     requires rises { Rises record_order (items rest.now.items) }
     requires here { 0 < free → first_before record_order added.old.keys bound.now ≡ false }
     requires next { AreAhead record_order added.old.keys (take (free - 1) rest.now.items) }
-    ensures moves { OnOk result (Moves record_order out.old.items added.old.keys bound.now out.new.items added.new.keys) }
-    ensures ahead { IfOk result (λ n. AreAhead record_order added.new.keys (take n rest.now.items)) }
+    ensures moves { OnOk result
+        (Moves record_order out.old.items added.old.keys bound.now out.new.items added.new.keys) }
+    ensures ahead { IfOk result
+        (λ n. AreAhead record_order added.new.keys (take n rest.now.items)) }
 {
     if free == 0 {
         push_before(out, added, bound)?;

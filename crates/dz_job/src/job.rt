@@ -29,7 +29,8 @@ impl Model for Job {
 
     ghost view = { λ j. record { flight = j.flight; held = option_map arc_value j.held } };
 
-    ghost invariant = { λ j. IsJob record { flight = j.flight; held = option_map arc_value j.held } };
+    ghost invariant = { λ j. IsJob
+        record { flight = j.flight; held = option_map arc_value j.held } };
 }
 
 impl Job {

@@ -137,8 +137,10 @@ fn behind(alias: &Rr) -> Name
 /// these records, and the answer is how it ends.
 pub fn chase<'a>(version: &'a Version, name: &Name, kind: u16, chain: &mut Chain<'a>) -> Last<'a>
     requires within { is_within name.now version.now.apex ≡ true }
-    ensures aliases { chain.new ≡ (chain_of version.now.apex version.now.records name.now kind).aliases }
-    ensures ending { ending_of result ≡ (chain_of version.now.apex version.now.records name.now kind).ending }
+    ensures aliases { chain.new
+        ≡ (chain_of version.now.apex version.now.records name.now kind).aliases }
+    ensures ending { ending_of result
+        ≡ (chain_of version.now.apex version.now.records name.now kind).ending }
 {
     chain.clear();
     follow::<Brand>(Blank::new(1), version, name, kind, chain)
@@ -158,8 +160,10 @@ fn follow<'a, L: Ledger>(
     requires whole { blank.parts ≡ 1 }
     requires within { is_within name.now version.now.apex ≡ true }
     requires empty { chain.old ≡ [] }
-    ensures aliases { chain.new ≡ (chain_of version.now.apex version.now.records name.now kind).aliases }
-    ensures ending { ending_of result ≡ (chain_of version.now.apex version.now.records name.now kind).ending }
+    ensures aliases { chain.new
+        ≡ (chain_of version.now.apex version.now.records name.now kind).aliases }
+    ensures ending { ending_of result
+        ≡ (chain_of version.now.apex version.now.records name.now kind).ending }
 {
     let mut steps = Steps::<L>::new(blank);
     let mut asked = *name;

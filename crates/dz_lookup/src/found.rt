@@ -75,7 +75,8 @@ fn at_source<'a, L: Ledger>(
     steps: &mut Steps<L>,
 ) -> Found<'a>
     requires node { IsNodeOf version.now.records name.now node.now.place node.now.records.now }
-    ensures found { meaning result ≡ at_source version.now.records kind (source version.now.records name.now) }
+    ensures found { meaning result
+        ≡ at_source version.now.records kind (source version.now.records name.now) }
     ensures cost { TakesSearches 1 (length version.now.records) (steps.new - steps.old) }
     ensures counted { steps.old ≤ steps.new }
 {
@@ -95,7 +96,8 @@ fn at_wildcard<'a, L: Ledger>(
     kind: u16,
     steps: &mut Steps<L>,
 ) -> Found<'a>
-    ensures found { meaning result ≡ at_source version.now.records kind (if_exists version.now.records wildcard.now) }
+    ensures found { meaning result
+        ≡ at_source version.now.records kind (if_exists version.now.records wildcard.now) }
     ensures cost { TakesSearches 1 (length version.now.records) (steps.new - steps.old) }
     ensures counted { steps.old ≤ steps.new }
 {
@@ -136,8 +138,10 @@ fn cut<'a, L: Ledger>(
 ) -> Option<&'a [Rr]>
     requires within { is_within name.now version.now.apex ≡ true }
     requires node { IsNodeOf version.now.records name.now node.now.place node.now.records.now }
-    ensures cut { option_map (λ r. r.now) result ≡ servers_at version.now.records (cut version.now.apex version.now.records name.now) }
-    ensures cost { TakesSearches (length name.now) (length version.now.records) (steps.new - steps.old) }
+    ensures cut { option_map (λ r. r.now) result
+        ≡ servers_at version.now.records (cut version.now.apex version.now.records name.now) }
+    ensures cost { TakesSearches (length name.now) (length version.now.records)
+        (steps.new - steps.old) }
     ensures counted { steps.old ≤ steps.new }
 {
     if !version.has_cuts() {

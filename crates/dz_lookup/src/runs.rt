@@ -182,7 +182,9 @@ pub(crate) fn exists_beside(records: &[Rr], place: usize, above: &NameRef) -> bo
 
 /// Whether a record stands at a place, and its owner is within a name.
 fn is_within_at(records: &[Rr], place: usize, above: &NameRef) -> bool
-    ensures { (d : Record) → result ≡ (nat_lt place (length records.now) && is_within (slice_index_or records.now place d).owner above.now) }
+    ensures { (d : Record) → result
+        ≡ (nat_lt place (length records.now)
+        && is_within (slice_index_or records.now place d).owner above.now) }
 {
     place < records.len() && records[place].owner_ref().is_within(above)
 }

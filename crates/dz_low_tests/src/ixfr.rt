@@ -150,7 +150,8 @@ fn feed_messages(
     mut differences: Differences,
     messages: Vec<Vec<Rr>>,
 ) -> Result<Option<Vec<Rr>>, FeedError>
-    requires { IsOpen (IsIncremental differences.held) (Blames differences.held.apex) differences.fed }
+    requires { IsOpen (IsIncremental differences.held)
+        (Blames differences.held.apex) differences.fed }
 {
     let mut rest = messages.into_iter();
     'messages: while let Some(records) = rest.next() {

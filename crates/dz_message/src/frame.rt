@@ -47,7 +47,8 @@ fn frame_at(octets: &[u8], at: usize) -> Option<(usize, usize)>
 /// `AllocError` where memory is wanting; what was there is then left as it was.
 pub fn push_frame(out: &mut Vec<u8>, message: &[u8]) -> Result<(), AllocError>
     requires { length message.now ≤ MESSAGE_OCTETS }
-    ensures { out.new.items ≡ (if is_ok result then out.old.items ++ frame message.now else out.old.items) }
+    ensures { out.new.items ≡ (if is_ok result then out.old.items ++ frame message.now
+        else out.old.items) }
 {
     let before = out.len();
     out.extend_from_slice(&two(message.len() as u16))?;

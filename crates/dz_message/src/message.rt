@@ -17,12 +17,20 @@ impl Model for Message {
 
     ghost Value = { Content };
 
-    ghost view = { λ m. record { header = m.header; questions = m.questions.items; answers = m.answers.items } };
+    ghost view = { λ m. record {
+      header = m.header;
+      questions = m.questions.items;
+      answers = m.answers.items;
+    } };
 }
 
 impl Message {
     pub fn new(header: Header, questions: Vec<Question>, answers: Vec<Rr>) -> Message
-        ensures { result ≡ record { header = header; questions = questions.items; answers = answers.items } }
+        ensures { result ≡ record {
+          header = header;
+          questions = questions.items;
+          answers = answers.items;
+        } }
     {
         Message {
             header,

@@ -25,8 +25,10 @@ pub fn write_query(
     held: Option<&Rr>,
 ) -> Result<Octets, AllocError>
     requires { IsHeldSoa (option_map (λ r. r.now) held) }
-    ensures octets { IfOk result (λ o. o ≡ query_octets id zone.now (option_map (λ r. r.now) held.entry)) }
-    ensures spells { IfOk result (λ o. Spells o (query_content id zone.now (option_map (λ r. r.now) held.entry))) }
+    ensures octets { IfOk result
+        (λ o. o ≡ query_octets id zone.now (option_map (λ r. r.now) held.entry)) }
+    ensures spells { IfOk result
+        (λ o. Spells o (query_content id zone.now (option_map (λ r. r.now) held.entry))) }
 {
     let mut out = Vec::new(alloc);
     write_head(query_header(id, held), &mut out)?;
@@ -57,7 +59,9 @@ fn query_question(zone: &Name, held: Option<&Rr>) -> Question
 
 /// The held record, in the authority section.
 fn write_held(held: Option<&Rr>, out: &mut Vec<u8>) -> Result<(), AllocError>
-    ensures octets { OnOk result (out.new.items ≡ out.old.items ++ option_map_or record_octets (option_map (λ r. r.now) held.entry) []) }
+    ensures octets { OnOk result
+        (out.new.items ≡ out.old.items
+        ++ option_map_or record_octets (option_map (λ r. r.now) held.entry) []) }
     ensures held { OnOk result (IsHeld (option_map (λ r. r.now) held.entry)) }
 {
     match held {

@@ -59,7 +59,8 @@ fn read_content(alloc: Global, octets: &[u8], header: Header) -> Result<Message,
 /// The records that aren't answers are skipped, and then the message ends.
 fn read_end(octets: &[u8], at: usize, authority: u16, additional: u16) -> Result<(), MessageFault>
     requires { at ≤ length octets.now }
-    ensures { EndsWell result (ended (behind_records (authority + additional) (drop at octets.now))) }
+    ensures { EndsWell result
+        (ended (behind_records (authority + additional) (drop at octets.now))) }
 {
     match skip_records(octets.split_at(at).1, authority as u32 + additional as u32) {
         None => Err(MessageFault::Wire),
@@ -208,7 +209,8 @@ fn read_field(
 ) -> Result<usize, MessageError>
     requires start { at ≤ end }
     requires end { end ≤ length message.now }
-    ensures reads { AppendsOne out.old.items out.new.items result (field_at message.now at end field) }
+    ensures reads { AppendsOne out.old.items out.new.items result
+        (field_at message.now at end field) }
     ensures within { IfOk result (λ next. next ≤ end) }
 {
     match field {
@@ -233,7 +235,8 @@ fn read_octets(
 ) -> Result<usize, MessageError>
     requires start { at ≤ end }
     requires end { end ≤ length message.now }
-    ensures reads { AppendsOne out.old.items out.new.items result (octets_at message.now at end count) }
+    ensures reads { AppendsOne out.old.items out.new.items result
+        (octets_at message.now at end count) }
     ensures within { IfOk result (λ next. next ≤ end) }
 {
     if end - at < count {

@@ -60,7 +60,8 @@ pub(crate) fn write_head(header: Header, out: &mut Vec<u8>) -> Result<(), AllocE
 }
 
 fn write_questions(questions: &[Question], out: &mut Vec<u8>) -> Result<(), AllocError>
-    ensures octets { OnOk result (out.new.items ≡ out.old.items ++ flat_map question_octets questions.now) }
+    ensures octets { OnOk result
+        (out.new.items ≡ out.old.items ++ flat_map question_octets questions.now) }
     ensures held { OnOk result (All IsAsking questions.now) }
 {
     'questions: for question in questions {
@@ -70,7 +71,8 @@ fn write_questions(questions: &[Question], out: &mut Vec<u8>) -> Result<(), Allo
 }
 
 fn write_answers(answers: &[Rr], out: &mut Vec<u8>) -> Result<(), AllocError>
-    ensures octets { OnOk result (out.new.items ≡ out.old.items ++ flat_map record_octets answers.now) }
+    ensures octets { OnOk result
+        (out.new.items ≡ out.old.items ++ flat_map record_octets answers.now) }
     ensures held { OnOk result (All IsRecord answers.now) }
 {
     'answers: for answer in answers {

@@ -76,7 +76,8 @@ impl Name {
         requires short { length label.now < 64 }
         requires room { length (wire_of self.old) + length label.now < 255 }
         ensures labels { self.new ≡ self.old ++ lower label.now ∷ [] }
-        ensures wire { length (wire_of self.new) ≡ length (wire_of self.old) + (length label.now + 1) }
+        ensures wire { length (wire_of self.new)
+            ≡ length (wire_of self.old) + (length label.now + 1) }
     {
         let end = self.len as usize - 1;
         write_label(&mut self.octets, end, label);
@@ -151,7 +152,8 @@ impl Name {
 fn write_label(octets: &mut [u8; 255], at: usize, label: &[u8])
     requires short { length label.now < 64 }
     requires room { at + length label.now + 1 < 255 }
-    ensures { octets.new ≡ take at octets.old ++ length label.now ∷ (lower label.now ++ drop (at + length label.now + 1) octets.old) }
+    ensures { octets.new ≡ take at octets.old
+        ++ length label.now ∷ (lower label.now ++ drop (at + length label.now + 1) octets.old) }
 {
     octets[at] = label.len() as u8;
     let part = &mut octets[at + 1..at + 1 + label.len()];
@@ -162,7 +164,8 @@ fn write_label(octets: &mut [u8; 255], at: usize, label: &[u8])
 /// Writes octets at a place.
 fn write_at(octets: &mut [u8; 255], at: usize, part: &[u8])
     requires { at + length part.now ≤ 255 }
-    ensures { octets.new ≡ take at octets.old ++ (part.now ++ drop (at + length part.now) octets.old) }
+    ensures { octets.new ≡ take at octets.old
+        ++ (part.now ++ drop (at + length part.now) octets.old) }
 {
     octets[at..at + part.len()].copy_from_slice(part);
 }

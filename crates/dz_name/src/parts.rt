@@ -27,7 +27,9 @@ impl Name {
     /// A label behind its length octet, as it stands in the wire form; 0 is the first.
     pub fn piece(&self, number: usize) -> &[u8]
         requires { number < length self.now }
-        ensures piece { (d : Octets) → result.now ≡ length (slice_index_or self.now number d) ∷ slice_index_or self.now number d }
+        ensures piece { (d : Octets)
+            → result.now ≡ length (slice_index_or self.now number d)
+            ∷ slice_index_or self.now number d }
         ensures label { (d : Octets) → IsLabel (slice_index_or self.now number d) }
     {
         self.as_ref().piece(number)

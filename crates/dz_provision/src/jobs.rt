@@ -51,7 +51,8 @@ pub trait Jobs: Ear {
         requires moment { now < 2 ^ 40 }
         ensures same { reading.new ≡ record reading.old { list = reading.new.list } }
         ensures seen { IsPrefix reading.old.list reading.new.list }
-        ensures settled { IsSettledAt result job finished.octets (length reading.old.list) reading.new.list }
+        ensures settled { IsSettledAt result job finished.octets
+            (length reading.old.list) reading.new.list }
         ensures cause { result ≡ Err Unmade.LogFault → Self.may_fail };
 
     /// Ends a job that failed, and its line is written.

@@ -95,7 +95,8 @@ impl<K: Sink, J: Naming> Provisioner<K, J> {
         output: K,
     ) -> Result<Provisioner<K, J>, Unstarted<K>>
         requires config { IsAllowed config }
-        requires publisher { (publisher.list ≡ []) × (publisher.staged ≡ None) × (publisher.book ≡ J.publisher) }
+        requires publisher { (publisher.list ≡ []) × (publisher.staged ≡ None)
+            × (publisher.book ≡ J.publisher) }
         requires output { IfSome (K.held output) (λ text. text ≡ []) × (K.faults output ≡ 0) }
         ensures ok { IfOk result (λ p. p ≡ record {
           core = opened_core config;
@@ -103,7 +104,8 @@ impl<K: Sink, J: Naming> Provisioner<K, J> {
           faults = 0;
           failed = false;
         }) }
-        ensures err { IfErr result (λ parts. (parts.publisher ≡ publisher) × (parts.output ≡ output)) }
+        ensures err { IfErr result
+            (λ parts. (parts.publisher ≡ publisher) × (parts.output ≡ output)) }
     {
         let mut publisher = publisher;
         match opened(alloc, config) {
@@ -133,7 +135,8 @@ impl<K: Sink, J: Naming> Provisioner<K, J> {
         ensures publisher { (result.publisher.list ≡ self.core.list)
             × (result.publisher.staged ≡ None)
             × (result.publisher.book ≡ J.publisher) }
-        ensures output { (K.held result.output ≡ self.written) × (K.faults result.output ≡ self.faults) }
+        ensures output { (K.held result.output ≡ self.written)
+            × (K.faults result.output ≡ self.faults) }
         ensures failed { result.log_failed ≡ self.failed }
         ensures logged { IsLogged result.publisher.list (K.held result.output) result.log_failed }
         ensures cause { MatchBool result.log_failed (HasRisen 0 (K.faults result.output))

@@ -45,7 +45,8 @@ impl<K: Sink, J: Naming> Provisioner<K, J> {
         ensures same { reading.new ≡ record reading.old { list = reading.new.list } }
         ensures seen { IsPrefix reading.old.list reading.new.list }
         ensures heard { IfSome result (λ hearing.
-            IsHeard ((k : K) × HasRisen 0 (K.faults k)) reading.new.list peer.now zone.now hearing) }
+            IsHeard ((k : K) × HasRisen 0 (K.faults k)) reading.new.list peer.now zone.now
+            hearing) }
     {
         if !self.is_seen(rt, reading) {
             return None;
@@ -90,7 +91,8 @@ impl<K: Sink, J: Naming> Provisioner<K, J> {
         requires moment { now < 2 ^ 40 }
         ensures same { reading.new ≡ record reading.old { list = reading.new.list } }
         ensures seen { IsPrefix reading.old.list reading.new.list }
-        ensures settled { IsSettledAt result job finished.octets (length reading.old.list) reading.new.list }
+        ensures settled { IsSettledAt result job finished.octets
+            (length reading.old.list) reading.new.list }
         ensures cause { result ≡ Err Unmade.LogFault → (k : K) × HasRisen 0 (K.faults k) }
     {
         // all octets of a transfer are used
@@ -114,7 +116,8 @@ impl<K: Sink, J: Naming> Provisioner<K, J> {
 
     /// Says that memory was wanting for the transfer of a zone.
     fn say_starved(&mut self, zone: &Name) -> Result<Verdict, Unmade>
-        ensures answer { MatchResult result (λ verdict. verdict ≡ Verdict.OutOfMemory) (λ unmade. unmade ≡ Unmade.LogFault) }
+        ensures answer { MatchResult result (λ verdict. verdict ≡ Verdict.OutOfMemory)
+            (λ unmade. unmade ≡ Unmade.LogFault) }
         ensures cause { result ≡ Err Unmade.LogFault → (k : K) × HasRisen 0 (K.faults k) }
     {
         let line = starved_line(zone);

@@ -109,7 +109,8 @@ impl<K: Sink, J: Naming> Provisioner<K, J> {
         requires flying { IsFlying self.old.core job }
         requires ready { IsReady self.old.core job ready }
         requires step { ready.weighed.is_there ≡ is_taken ready.weighed.verdict }
-        ensures settled { IsSettled self.old job (octets_in ready.weighed.entry) ready.moment result self.new }
+        ensures settled { IsSettled self.old job
+            (octets_in ready.weighed.entry) ready.moment result self.new }
         ensures note { Notes J.publisher self.new.core.list result }
     {
         let mut ready = ready;
@@ -125,7 +126,8 @@ impl<K: Sink, J: Naming> Provisioner<K, J> {
         requires flying { IsFlying self.old.core job }
         requires ready { IsReady self.old.core job ready }
         requires untaken { is_taken ready.weighed.verdict ≡ false }
-        ensures settled { IsSettled self.old job (octets_in ready.weighed.entry) ready.moment result self.new }
+        ensures settled { IsSettled self.old job
+            (octets_in ready.weighed.entry) ready.moment result self.new }
         ensures note { Notes J.publisher self.new.core.list result }
     {
         let Ready {
@@ -151,8 +153,10 @@ impl<K: Sink, J: Naming> Provisioner<K, J> {
         requires ready { IsReady self.old.core job ready }
         requires taken { is_taken ready.weighed.verdict ≡ true }
         requires entry { step.entry ≡ ready.weighed.entry }
-        requires table { option_map (λ r. r.state.table) ready.weighed.renewed ≡ Some (arc_value step.table) }
-        ensures settled { IsSettled self.old job (octets_in ready.weighed.entry) ready.moment result self.new }
+        requires table { option_map (λ r. r.state.table) ready.weighed.renewed
+            ≡ Some (arc_value step.table) }
+        ensures settled { IsSettled self.old job
+            (octets_in ready.weighed.entry) ready.moment result self.new }
         ensures note { Notes J.publisher self.new.core.list result }
     {
         // what is known of a core and of a job is known of these

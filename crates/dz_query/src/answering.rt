@@ -71,7 +71,8 @@ fn answer_surely<R: Wait>(
     ensures seen { IsPrefix reading.old.list reading.new.list }
     ensures same { (reading.new.is_out ≡ false) × (reading.new.book ≡ reading.old.book) }
     ensures sights { HasRisenBy 1 reading.old.sights reading.new.sights }
-    ensures reply { IsReply result writer.new.writing (reply_at reading.new.list incoming.now.octets.now
+    ensures reply { IsReply result writer.new.writing
+        (reply_at reading.new.list incoming.now.octets.now
         incoming.now.moment (is_tcp incoming.now.transport)) }
     ensures notify { IsNotifyAnyhow result incoming.now.octets.now }
 {

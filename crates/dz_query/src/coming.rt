@@ -34,7 +34,8 @@ pub(crate) enum Came {
 // Reads a message behind its length into the front of the buffer.
 pub(crate) fn read_message<S: Source>(source: &mut S, request: &mut Vec<u8>) -> Came
     requires { length request.old.items ≡ BUFFER_OCTETS }
-    ensures came { HasCome result request.new.items (S.given source.old) (S.given source.new) (S.left source.new) }
+    ensures came { HasCome result request.new.items (S.given source.old) (S.given source.new)
+        (S.left source.new) }
     ensures beside { S.beside source.new ≡ S.beside source.old }
     ensures room { length request.new.items ≡ BUFFER_OCTETS }
     ensures later { S.faults source.old ≤ S.faults source.new }
@@ -68,7 +69,8 @@ fn size_of(front: &[u8]) -> usize
 // Reads until a buffer is full, or the source ends or fails.
 #[tactic(auto, using(crate::proofs::GainLemmas::gains_none, crate::proofs::ComingLemmas::fills_more))]
 fn fill<S: Source>(source: &mut S, buffer: &mut [u8]) -> Filled
-    ensures filled { IsFilled result buffer.new (S.given source.old) (S.given source.new) (S.left source.new) }
+    ensures filled { IsFilled result buffer.new (S.given source.old) (S.given source.new)
+        (S.left source.new) }
     ensures beside { S.beside source.new ≡ S.beside source.old }
     ensures later { S.faults source.old ≤ S.faults source.new }
     ensures fault { result ≡ Filled.Failed → HasRisen (S.faults source.old) (S.faults source.new) }

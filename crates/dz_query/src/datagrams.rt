@@ -45,7 +45,8 @@ pub fn serve_datagrams<E: Ear, D: Datagrams, C: Clock, R: Wait>(
     requires own { reading.old.book ≡ E.publisher }
     ensures seen { IsPrefix reading.old.list reading.new.list }
     ensures same { (reading.new.is_out ≡ false) × (reading.new.book ≡ reading.old.book) }
-    ensures session { IsSession result E.may_fail (C.may_give clock.old) (length reading.old.list) reading.new.list
+    ensures session { IsSession result E.may_fail (C.may_give clock.old)
+        (length reading.old.list) reading.new.list
         (told (D.received device.old) (D.sent device.old) (D.faults device.old)
         reading.old.sights (C.given clock.old))
         (told (D.received device.new) (D.sent device.new) (D.faults device.new)
@@ -92,9 +93,11 @@ fn answer_packet<E: Ear, D: Datagrams, R: Wait>(
     ensures same { (reading.new.is_out ≡ false) × (reading.new.book ≡ reading.old.book) }
     ensures sights { HasRisenBy 1 reading.old.sights reading.new.sights }
     ensures sent { let request = packet incoming.now.octets.now incoming.now.peer.now in
-        let due = due reading.new.list (is_tcp incoming.now.transport) request incoming.now.moment in
+        let due = due reading.new.list
+        (is_tcp incoming.now.transport) request incoming.now.moment in
         Gains (packets_to request (sent_of result due)) (D.sent device.old) (D.sent device.new) }
-    ensures excused { IsExcused E.may_fail false result (packet incoming.now.octets.now incoming.now.peer.now) }
+    ensures excused { IsExcused E.may_fail false result
+        (packet incoming.now.octets.now incoming.now.peer.now) }
     ensures received { D.received device.new ≡ D.received device.old }
     ensures closed { D.is_closed device.new ≡ D.is_closed device.old }
     ensures later { D.faults device.old ≤ D.faults device.new }

@@ -36,10 +36,12 @@ pub fn serve_links<E: Ear, A: Acceptor, C: Clock, R: Wait>(
     ensures seen { IsPrefix reading.old.list reading.new.list }
     ensures same { (reading.new.is_out ≡ false) × (reading.new.book ≡ reading.old.book) }
     ensures back { A.out acceptor.new ≡ None }
-    ensures visits { AreVisits E.may_fail (C.may_give clock.old) (length reading.old.list) reading.new.list
+    ensures visits { AreVisits E.may_fail (C.may_give clock.old)
+        (length reading.old.list) reading.new.list
         (links_told (A.links acceptor.old) reading.old.sights (C.given clock.old))
         (links_told (A.links acceptor.new) reading.new.sights (C.given clock.new)) }
-    ensures until { AcceptsUntil result (A.is_closed acceptor.new) (A.faults acceptor.old) (A.faults acceptor.new) }
+    ensures until { AcceptsUntil result (A.is_closed acceptor.new) (A.faults acceptor.old)
+        (A.faults acceptor.new) }
     ensures later { A.faults acceptor.old ≤ A.faults acceptor.new }
     ensures give { C.may_give clock.new ≡ C.may_give clock.old }
     ensures stop { C.may_stop clock.new ≡ C.may_stop clock.old }

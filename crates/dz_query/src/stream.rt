@@ -47,11 +47,13 @@ pub fn serve_stream<E: Ear, L: Link, C: Clock, R: Wait>(
     requires own { reading.old.book ≡ E.publisher }
     ensures seen { IsPrefix reading.old.list reading.new.list }
     ensures same { (reading.new.is_out ≡ false) × (reading.new.book ≡ reading.old.book) }
-    ensures stream { IsStream result E.may_fail (C.may_give clock.old) (length reading.old.list) reading.new.list
+    ensures stream { IsStream result E.may_fail (C.may_give clock.old)
+        (length reading.old.list) reading.new.list
         peer.now
         (flow (L.given link.old) (L.held link.old) reading.old.sights (C.given clock.old))
         (flow (L.given link.new) (L.held link.new) reading.new.sights (C.given clock.new)) }
-    ensures ends { EndsBy result (L.left link.new) (L.Source.faults link.old) (L.Source.faults link.new) }
+    ensures ends { EndsBy result (L.left link.new) (L.Source.faults link.old)
+        (L.Source.faults link.new) }
     ensures later { L.Source.faults link.old ≤ L.Source.faults link.new }
     ensures give { C.may_give clock.new ≡ C.may_give clock.old }
     ensures stop { C.may_stop clock.new ≡ C.may_stop clock.old }
@@ -89,9 +91,11 @@ fn write_answer<S: Sink>(
     requires room { length room.old.items ≡ BUFFER_OCTETS }
     requires short { IsShort answered writer.now.writing }
     ensures all { OnOk result
-        (Gains (stream (texts_of answered writer.now.writing)) (S.held sink.old) (S.held sink.new)) }
+        (Gains (stream (texts_of answered writer.now.writing)) (S.held sink.old)
+        (S.held sink.new)) }
     ensures err { OnErr result
-        (GainsPrefix (stream (texts_of answered writer.now.writing)) (S.held sink.old) (S.held sink.new)) }
+        (GainsPrefix (stream (texts_of answered writer.now.writing)) (S.held sink.old)
+        (S.held sink.new)) }
     ensures room { length room.new.items ≡ BUFFER_OCTETS }
     ensures beside { S.beside sink.new ≡ S.beside sink.old }
     ensures cause { HasCause (S.faults sink.old) (S.faults sink.new) result }
@@ -107,7 +111,8 @@ fn write_framed<S: Sink>(sink: &mut S, message: &[u8], room: &mut Vec<u8>) -> Re
     requires room { length room.old.items ≡ BUFFER_OCTETS }
     requires short { length message.now ≤ MESSAGE_OCTETS }
     ensures all { OnOk result (Gains (frame message.now) (S.held sink.old) (S.held sink.new)) }
-    ensures err { OnErr result (GainsPrefix (frame message.now) (S.held sink.old) (S.held sink.new)) }
+    ensures err { OnErr result
+        (GainsPrefix (frame message.now) (S.held sink.old) (S.held sink.new)) }
     ensures room { length room.new.items ≡ BUFFER_OCTETS }
     ensures beside { S.beside sink.new ≡ S.beside sink.old }
     ensures cause { HasCause (S.faults sink.old) (S.faults sink.new) result }

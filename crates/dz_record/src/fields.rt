@@ -78,7 +78,8 @@ fn field_end(field: Field, rdata: &[u8], at: usize) -> Option<usize>
 fn string_end(rdata: &[u8], at: usize) -> Option<usize>
     requires { at ≤ length rdata.now }
     ensures within { IfSome result (λ end. end ≤ length rdata.now) }
-    ensures value { result ≡ (if nat_lt (slice_index rdata.now at) (length rdata.now - at) then Some (at + (slice_index rdata.now at + 1)) else None) }
+    ensures value { result ≡ (if nat_lt (slice_index rdata.now at) (length rdata.now - at)
+        then Some (at + (slice_index rdata.now at + 1)) else None) }
 {
     if at == rdata.len() {
         return None;

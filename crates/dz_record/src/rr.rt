@@ -285,7 +285,8 @@ impl Rr {
 
     /// Appends the record without pointers (RFC 1035 section 4.1.3), or nothing where memory is wanting.
     pub fn encode(&self, out: &mut Vec<u8>) -> Result<(), AllocError>
-        ensures octets { out.new.items ≡ (if is_ok result then out.old.items ++ record_octets self.now else out.old.items) }
+        ensures octets { out.new.items
+            ≡ (if is_ok result then out.old.items ++ record_octets self.now else out.old.items) }
         ensures valid { IsRecord self.now }
     {
         out.extend_from_slice(self.octets())
@@ -310,7 +311,8 @@ fn put_record(
     rdata: &[u8],
 ) -> Result<(), AllocError>
     requires { length rdata.now ≤ MESSAGE_OCTETS }
-    ensures { OnOk result (out.new.items ≡ out.old.items ++ octets_of owner.now kind ttl rdata.now) }
+    ensures { OnOk result (out.new.items
+        ≡ out.old.items ++ octets_of owner.now kind ttl rdata.now) }
 {
     out.extend_from_slice(owner)?;
     out.extend_from_slice(&two(kind))?;

@@ -30,7 +30,9 @@ pub struct Answer<'a> {
 pub fn reply_zone(frame: &Frame<'_>, version: &Version, writer: &mut Writer)
     requires whole { IsWhole frame.now.request.now frame.now.asked.now.size }
     requires within { is_within frame.now.asked.now.question.name version.now.apex ≡ true }
-    ensures { Replies frame.now (sections_of version.now frame.now.asked.now.question.name frame.now.asked.now.question.kind) writer.new.writing }
+    ensures { Replies frame.now
+        (sections_of version.now frame.now.asked.now.question.name
+        frame.now.asked.now.question.kind) writer.new.writing }
 {
     let mut chain = Chain::empty();
     let question = &frame.asked.question;
@@ -50,7 +52,8 @@ fn reply_end(
     writer: &mut Writer,
 )
     requires { IsWhole answer.now.frame.now.request.now answer.now.frame.now.asked.now.size }
-    ensures { Replies answer.now.frame.now (at_end answer.now.version.now chain.now (meaning found.now) name.now) writer.new.writing }
+    ensures { Replies answer.now.frame.now
+        (at_end answer.now.version.now chain.now (meaning found.now) name.now) writer.new.writing }
 {
     match found {
         Found::Here(records) => reply_records(answer, chain, name, records, writer),
@@ -84,7 +87,8 @@ fn reply_records(
     writer: &mut Writer,
 )
     requires { IsWhole answer.now.frame.now.request.now answer.now.frame.now.asked.now.size }
-    ensures { Replies answer.now.frame.now (with_records chain.now name.now records.now) writer.new.writing }
+    ensures { Replies answer.now.frame.now
+        (with_records chain.now name.now records.now) writer.new.writing }
 {
     let question = &answer.frame.asked.question.name;
     let heading = Heading {
@@ -100,7 +104,8 @@ fn reply_records(
 /// The aliases, and the SOA: the last name has no such records, or doesn't exist (RFC 2308 section 2).
 fn reply_soa(answer: &Answer<'_>, chain: &Chain<'_>, code: ResponseCode, writer: &mut Writer)
     requires { IsWhole answer.now.frame.now.request.now answer.now.frame.now.asked.now.size }
-    ensures { Replies answer.now.frame.now (with_soa answer.now.version.now chain.now (number_of code)) writer.new.writing }
+    ensures { Replies answer.now.frame.now
+        (with_soa answer.now.version.now chain.now (number_of code)) writer.new.writing }
 {
     let question = &answer.frame.asked.question.name;
     let heading = Heading {
@@ -117,7 +122,8 @@ fn reply_soa(answer: &Answer<'_>, chain: &Chain<'_>, code: ResponseCode, writer:
 /// The aliases, and the name servers of the zone cut with their addresses (RFC 1034 section 4.3.2).
 fn reply_referral(answer: &Answer<'_>, chain: &Chain<'_>, servers: &[Rr], writer: &mut Writer)
     requires { IsWhole answer.now.frame.now.request.now answer.now.frame.now.asked.now.size }
-    ensures { Replies answer.now.frame.now (with_servers answer.now.version.now chain.now servers.now) writer.new.writing }
+    ensures { Replies answer.now.frame.now
+        (with_servers answer.now.version.now chain.now servers.now) writer.new.writing }
 {
     let question = &answer.frame.asked.question.name;
     let authoritative = chain.len() != 0;
@@ -139,7 +145,8 @@ fn reply_referral(answer: &Answer<'_>, chain: &Chain<'_>, servers: &[Rr], writer
 
 /// Writes the CNAME records of a chain, each under the name that was looked up.
 fn put_aliases(writer: &mut Writer, question: &Name, chain: &Chain<'_>)
-    ensures { writer.new.writing ≡ also writer.old.writing (entries_octets question.now (alias_entries chain.now)) }
+    ensures { writer.new.writing
+        ≡ also writer.old.writing (entries_octets question.now (alias_entries chain.now)) }
 {
     'aliases: for number in 0..chain.len() {
         let name = chain.name(number);
@@ -150,7 +157,8 @@ fn put_aliases(writer: &mut Writer, question: &Name, chain: &Chain<'_>)
 
 /// Writes the SOA of a negative answer.
 fn put_soa(writer: &mut Writer, question: &Name, version: &Version)
-    ensures written { writer.new.writing ≡ also writer.old.writing (entries_octets question.now (soa_entries version.now)) }
+    ensures written { writer.new.writing
+        ≡ also writer.old.writing (entries_octets question.now (soa_entries version.now)) }
     ensures one { length (soa_entries version.now) ≡ 1 }
 {
     let soa = version.apex_soa();

@@ -66,7 +66,8 @@ impl<'a> Glue<'a> {
 
     /// Writes the records, those of each server behind one another: A records and then AAAA records.
     pub fn put(&self, writer: &mut Writer, question: &Name)
-        ensures { writer.new.writing ≡ also writer.old.writing (entries_octets question.now self.now) }
+        ensures { writer.new.writing
+            ≡ also writer.old.writing (entries_octets question.now self.now) }
     {
         put_found(writer, question, self.found.as_slice());
         put_further(writer, question, self.version, self.further);
@@ -142,14 +143,16 @@ fn count_further(version: &Version, servers: &[Rr]) -> usize
 
 /// Writes the A records and then the AAAA records of a name server.
 fn put_one(writer: &mut Writer, question: &Name, addresses: &Addresses)
-    ensures { writer.new.writing ≡ also writer.old.writing (entries_octets question.now (shown addresses.now)) }
+    ensures { writer.new.writing
+        ≡ also writer.old.writing (entries_octets question.now (shown addresses.now)) }
 {
     put_own(writer, question, addresses.four);
     put_own(writer, question, addresses.six);
 }
 
 fn put_found(writer: &mut Writer, question: &Name, found: &[Addresses])
-    ensures { writer.new.writing ≡ also writer.old.writing (entries_octets question.now (flat_map shown found.now)) }
+    ensures { writer.new.writing
+        ≡ also writer.old.writing (entries_octets question.now (flat_map shown found.now)) }
 {
     'found: for addresses in found {
         put_one(writer, question, addresses);
@@ -157,7 +160,8 @@ fn put_found(writer: &mut Writer, question: &Name, found: &[Addresses])
 }
 
 fn put_further(writer: &mut Writer, question: &Name, version: &Version, servers: &[Rr])
-    ensures { writer.new.writing ≡ also writer.old.writing (entries_octets question.now (glue version.now servers.now)) }
+    ensures { writer.new.writing
+        ≡ also writer.old.writing (entries_octets question.now (glue version.now servers.now)) }
 {
     'servers: for server in servers {
         put_one(writer, question, &server_addresses(version, server));

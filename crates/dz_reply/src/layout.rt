@@ -37,7 +37,8 @@ pub fn put_owner(writer: &mut Writer, question: &Name, owner: &NameRef)
 /// Writes a pointer to what stands behind the first labels of an owner, which ends the question's name.
 fn put_pointer(writer: &mut Writer, question: &Name, owner: &NameRef, skip: usize)
     requires { skip ≤ length owner.now }
-    ensures { writer.new.writing ≡ also writer.old.writing (pointer_to question.now (drop skip owner.now)) }
+    ensures { writer.new.writing
+        ≡ also writer.old.writing (pointer_to question.now (drop skip owner.now)) }
 {
     let front = question
         .wire()
@@ -49,7 +50,8 @@ fn put_pointer(writer: &mut Writer, question: &Name, owner: &NameRef, skip: usiz
 /// Writes a record of class IN under an owner and with a TTL in seconds that may differ from its own. The RDATA
 /// stands without pointers (RFC 1035 section 4.1.3, RFC 3597 section 4).
 pub fn put_entry(writer: &mut Writer, question: &Name, owner: &NameRef, ttl: u32, rr: &Rr)
-    ensures { writer.new.writing ≡ also writer.old.writing (entry_octets question.now (entry owner.now ttl rr.now)) }
+    ensures { writer.new.writing
+        ≡ also writer.old.writing (entry_octets question.now (entry owner.now ttl rr.now)) }
 {
     put_owner(writer, question, owner);
     writer.put(rr.kind_and_class());
@@ -60,7 +62,8 @@ pub fn put_entry(writer: &mut Writer, question: &Name, owner: &NameRef, ttl: u32
 /// Writes records under one owner. Those of a type have their least TTL, and an RRSIG has its own (RFC 2181
 /// section 5.2, RFC 4035 section 2.2). Records of a type that stand side by side cost one pass more over all of them.
 pub fn put_entries(writer: &mut Writer, question: &Name, owner: &NameRef, records: &[Rr])
-    ensures { writer.new.writing ≡ also writer.old.writing (entries_octets question.now (entries owner.now records.now)) }
+    ensures { writer.new.writing
+        ≡ also writer.old.writing (entries_octets question.now (entries owner.now records.now)) }
 {
     let mut kind = TYPE_RRSIG;
     let mut ttl = 0;
@@ -76,7 +79,8 @@ pub fn put_entries(writer: &mut Writer, question: &Name, owner: &NameRef, record
 
 /// Writes an RRset under the name of its owner.
 pub fn put_own(writer: &mut Writer, question: &Name, records: &[Rr])
-    ensures { writer.new.writing ≡ also writer.old.writing (entries_octets question.now (own_entries records.now)) }
+    ensures { writer.new.writing
+        ≡ also writer.old.writing (entries_octets question.now (own_entries records.now)) }
 {
     match records.first() {
         None => {}

@@ -38,9 +38,12 @@ pub fn reply_into(
     transport: Transport,
     buffer: &mut ReplyBuffer,
 ) -> Turn
-    ensures reply { IsReply result buffer.new.reply.writing (reply_of table.now octets.now moment (is_tcp transport)) }
+    ensures reply { IsReply result buffer.new.reply.writing
+        (reply_of table.now octets.now moment (is_tcp transport)) }
     ensures size { FitsBuffer result }
-    ensures reads_back { (text : Octets) → buffer.new.reply.writing.octets ≡ Some text → result ≡ Turn.Written (length text) → ReadsBack table.now octets.now moment (is_tcp transport) text }
+    ensures reads_back { (text : Octets) → buffer.new.reply.writing.octets ≡ Some text
+        → result ≡ Turn.Written (length text)
+        → ReadsBack table.now octets.now moment (is_tcp transport) text }
     ensures notify { IsNotifyAnyhow result octets.now }
     ensures request { buffer.new.request ≡ buffer.old.request }
 {
@@ -56,9 +59,12 @@ pub fn reply_to(
     transport: Transport,
     writer: &mut Writer,
 ) -> Turn
-    ensures reply { IsReply result writer.new.writing (reply_of table.now octets.now moment (is_tcp transport)) }
+    ensures reply { IsReply result writer.new.writing
+        (reply_of table.now octets.now moment (is_tcp transport)) }
     ensures size { FitsBuffer result }
-    ensures reads_back { (text : Octets) → writer.new.writing.octets ≡ Some text → result ≡ Turn.Written (length text) → ReadsBack table.now octets.now moment (is_tcp transport) text }
+    ensures reads_back { (text : Octets) → writer.new.writing.octets ≡ Some text
+        → result ≡ Turn.Written (length text)
+        → ReadsBack table.now octets.now moment (is_tcp transport) text }
     ensures notify { IsNotifyAnyhow result octets.now }
 {
     let exchange = Exchange {
@@ -82,7 +88,9 @@ struct Exchange<'a> {
 #[tactic(auto, unfolding(crate::specs::Reply::reply_for))]
 fn reply_request(exchange: &Exchange<'_>, request: &Request, writer: &mut Writer) -> Turn
     requires { FitsIn exchange.now.octets.now request.now }
-    ensures reply { IsReply result writer.new.writing (reply_for exchange.now.table.now exchange.now.octets.now exchange.now.moment (is_tcp exchange.now.transport) request.now) }
+    ensures reply { IsReply result writer.new.writing
+        (reply_for exchange.now.table.now exchange.now.octets.now exchange.now.moment
+        (is_tcp exchange.now.transport) request.now) }
     ensures held { AnswersHeldFor exchange.now.table.now exchange.now.moment request.now }
     ensures size { FitsBuffer result }
 {
@@ -99,8 +107,13 @@ fn reply_request(exchange: &Exchange<'_>, request: &Request, writer: &mut Writer
 /// REFUSED without an enclosing zone.
 fn reply_question(exchange: &Exchange<'_>, asked: &Asked, writer: &mut Writer) -> Turn
     requires { IsWhole exchange.now.octets.now asked.now.size }
-    ensures reply { IsReply result writer.new.writing (written (octets_of (is_tcp exchange.now.transport) (query_of exchange.now.octets.now asked.now) (at_slot (closest exchange.now.table.now asked.now.question.name) exchange.now.moment asked.now.question.name asked.now.question.kind))) }
-    ensures held { AnswersHeld (closest exchange.now.table.now asked.now.question.name) exchange.now.moment }
+    ensures reply { IsReply result writer.new.writing
+        (written (octets_of (is_tcp exchange.now.transport)
+        (query_of exchange.now.octets.now asked.now)
+        (at_slot (closest exchange.now.table.now asked.now.question.name) exchange.now.moment
+        asked.now.question.name asked.now.question.kind))) }
+    ensures held { AnswersHeld
+        (closest exchange.now.table.now asked.now.question.name) exchange.now.moment }
     ensures size { FitsBuffer result }
 {
     match exchange.table.closest(&asked.question.name) {
@@ -113,7 +126,11 @@ fn reply_question(exchange: &Exchange<'_>, asked: &Asked, writer: &mut Writer) -
 fn reply_slot(exchange: &Exchange<'_>, slot: &Slot, asked: &Asked, writer: &mut Writer) -> Turn
     requires whole { IsWhole exchange.now.octets.now asked.now.size }
     requires within { IsWithin asked.now.question.name slot.now.zone }
-    ensures reply { IsReply result writer.new.writing (written (octets_of (is_tcp exchange.now.transport) (query_of exchange.now.octets.now asked.now) (at_slot (Some slot.now) exchange.now.moment asked.now.question.name asked.now.question.kind))) }
+    ensures reply { IsReply result writer.new.writing
+        (written (octets_of (is_tcp exchange.now.transport)
+        (query_of exchange.now.octets.now asked.now)
+        (at_slot (Some slot.now) exchange.now.moment asked.now.question.name
+        asked.now.question.kind))) }
     ensures held { AnswersHeld (Some slot.now) exchange.now.moment }
     ensures size { FitsBuffer result }
 {
@@ -136,7 +153,8 @@ fn reply_slot(exchange: &Exchange<'_>, slot: &Slot, asked: &Asked, writer: &mut 
 
 /// Writes a reply of twelve octets (RFC 1035 section 4.1.1).
 fn reply_header(header: &Header, code: ResponseCode, writer: &mut Writer) -> Turn
-    ensures reply { IsReply result writer.new.writing (written (curt_octets header.now (number_of code))) }
+    ensures reply { IsReply result writer.new.writing
+        (written (curt_octets header.now (number_of code))) }
     ensures size { FitsBuffer result }
 {
     reply_curt(writer, header, code);
@@ -151,7 +169,9 @@ fn reply_code(
     writer: &mut Writer,
 ) -> Turn
     requires { IsWhole exchange.now.octets.now asked.now.size }
-    ensures reply { IsReply result writer.new.writing (written (octets_of (is_tcp exchange.now.transport) (query_of exchange.now.octets.now asked.now) (bare (number_of code)))) }
+    ensures reply { IsReply result writer.new.writing
+        (written (octets_of (is_tcp exchange.now.transport)
+        (query_of exchange.now.octets.now asked.now) (bare (number_of code)))) }
     ensures size { FitsBuffer result }
 {
     let frame = Frame {
@@ -166,7 +186,8 @@ fn reply_code(
 /// How many octets were written.
 fn as_written(writer: &Writer) -> Turn
     requires { IsSome writer.now.writing.octets }
-    ensures reply { (text : Octets) → writer.now.writing.octets ≡ Some text → result ≡ Turn.Written (length text) }
+    ensures reply { (text : Octets) → writer.now.writing.octets ≡ Some text
+        → result ≡ Turn.Written (length text) }
     ensures size { FitsBuffer result }
 {
     Turn::Written(writer.written().len())

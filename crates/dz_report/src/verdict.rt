@@ -69,7 +69,8 @@ fn taken_line(
     serial: u32,
 ) -> Result<Vec<u8>, AllocError>
     ensures { IfOk result (λ text. text.items
-        ≡ end (also (also (also word.now (decimal position)) (text_of zone.now)) (decimal serial))) }
+        ≡ end (also (also (also word.now (decimal position)) (text_of zone.now))
+        (decimal serial))) }
 {
     let mut digits = Buffer::new();
     let mut text = Vec::from_slice(alloc, word)?;
@@ -82,7 +83,8 @@ fn taken_line(
 
 /// `<word> <zone> <text>`.
 fn zone_line(alloc: Global, word: &[u8], zone: &Name, behind: &[u8]) -> Result<Vec<u8>, AllocError>
-    ensures { IfOk result (λ text. text.items ≡ end (also (also word.now (text_of zone.now)) behind.now)) }
+    ensures { IfOk result (λ text. text.items
+        ≡ end (also (also word.now (text_of zone.now)) behind.now)) }
 {
     let mut text = Vec::from_slice(alloc, word)?;
     put(&mut text, zone.print().as_bytes())?;
@@ -92,7 +94,8 @@ fn zone_line(alloc: Global, word: &[u8], zone: &Name, behind: &[u8]) -> Result<V
 }
 
 fn stale_line(alloc: Global, zone: &Name, position: u64) -> Result<Vec<u8>, AllocError>
-    ensures { IfOk result (λ text. text.items ≡ end (also (also (codes "stale") (text_of zone.now)) (decimal position))) }
+    ensures { IfOk result (λ text. text.items
+        ≡ end (also (also (codes "stale") (text_of zone.now)) (decimal position))) }
 {
     let mut digits = Buffer::new();
     zone_line(alloc, b"stale", zone, digits.format(position).as_bytes())
@@ -163,7 +166,8 @@ fn change_text(alloc: Global, zone: &Name, what: &What) -> Result<Vec<u8>, Alloc
 
 /// `<word> <zone> <catalog>`.
 fn named(alloc: Global, word: &[u8], zone: &Name, catalog: &Name) -> Result<Vec<u8>, AllocError>
-    ensures { IfOk result (λ text. text.items ≡ also (also word.now (text_of zone.now)) (text_of catalog.now)) }
+    ensures { IfOk result (λ text. text.items
+        ≡ also (also word.now (text_of zone.now)) (text_of catalog.now)) }
 {
     let mut text = Vec::from_slice(alloc, word)?;
     put(&mut text, zone.print().as_bytes())?;
@@ -189,7 +193,8 @@ fn moved(
 
 /// `clash <zone>`, and the holder or `configured`.
 fn clash(alloc: Global, zone: &Name, holder: &Option<Name>) -> Result<Vec<u8>, AllocError>
-    ensures { IfOk result (λ text. text.items ≡ also (also (codes "clash") (text_of zone.now)) (holder_text holder.now)) }
+    ensures { IfOk result (λ text. text.items
+        ≡ also (also (codes "clash") (text_of zone.now)) (holder_text holder.now)) }
 {
     match holder {
         Some(holder) => named(alloc, b"clash", zone, holder),

@@ -36,7 +36,14 @@ pub struct Heading {
 impl Heading {
     /// The heading of a reply without records.
     pub fn bare(code: ResponseCode, authoritative: bool, truncated: bool) -> Heading
-        ensures { result ≡ record { code = code; authoritative = authoritative; truncated = truncated; answer = 0; authority = 0; additional = 0 } }
+        ensures { result ≡ record {
+          code = code;
+          authoritative = authoritative;
+          truncated = truncated;
+          answer = 0;
+          authority = 0;
+          additional = 0;
+        } }
     {
         Heading {
             code,
@@ -76,7 +83,8 @@ impl Frame<'_> {
     /// question and OPT record with TC set, response code and AA as they were (RFC 2181 section 9).
     pub fn finish(&self, writer: &mut Writer, code: ResponseCode, authoritative: bool)
         requires { IsWhole self.now.request.now self.now.asked.now.size }
-        ensures { IsEnd (is_tcp self.now.transport) (query_of self.now.request.now self.now.asked.now) (number_of code)
+        ensures { IsEnd (is_tcp self.now.transport)
+            (query_of self.now.request.now self.now.asked.now) (number_of code)
             authoritative writer.old.writing writer.new.writing }
     {
         put_opt(writer, code, self.asked.edns);
@@ -90,7 +98,8 @@ impl Frame<'_> {
     pub fn reply_bare(&self, writer: &mut Writer, code: ResponseCode)
         requires { IsWhole self.now.request.now self.now.asked.now.size }
         ensures { let query = query_of self.now.request.now self.now.asked.now in
-            writer.new.writing ≡ reply_writing (is_tcp self.now.transport) query (number_of code) false
+            writer.new.writing ≡ reply_writing (is_tcp self.now.transport) query
+            (number_of code) false
             (bare_octets query (number_of code)) }
     {
         self.begin(writer, &Heading::bare(code, false, false));
@@ -101,7 +110,8 @@ impl Frame<'_> {
 /// Writes a reply of twelve octets, where nothing behind the header can be read: ID, opcode and RD of the request, and a
 /// code.
 pub fn reply_curt(writer: &mut Writer, request: &Header, code: ResponseCode)
-    ensures { writer.new.writing ≡ writing_of UDP_OCTETS (curt_octets request.now (number_of code)) }
+    ensures { writer.new.writing
+        ≡ writing_of UDP_OCTETS (curt_octets request.now (number_of code)) }
 {
     writer.begin(UDP_OCTETS);
     let header = Header {
@@ -129,9 +139,11 @@ fn limit_of(transport: Transport, edns: Option<Edns>) -> usize
 fn reply_header(request: &Header, heading: &Heading, opts: usize) -> Header
     requires { opts ≤ 1 }
     ensures { let said = heading.now in
-        let flags = reply_flags request.now.flags (number_of said.code) said.authoritative said.truncated in
+        let flags = reply_flags request.now.flags
+        (number_of said.code) said.authoritative said.truncated in
         let counts = 1 ∷ said.answer ∷ said.authority ∷ (said.additional + opts) ∷ [] in
-        header_octets result ≡ header_octets (record { id = request.now.id; flags = flags; counts = counts }) }
+        header_octets result ≡ header_octets
+        (record { id = request.now.id; flags = flags; counts = counts }) }
 {
     Header {
         id: request.id,

@@ -157,7 +157,8 @@ fn read_question_in(octets: &[u8]) -> Option<(Question, usize)>
     ensures reads { result ≡ question_in octets.now }
     ensures begin { IfSome result (λ found. HEADER_OCTETS ≤ found.1) }
     ensures end { IfSome result (λ found. found.1 ≤ length octets.now) }
-    ensures few { IfSome result (λ found. found.1 ≤ HEADER_OCTETS + (NAME_OCTETS + QUESTION_OCTETS)) }
+    ensures few { IfSome result
+        (λ found. found.1 ≤ HEADER_OCTETS + (NAME_OCTETS + QUESTION_OCTETS)) }
 {
     match read_question(&Wire::plain(octets), HEADER_OCTETS) {
         Err(_) => None,

@@ -22,8 +22,10 @@ pub(crate) fn close_datagrams<P: Ports>(ports: &mut P, devices: Pair<P::D>)
     ensures later { P.faults ports.old ≤ P.faults ports.new }
     ensures kept { P.D.faults devices.first ≡ 0 → P.D.faults devices.second ≡ 0 →
         P.faults ports.new ≡ P.faults ports.old }
-    ensures first { HasRisen 0 (P.D.faults devices.first) → HasRisen (P.faults ports.old) (P.faults ports.new) }
-    ensures second { HasRisen 0 (P.D.faults devices.second) → HasRisen (P.faults ports.old) (P.faults ports.new) }
+    ensures first { HasRisen 0 (P.D.faults devices.first)
+        → HasRisen (P.faults ports.old) (P.faults ports.new) }
+    ensures second { HasRisen 0 (P.D.faults devices.second)
+        → HasRisen (P.faults ports.old) (P.faults ports.new) }
 {
     let Pair { first, second } = devices;
     ports.close_datagrams(first);
@@ -44,8 +46,10 @@ pub(crate) fn close_acceptors<P: Ports>(ports: &mut P, devices: Pair<P::A>)
     ensures later { P.faults ports.old ≤ P.faults ports.new }
     ensures kept { P.A.faults devices.first ≡ 0 → P.A.faults devices.second ≡ 0 →
         P.faults ports.new ≡ P.faults ports.old }
-    ensures first { HasRisen 0 (P.A.faults devices.first) → HasRisen (P.faults ports.old) (P.faults ports.new) }
-    ensures second { HasRisen 0 (P.A.faults devices.second) → HasRisen (P.faults ports.old) (P.faults ports.new) }
+    ensures first { HasRisen 0 (P.A.faults devices.first)
+        → HasRisen (P.faults ports.old) (P.faults ports.new) }
+    ensures second { HasRisen 0 (P.A.faults devices.second)
+        → HasRisen (P.faults ports.old) (P.faults ports.new) }
 {
     let Pair { first, second } = devices;
     ports.close_acceptor(first);

@@ -45,7 +45,8 @@ pub(crate) enum Unset {
 /// `Read` where the source failed; `Bad` with the least fault where the input is no configuration; `OutOfMemory` where
 /// memory is wanting.
 pub(crate) fn read_setting<S: Source>(alloc: Global, source: &mut S) -> Result<Setting, Unset>
-    ensures reads { (octets : Octets) → S.left source.old ≡ Some octets → IsSettingOf octets result }
+    ensures reads { (octets : Octets) → S.left source.old ≡ Some octets
+        → IsSettingOf octets result }
     ensures allowed { IfOk result (λ s. IsAllowed s.config) }
     ensures end { IfOk result (λ s. (octets : Octets) → S.left source.old ≡ Some octets →
         S.left source.new ≡ Some []) }
@@ -99,10 +100,12 @@ pub fn serve_input<
     ensures read_later { S.faults input.old ≤ S.faults input.new }
     ensures read_kept { result.end ≢ ServeEnd.ReadFault → result.end ≢ ServeEnd.NoMemory →
         S.faults input.new ≡ S.faults input.old }
-    ensures read_fault { result.end ≡ ServeEnd.ReadFault → HasRisen (S.faults input.old) (S.faults input.new) }
+    ensures read_fault { result.end ≡ ServeEnd.ReadFault
+        → HasRisen (S.faults input.old) (S.faults input.new) }
     ensures write { MatchBool (is_write_fault result.end) (HasRisen 0 (K.faults result.output))
         (K.faults result.output ≡ 0) }
-    ensures port { result.end ≡ ServeEnd.PortFault → HasRisen (P.faults ports.old) (P.faults ports.new) }
+    ensures port { result.end ≡ ServeEnd.PortFault
+        → HasRisen (P.faults ports.old) (P.faults ports.new) }
     ensures ports_later { P.faults ports.old ≤ P.faults ports.new }
 {
     match read_setting(alloc, input) {

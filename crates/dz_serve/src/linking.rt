@@ -63,9 +63,12 @@ impl<E: Ear, A: Acceptor, C: Clock> Promise<Linked<A, C>> for Links<E, Linking<A
     ghost use Rattle.dz_io.specs.Ports.{accepts};
     ghost use Rattle.dz_serve.specs.Workers.{HasLinked};
 
-    ghost kept_by = { λ p d. HasLinked d.end E.may_fail (C.may_give p.before.value.clock) p.before.value.reading d.reading
-        (accepts (A.links (manually_drop_value p.before.value.acceptor)) (A.out (manually_drop_value p.before.value.acceptor))
-        (A.is_closed (manually_drop_value p.before.value.acceptor)) (A.faults (manually_drop_value p.before.value.acceptor)))
+    ghost kept_by = { λ p d. HasLinked d.end E.may_fail
+        (C.may_give p.before.value.clock) p.before.value.reading d.reading
+        (accepts (A.links (manually_drop_value p.before.value.acceptor))
+        (A.out (manually_drop_value p.before.value.acceptor))
+        (A.is_closed (manually_drop_value p.before.value.acceptor))
+        (A.faults (manually_drop_value p.before.value.acceptor)))
         (accepts (A.links (manually_drop_value d.acceptor)) (A.out (manually_drop_value d.acceptor))
         (A.is_closed (manually_drop_value d.acceptor)) (A.faults (manually_drop_value d.acceptor)))
         (C.given p.before.value.clock) (C.given d.clock) };
@@ -80,10 +83,14 @@ pub(crate) fn link<E: Ear, A: Acceptor, C: Clock, R: Wait>(
     requires seated { IsSeated E.publisher work.reading }
     requires none { A.out (manually_drop_value work.acceptor) ≡ None }
     ensures { HasLinked result.end E.may_fail (C.may_give work.clock) work.reading result.reading
-        (accepts (A.links (manually_drop_value work.acceptor)) (A.out (manually_drop_value work.acceptor))
-        (A.is_closed (manually_drop_value work.acceptor)) (A.faults (manually_drop_value work.acceptor)))
-        (accepts (A.links (manually_drop_value result.acceptor)) (A.out (manually_drop_value result.acceptor))
-        (A.is_closed (manually_drop_value result.acceptor)) (A.faults (manually_drop_value result.acceptor)))
+        (accepts (A.links (manually_drop_value work.acceptor))
+        (A.out (manually_drop_value work.acceptor))
+        (A.is_closed (manually_drop_value work.acceptor))
+        (A.faults (manually_drop_value work.acceptor)))
+        (accepts (A.links (manually_drop_value result.acceptor))
+        (A.out (manually_drop_value result.acceptor))
+        (A.is_closed (manually_drop_value result.acceptor))
+        (A.faults (manually_drop_value result.acceptor)))
         (C.given work.clock) (C.given result.clock) }
 {
     let Linking {

@@ -65,8 +65,10 @@ impl<E: Ear, D: Datagrams, C: Clock> Promise<Listened<D, C>> for Listens<E, List
 
     ghost kept_by = { λ p d. HasListened d.end (D.is_closed (manually_drop_value d.device))
         E.may_fail (C.may_give p.before.value.clock) p.before.value.reading d.reading
-        (told (D.received (manually_drop_value p.before.value.device)) (D.sent (manually_drop_value p.before.value.device))
-        (D.faults (manually_drop_value p.before.value.device)) p.before.value.reading.sights (C.given p.before.value.clock))
+        (told (D.received (manually_drop_value p.before.value.device))
+        (D.sent (manually_drop_value p.before.value.device))
+        (D.faults (manually_drop_value p.before.value.device)) p.before.value.reading.sights
+        (C.given p.before.value.clock))
         (told (D.received (manually_drop_value d.device)) (D.sent (manually_drop_value d.device))
         (D.faults (manually_drop_value d.device)) d.reading.sights (C.given d.clock)) };
 }
@@ -80,10 +82,13 @@ pub(crate) fn listen<E: Ear, D: Datagrams, C: Clock, R: Wait>(
     requires { IsSeated E.publisher work.reading }
     ensures { HasListened result.end (D.is_closed (manually_drop_value result.device))
         E.may_fail (C.may_give work.clock) work.reading result.reading
-        (told (D.received (manually_drop_value work.device)) (D.sent (manually_drop_value work.device))
+        (told (D.received (manually_drop_value work.device))
+        (D.sent (manually_drop_value work.device))
         (D.faults (manually_drop_value work.device)) work.reading.sights (C.given work.clock))
-        (told (D.received (manually_drop_value result.device)) (D.sent (manually_drop_value result.device))
-        (D.faults (manually_drop_value result.device)) result.reading.sights (C.given result.clock)) }
+        (told (D.received (manually_drop_value result.device))
+        (D.sent (manually_drop_value result.device))
+        (D.faults (manually_drop_value result.device)) result.reading.sights
+        (C.given result.clock)) }
 {
     let Listening {
         mut reading,

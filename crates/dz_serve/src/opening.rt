@@ -22,8 +22,10 @@ pub(crate) fn open_devices<P: Ports>(
     ports: &mut P,
     listen: &Peer,
 ) -> Result<Devices<P::D, P::A, P::L>, Failed>
-    ensures datagrams { OnOk result (P.datagrams ports.new ≡ both_at listen.now (P.datagrams ports.old)) }
-    ensures acceptors { OnOk result (P.acceptors ports.new ≡ both_at listen.now (P.acceptors ports.old)) }
+    ensures datagrams { OnOk result
+        (P.datagrams ports.new ≡ both_at listen.now (P.datagrams ports.old)) }
+    ensures acceptors { OnOk result
+        (P.acceptors ports.new ≡ both_at listen.now (P.acceptors ports.old)) }
     ensures dialers { OnOk result (P.dialers ports.new ≡ both_made (P.dialers ports.old)) }
     ensures datagram_one { IfOk result (λ d. IsFreshExchange
         (exchange (P.D.received d.datagrams.first) (P.D.sent d.datagrams.first)
@@ -38,12 +40,17 @@ pub(crate) fn open_devices<P: Ports>(
         (accepts (P.A.links d.acceptors.second) (P.A.out d.acceptors.second)
         (P.A.is_closed d.acceptors.second) (P.A.faults d.acceptors.second))) }
     ensures dialer_one { IfOk result (λ d. IsFreshDials
-        (dials (P.L.links d.dialers.first) (P.L.out d.dialers.first) (P.L.faults d.dialers.first))) }
+        (dials (P.L.links d.dialers.first) (P.L.out d.dialers.first)
+        (P.L.faults d.dialers.first))) }
     ensures dialer_two { IfOk result (λ d. IsFreshDials
-        (dials (P.L.links d.dialers.second) (P.L.out d.dialers.second) (P.L.faults d.dialers.second))) }
-    ensures err_datagrams { OnErr result (IsUnused IsFreshExchange (P.datagrams ports.old) (P.datagrams ports.new)) }
-    ensures err_acceptors { OnErr result (IsUnused IsFreshAccepts (P.acceptors ports.old) (P.acceptors ports.new)) }
-    ensures err_dialers { OnErr result (IsUnused IsFreshDials (P.dialers ports.old) (P.dialers ports.new)) }
+        (dials (P.L.links d.dialers.second) (P.L.out d.dialers.second)
+        (P.L.faults d.dialers.second))) }
+    ensures err_datagrams { OnErr result
+        (IsUnused IsFreshExchange (P.datagrams ports.old) (P.datagrams ports.new)) }
+    ensures err_acceptors { OnErr result
+        (IsUnused IsFreshAccepts (P.acceptors ports.old) (P.acceptors ports.new)) }
+    ensures err_dialers { OnErr result
+        (IsUnused IsFreshDials (P.dialers ports.old) (P.dialers ports.new)) }
     ensures cause { HasCause (P.faults ports.old) (P.faults ports.new) result }
 {
     let datagrams = match open_datagrams(ports, listen) {
@@ -75,10 +82,13 @@ pub(crate) fn open_devices<P: Ports>(
 fn open_datagrams<P: Ports>(ports: &mut P, listen: &Peer) -> Result<Pair<P::D>, Failed>
     ensures ok { OnOk result (P.datagrams ports.new ≡ both_at listen.now (P.datagrams ports.old)) }
     ensures first { IfOk result (λ d. IsFreshExchange
-        (exchange (P.D.received d.first) (P.D.sent d.first) (P.D.is_closed d.first) (P.D.faults d.first))) }
+        (exchange (P.D.received d.first) (P.D.sent d.first) (P.D.is_closed d.first)
+        (P.D.faults d.first))) }
     ensures second { IfOk result (λ d. IsFreshExchange
-        (exchange (P.D.received d.second) (P.D.sent d.second) (P.D.is_closed d.second) (P.D.faults d.second))) }
-    ensures err { OnErr result (IsUnused IsFreshExchange (P.datagrams ports.old) (P.datagrams ports.new)) }
+        (exchange (P.D.received d.second) (P.D.sent d.second) (P.D.is_closed d.second)
+        (P.D.faults d.second))) }
+    ensures err { OnErr result
+        (IsUnused IsFreshExchange (P.datagrams ports.old) (P.datagrams ports.new)) }
     ensures acceptors { P.acceptors ports.new ≡ P.acceptors ports.old }
     ensures dialers { P.dialers ports.new ≡ P.dialers ports.old }
     ensures cause { HasCause (P.faults ports.old) (P.faults ports.new) result }
@@ -100,10 +110,13 @@ fn open_datagrams<P: Ports>(ports: &mut P, listen: &Peer) -> Result<Pair<P::D>, 
 fn open_acceptors<P: Ports>(ports: &mut P, listen: &Peer) -> Result<Pair<P::A>, Failed>
     ensures ok { OnOk result (P.acceptors ports.new ≡ both_at listen.now (P.acceptors ports.old)) }
     ensures first { IfOk result (λ a. IsFreshAccepts
-        (accepts (P.A.links a.first) (P.A.out a.first) (P.A.is_closed a.first) (P.A.faults a.first))) }
+        (accepts (P.A.links a.first) (P.A.out a.first) (P.A.is_closed a.first)
+        (P.A.faults a.first))) }
     ensures second { IfOk result (λ a. IsFreshAccepts
-        (accepts (P.A.links a.second) (P.A.out a.second) (P.A.is_closed a.second) (P.A.faults a.second))) }
-    ensures err { OnErr result (IsUnused IsFreshAccepts (P.acceptors ports.old) (P.acceptors ports.new)) }
+        (accepts (P.A.links a.second) (P.A.out a.second) (P.A.is_closed a.second)
+        (P.A.faults a.second))) }
+    ensures err { OnErr result
+        (IsUnused IsFreshAccepts (P.acceptors ports.old) (P.acceptors ports.new)) }
     ensures datagrams { P.datagrams ports.new ≡ P.datagrams ports.old }
     ensures dialers { P.dialers ports.new ≡ P.dialers ports.old }
     ensures cause { HasCause (P.faults ports.old) (P.faults ports.new) result }
@@ -124,8 +137,10 @@ fn open_acceptors<P: Ports>(ports: &mut P, listen: &Peer) -> Result<Pair<P::A>, 
 #[tactic(auto, using(crate::proofs::RowLemmas::unused_none, crate::proofs::RowLemmas::unused_one))]
 fn open_dialers<P: Ports>(ports: &mut P) -> Result<Pair<P::L>, Failed>
     ensures ok { OnOk result (P.dialers ports.new ≡ both_made (P.dialers ports.old)) }
-    ensures first { IfOk result (λ l. IsFreshDials (dials (P.L.links l.first) (P.L.out l.first) (P.L.faults l.first))) }
-    ensures second { IfOk result (λ l. IsFreshDials (dials (P.L.links l.second) (P.L.out l.second) (P.L.faults l.second))) }
+    ensures first { IfOk result
+        (λ l. IsFreshDials (dials (P.L.links l.first) (P.L.out l.first) (P.L.faults l.first))) }
+    ensures second { IfOk result
+        (λ l. IsFreshDials (dials (P.L.links l.second) (P.L.out l.second) (P.L.faults l.second))) }
     ensures err { OnErr result (IsUnused IsFreshDials (P.dialers ports.old) (P.dialers ports.new)) }
     ensures datagrams { P.datagrams ports.new ≡ P.datagrams ports.old }
     ensures acceptors { P.acceptors ports.new ≡ P.acceptors ports.old }

@@ -74,11 +74,14 @@ pub fn serve<
     requires six { length desk.readings.items ≡ 6 }
     ensures publisher { (result.desk.publisher.staged ≡ None)
         × (result.desk.publisher.book ≡ desk.publisher.book) }
-    ensures logged { IsLogged result.desk.publisher.list (K.held result.output) (is_write_fault result.end) }
-    ensures served { result.desk.publisher.list ≢ [] → IsListOf setting.config result.desk.publisher.list
+    ensures logged { IsLogged result.desk.publisher.list (K.held result.output)
+        (is_write_fault result.end) }
+    ensures served { result.desk.publisher.list ≢ []
+        → IsListOf setting.config result.desk.publisher.list
         × IsRun result.end ((k : K) × HasRisen 0 (K.faults k)) (C.may_give clock.now)
         result.desk.publisher.list
-        (opened_at setting.listen (rows (P.datagrams ports.old) (P.acceptors ports.old) (P.dialers ports.old)))
+        (opened_at setting.listen
+        (rows (P.datagrams ports.old) (P.acceptors ports.old) (P.dialers ports.old)))
         (rows (P.datagrams ports.new) (P.acceptors ports.new) (P.dialers ports.new)) }
     ensures unserved { result.desk.publisher.list ≡ [] → (result.output ≡ output)
         × AreUnused (rows (P.datagrams ports.old) (P.acceptors ports.old) (P.dialers ports.old))
@@ -88,7 +91,8 @@ pub fn serve<
         (result.desk.publisher.list ≢ []) × (C.may_stop clock.now ≡ true) }
     ensures write { MatchBool (is_write_fault result.end) (HasRisen 0 (K.faults result.output))
         (K.faults result.output ≡ 0) }
-    ensures port { result.end ≡ ServeEnd.PortFault → HasRisen (P.faults ports.old) (P.faults ports.new) }
+    ensures port { result.end ≡ ServeEnd.PortFault
+        → HasRisen (P.faults ports.old) (P.faults ports.new) }
     ensures later { P.faults ports.old ≤ P.faults ports.new }
 {
     let Setting { listen, config } = setting;
@@ -166,26 +170,37 @@ fn serve_over<
     requires out { (2 ≤ (P.datagrams ports.old).out) × (2 ≤ (P.acceptors ports.old).out)
         × (2 ≤ (P.dialers ports.old).out) }
     requires faultless { provisioner.faults ≡ 0 }
-    requires datagrams_one { IsFreshExchange (exchange (P.D.received rig.devices.datagrams.first) (P.D.sent rig.devices.datagrams.first)
+    requires datagrams_one { IsFreshExchange
+        (exchange (P.D.received rig.devices.datagrams.first) (P.D.sent rig.devices.datagrams.first)
         (P.D.is_closed rig.devices.datagrams.first) (P.D.faults rig.devices.datagrams.first)) }
-    requires datagrams_two { IsFreshExchange (exchange (P.D.received rig.devices.datagrams.second) (P.D.sent rig.devices.datagrams.second)
+    requires datagrams_two { IsFreshExchange
+        (exchange (P.D.received rig.devices.datagrams.second)
+        (P.D.sent rig.devices.datagrams.second)
         (P.D.is_closed rig.devices.datagrams.second) (P.D.faults rig.devices.datagrams.second)) }
-    requires acceptors_one { IsFreshAccepts (accepts (P.A.links rig.devices.acceptors.first) (P.A.out rig.devices.acceptors.first)
+    requires acceptors_one { IsFreshAccepts
+        (accepts (P.A.links rig.devices.acceptors.first) (P.A.out rig.devices.acceptors.first)
         (P.A.is_closed rig.devices.acceptors.first) (P.A.faults rig.devices.acceptors.first)) }
-    requires acceptors_two { IsFreshAccepts (accepts (P.A.links rig.devices.acceptors.second) (P.A.out rig.devices.acceptors.second)
+    requires acceptors_two { IsFreshAccepts
+        (accepts (P.A.links rig.devices.acceptors.second) (P.A.out rig.devices.acceptors.second)
         (P.A.is_closed rig.devices.acceptors.second) (P.A.faults rig.devices.acceptors.second)) }
-    requires dialers_one { IsFreshDials (dials (P.L.links rig.devices.dialers.first) (P.L.out rig.devices.dialers.first) (P.L.faults rig.devices.dialers.first)) }
-    requires dialers_two { IsFreshDials (dials (P.L.links rig.devices.dialers.second) (P.L.out rig.devices.dialers.second) (P.L.faults rig.devices.dialers.second)) }
+    requires dialers_one { IsFreshDials
+        (dials (P.L.links rig.devices.dialers.first) (P.L.out rig.devices.dialers.first)
+        (P.L.faults rig.devices.dialers.first)) }
+    requires dialers_two { IsFreshDials
+        (dials (P.L.links rig.devices.dialers.second) (P.L.out rig.devices.dialers.second)
+        (P.L.faults rig.devices.dialers.second)) }
     requires listening_one { C.may_give rig.tools.listening.first.clock ≡ C.may_give clock.now }
     requires listening_two { C.may_give rig.tools.listening.second.clock ≡ C.may_give clock.now }
     requires linking_one { C.may_give rig.tools.linking.first.clock ≡ C.may_give clock.now }
     requires linking_two { C.may_give rig.tools.linking.second.clock ≡ C.may_give clock.now }
     requires transferring_one { C.may_stop rig.tools.transferring.first ≡ C.may_stop clock.now }
     requires transferring_two { C.may_stop rig.tools.transferring.second ≡ C.may_stop clock.now }
-    ensures publisher { (result.desk.publisher.staged ≡ None) × (result.desk.publisher.book ≡ J.publisher) }
+    ensures publisher { (result.desk.publisher.staged ≡ None)
+        × (result.desk.publisher.book ≡ J.publisher) }
     ensures begins { IsPrefix provisioner.core.list result.desk.publisher.list }
     ensures legal { IsLegal result.desk.publisher.list }
-    ensures logged { IsLogged result.desk.publisher.list (K.held result.output) (is_write_fault result.end) }
+    ensures logged { IsLogged result.desk.publisher.list (K.held result.output)
+        (is_write_fault result.end) }
     ensures served { 0 < length provisioner.core.list →
         IsRun result.end ((k : K) × HasRisen 0 (K.faults k)) (C.may_give clock.now)
         result.desk.publisher.list
@@ -195,7 +210,8 @@ fn serve_over<
     ensures done { result.end ≡ ServeEnd.Done → C.may_stop clock.now ≡ true }
     ensures write { MatchBool (is_write_fault result.end) (HasRisen 0 (K.faults result.output))
         (K.faults result.output ≡ 0) }
-    ensures port { result.end ≡ ServeEnd.PortFault → HasRisen (P.faults ports.old) (P.faults ports.new) }
+    ensures port { result.end ≡ ServeEnd.PortFault
+        → HasRisen (P.faults ports.old) (P.faults ports.new) }
     ensures later { P.faults ports.old ≤ P.faults ports.new }
 {
     let Rig {
@@ -349,8 +365,10 @@ fn close_devices<P: Ports>(ports: &mut P, devices: Devices<P::D, P::A, P::L>)
         (P.A.is_closed devices.acceptors.second) (P.A.faults devices.acceptors.second))
         (P.acceptors ports.old) }
     ensures dialers { P.dialers ports.new ≡ both_back
-        (dials (P.L.links devices.dialers.first) (P.L.out devices.dialers.first) (P.L.faults devices.dialers.first))
-        (dials (P.L.links devices.dialers.second) (P.L.out devices.dialers.second) (P.L.faults devices.dialers.second))
+        (dials (P.L.links devices.dialers.first) (P.L.out devices.dialers.first)
+        (P.L.faults devices.dialers.first))
+        (dials (P.L.links devices.dialers.second) (P.L.out devices.dialers.second)
+        (P.L.faults devices.dialers.second))
         (P.dialers ports.old) }
     ensures later { P.faults ports.old ≤ P.faults ports.new }
 {

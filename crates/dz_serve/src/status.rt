@@ -40,14 +40,17 @@ pub(crate) fn judge(log_failed: bool, ends: &Ends) -> ServeEnd
     ensures session_two { result ≡ ServeEnd.Done → is_whole ends.now.sessions.second ≡ true }
     ensures links_one { result ≡ ServeEnd.Done → has_closed ends.now.links.first ≡ true }
     ensures links_two { result ≡ ServeEnd.Done → has_closed ends.now.links.second ≡ true }
-    ensures stopped_one { result ≡ ServeEnd.Done → ends.now.transfers.first.end ≡ TransferEnd.Stopped }
-    ensures stopped_two { result ≡ ServeEnd.Done → ends.now.transfers.second.end ≡ TransferEnd.Stopped }
+    ensures stopped_one { result ≡ ServeEnd.Done
+        → ends.now.transfers.first.end ≡ TransferEnd.Stopped }
+    ensures stopped_two { result ≡ ServeEnd.Done
+        → ends.now.transfers.second.end ≡ TransferEnd.Stopped }
     ensures dialed { result ≡ ServeEnd.Done →
         (ends.now.transfers.first.dialed ≡ true) ⊎ (ends.now.transfers.second.dialed ≡ true) }
     ensures input { (result ≢ ServeEnd.BadInput) × (result ≢ ServeEnd.ReadFault) }
     ensures port { result ≡ ServeEnd.PortFault →
         (is_whole ends.now.sessions.first ≡ false) ⊎ ((is_whole ends.now.sessions.second ≡ false)
-        ⊎ ((has_closed ends.now.links.first ≡ false) ⊎ (has_closed ends.now.links.second ≡ false))) }
+        ⊎ ((has_closed ends.now.links.first ≡ false)
+        ⊎ (has_closed ends.now.links.second ≡ false))) }
 {
     if log_failed {
         return ServeEnd::WriteFault;

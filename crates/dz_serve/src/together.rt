@@ -36,9 +36,12 @@ fn started<T, P: Promise<T>, F: FnOnce() -> T>(
     promise: &Snapshot<P>,
     spawned: Result<PromisedHandle<T, P>, SpawnError<F>>,
 ) -> Result<PromisedHandle<T, P>, T>
-    requires handle { MatchResult spawned (λ h. h.promise ≡ promise.now.value) (λ e. F.pre e.value) }
-    requires keeps { IfErr spawned (λ e. (r : T) → F.post e.value r → P.kept_by promise.now.value r) }
-    ensures { MatchResult result (λ h. h.promise ≡ promise.now.value) (λ r. P.kept_by promise.now.value r) }
+    requires handle { MatchResult spawned (λ h. h.promise ≡ promise.now.value)
+        (λ e. F.pre e.value) }
+    requires keeps { IfErr spawned
+        (λ e. (r : T) → F.post e.value r → P.kept_by promise.now.value r) }
+    ensures { MatchResult result (λ h. h.promise ≡ promise.now.value)
+        (λ r. P.kept_by promise.now.value r) }
 {
     match spawned {
         Ok(child) => Ok(child),
@@ -52,7 +55,8 @@ fn join<T, P: Promise<T>, R: Threads>(
     promise: Snapshot<P>,
     started: Result<PromisedHandle<T, P>, T>,
 ) -> T
-    requires { MatchResult started (λ h. h.promise ≡ promise.value) (λ r. P.kept_by promise.value r) }
+    requires { MatchResult started (λ h. h.promise ≡ promise.value)
+        (λ r. P.kept_by promise.value r) }
     ensures { P.kept_by promise.value result }
 {
     match started {
@@ -93,12 +97,18 @@ pub(crate) fn run_together<
     requires four { F4.pre crew.links.second.run }
     requires five { F5.pre crew.transfers.first.run }
     requires six { F6.pre crew.transfers.second.run }
-    requires keeps_one { (r : T) → F1.post crew.datagrams.first.run r → P.kept_by crew.datagrams.first.promise r }
-    requires keeps_two { (r : T) → F2.post crew.datagrams.second.run r → P.kept_by crew.datagrams.second.promise r }
-    requires keeps_three { (r : U) → F3.post crew.links.first.run r → Q.kept_by crew.links.first.promise r }
-    requires keeps_four { (r : U) → F4.post crew.links.second.run r → Q.kept_by crew.links.second.promise r }
-    requires keeps_five { (r : V) → F5.post crew.transfers.first.run r → S.kept_by crew.transfers.first.promise r }
-    requires keeps_six { (r : V) → F6.post crew.transfers.second.run r → S.kept_by crew.transfers.second.promise r }
+    requires keeps_one { (r : T) → F1.post crew.datagrams.first.run r
+        → P.kept_by crew.datagrams.first.promise r }
+    requires keeps_two { (r : T) → F2.post crew.datagrams.second.run r
+        → P.kept_by crew.datagrams.second.promise r }
+    requires keeps_three { (r : U) → F3.post crew.links.first.run r
+        → Q.kept_by crew.links.first.promise r }
+    requires keeps_four { (r : U) → F4.post crew.links.second.run r
+        → Q.kept_by crew.links.second.promise r }
+    requires keeps_five { (r : V) → F5.post crew.transfers.first.run r
+        → S.kept_by crew.transfers.first.promise r }
+    requires keeps_six { (r : V) → F6.post crew.transfers.second.run r
+        → S.kept_by crew.transfers.second.promise r }
     ensures one { P.kept_by crew.datagrams.first.promise result.datagrams.first }
     ensures two { P.kept_by crew.datagrams.second.promise result.datagrams.second }
     ensures three { Q.kept_by crew.links.first.promise result.links.first }

@@ -28,12 +28,18 @@ pub(crate) struct Tool<C> {
 ///
 /// `AllocError` where memory is wanting.
 pub(crate) fn make_tools<C: Clock + Drop>(alloc: Global, clock: &C) -> Result<Tools<C>, AllocError>
-    ensures listening_one { IfOk result (λ t. C.may_give t.listening.first.clock ≡ C.may_give clock.now) }
-    ensures listening_two { IfOk result (λ t. C.may_give t.listening.second.clock ≡ C.may_give clock.now) }
-    ensures linking_one { IfOk result (λ t. C.may_give t.linking.first.clock ≡ C.may_give clock.now) }
-    ensures linking_two { IfOk result (λ t. C.may_give t.linking.second.clock ≡ C.may_give clock.now) }
-    ensures transferring_one { IfOk result (λ t. C.may_stop t.transferring.first ≡ C.may_stop clock.now) }
-    ensures transferring_two { IfOk result (λ t. C.may_stop t.transferring.second ≡ C.may_stop clock.now) }
+    ensures listening_one { IfOk result
+        (λ t. C.may_give t.listening.first.clock ≡ C.may_give clock.now) }
+    ensures listening_two { IfOk result
+        (λ t. C.may_give t.listening.second.clock ≡ C.may_give clock.now) }
+    ensures linking_one { IfOk result
+        (λ t. C.may_give t.linking.first.clock ≡ C.may_give clock.now) }
+    ensures linking_two { IfOk result
+        (λ t. C.may_give t.linking.second.clock ≡ C.may_give clock.now) }
+    ensures transferring_one { IfOk result
+        (λ t. C.may_stop t.transferring.first ≡ C.may_stop clock.now) }
+    ensures transferring_two { IfOk result
+        (λ t. C.may_stop t.transferring.second ≡ C.may_stop clock.now) }
 {
     let listening = Pair {
         first: make_tool(alloc, clock)?,

@@ -55,8 +55,10 @@ impl<D: Dialer, C: Clock> Promise<Transferred<D>> for Dialling<Transferring<D, C
     ghost use Rattle.dz_io.specs.Ports.{dials};
     ghost use Rattle.dz_serve.specs.Workers.{HasTransferred};
 
-    ghost kept_by = { λ p d. HasTransferred d.transfers (C.may_stop p.0.value.clock) p.0.value.reading d.reading
-        (dials (D.links (manually_drop_value p.0.value.dialer)) (D.out (manually_drop_value p.0.value.dialer))
+    ghost kept_by = { λ p d. HasTransferred d.transfers
+        (C.may_stop p.0.value.clock) p.0.value.reading d.reading
+        (dials (D.links (manually_drop_value p.0.value.dialer))
+        (D.out (manually_drop_value p.0.value.dialer))
         (D.faults (manually_drop_value p.0.value.dialer)))
         (dials (D.links (manually_drop_value d.dialer)) (D.out (manually_drop_value d.dialer))
         (D.faults (manually_drop_value d.dialer))) };
@@ -74,7 +76,8 @@ pub(crate) fn transfer<B: Jobs, D: Dialer, C: Clock + Drop, R: Wait>(
     ensures { HasTransferred result.transfers (C.may_stop work.clock) work.reading result.reading
         (dials (D.links (manually_drop_value work.dialer)) (D.out (manually_drop_value work.dialer))
         (D.faults (manually_drop_value work.dialer)))
-        (dials (D.links (manually_drop_value result.dialer)) (D.out (manually_drop_value result.dialer))
+        (dials (D.links (manually_drop_value result.dialer))
+        (D.out (manually_drop_value result.dialer))
         (D.faults (manually_drop_value result.dialer))) }
 {
     let Transferring {

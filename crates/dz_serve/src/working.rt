@@ -90,41 +90,65 @@ where
     requires acceptor_two { A.out gear.devices.acceptors.second ≡ None }
     requires dialer_one { L.out gear.devices.dialers.first ≡ None }
     requires dialer_two { L.out gear.devices.dialers.second ≡ None }
-    ensures listening_one { HasListened result.datagrams.first.end (D.is_closed (manually_drop_value result.datagrams.first.device))
-        B.may_fail (C.may_give gear.tools.listening.first.clock) gear.seats.listening.first result.datagrams.first.reading
-        (told (D.received gear.devices.datagrams.first) (D.sent gear.devices.datagrams.first) (D.faults gear.devices.datagrams.first)
+    ensures listening_one { HasListened result.datagrams.first.end
+        (D.is_closed (manually_drop_value result.datagrams.first.device))
+        B.may_fail (C.may_give gear.tools.listening.first.clock) gear.seats.listening.first
+        result.datagrams.first.reading
+        (told (D.received gear.devices.datagrams.first) (D.sent gear.devices.datagrams.first)
+        (D.faults gear.devices.datagrams.first)
         gear.seats.listening.first.sights (C.given gear.tools.listening.first.clock))
-        (told (D.received (manually_drop_value result.datagrams.first.device)) (D.sent (manually_drop_value result.datagrams.first.device))
-        (D.faults (manually_drop_value result.datagrams.first.device)) result.datagrams.first.reading.sights
+        (told (D.received (manually_drop_value result.datagrams.first.device))
+        (D.sent (manually_drop_value result.datagrams.first.device))
+        (D.faults (manually_drop_value result.datagrams.first.device))
+        result.datagrams.first.reading.sights
         (C.given result.datagrams.first.clock)) }
-    ensures listening_two { HasListened result.datagrams.second.end (D.is_closed (manually_drop_value result.datagrams.second.device))
-        B.may_fail (C.may_give gear.tools.listening.second.clock) gear.seats.listening.second result.datagrams.second.reading
-        (told (D.received gear.devices.datagrams.second) (D.sent gear.devices.datagrams.second) (D.faults gear.devices.datagrams.second)
+    ensures listening_two { HasListened result.datagrams.second.end
+        (D.is_closed (manually_drop_value result.datagrams.second.device))
+        B.may_fail (C.may_give gear.tools.listening.second.clock) gear.seats.listening.second
+        result.datagrams.second.reading
+        (told (D.received gear.devices.datagrams.second) (D.sent gear.devices.datagrams.second)
+        (D.faults gear.devices.datagrams.second)
         gear.seats.listening.second.sights (C.given gear.tools.listening.second.clock))
-        (told (D.received (manually_drop_value result.datagrams.second.device)) (D.sent (manually_drop_value result.datagrams.second.device))
-        (D.faults (manually_drop_value result.datagrams.second.device)) result.datagrams.second.reading.sights
+        (told (D.received (manually_drop_value result.datagrams.second.device))
+        (D.sent (manually_drop_value result.datagrams.second.device))
+        (D.faults (manually_drop_value result.datagrams.second.device))
+        result.datagrams.second.reading.sights
         (C.given result.datagrams.second.clock)) }
     ensures linking_one { HasLinked result.links.first.end
-        B.may_fail (C.may_give gear.tools.linking.first.clock) gear.seats.linking.first result.links.first.reading
-        (accepts (A.links gear.devices.acceptors.first) (A.out gear.devices.acceptors.first) (A.is_closed gear.devices.acceptors.first) (A.faults gear.devices.acceptors.first))
-        (accepts (A.links (manually_drop_value result.links.first.acceptor)) (A.out (manually_drop_value result.links.first.acceptor))
-        (A.is_closed (manually_drop_value result.links.first.acceptor)) (A.faults (manually_drop_value result.links.first.acceptor)))
+        B.may_fail (C.may_give gear.tools.linking.first.clock) gear.seats.linking.first
+        result.links.first.reading
+        (accepts (A.links gear.devices.acceptors.first) (A.out gear.devices.acceptors.first)
+        (A.is_closed gear.devices.acceptors.first) (A.faults gear.devices.acceptors.first))
+        (accepts (A.links (manually_drop_value result.links.first.acceptor))
+        (A.out (manually_drop_value result.links.first.acceptor))
+        (A.is_closed (manually_drop_value result.links.first.acceptor))
+        (A.faults (manually_drop_value result.links.first.acceptor)))
         (C.given gear.tools.linking.first.clock) (C.given result.links.first.clock) }
     ensures linking_two { HasLinked result.links.second.end
-        B.may_fail (C.may_give gear.tools.linking.second.clock) gear.seats.linking.second result.links.second.reading
-        (accepts (A.links gear.devices.acceptors.second) (A.out gear.devices.acceptors.second) (A.is_closed gear.devices.acceptors.second) (A.faults gear.devices.acceptors.second))
-        (accepts (A.links (manually_drop_value result.links.second.acceptor)) (A.out (manually_drop_value result.links.second.acceptor))
-        (A.is_closed (manually_drop_value result.links.second.acceptor)) (A.faults (manually_drop_value result.links.second.acceptor)))
+        B.may_fail (C.may_give gear.tools.linking.second.clock) gear.seats.linking.second
+        result.links.second.reading
+        (accepts (A.links gear.devices.acceptors.second) (A.out gear.devices.acceptors.second)
+        (A.is_closed gear.devices.acceptors.second) (A.faults gear.devices.acceptors.second))
+        (accepts (A.links (manually_drop_value result.links.second.acceptor))
+        (A.out (manually_drop_value result.links.second.acceptor))
+        (A.is_closed (manually_drop_value result.links.second.acceptor))
+        (A.faults (manually_drop_value result.links.second.acceptor)))
         (C.given gear.tools.linking.second.clock) (C.given result.links.second.clock) }
     ensures transferring_one { HasTransferred result.transfers.first.transfers
-        (C.may_stop gear.tools.transferring.first) gear.seats.transferring.first result.transfers.first.reading
-        (dials (L.links gear.devices.dialers.first) (L.out gear.devices.dialers.first) (L.faults gear.devices.dialers.first))
-        (dials (L.links (manually_drop_value result.transfers.first.dialer)) (L.out (manually_drop_value result.transfers.first.dialer))
+        (C.may_stop gear.tools.transferring.first) gear.seats.transferring.first
+        result.transfers.first.reading
+        (dials (L.links gear.devices.dialers.first) (L.out gear.devices.dialers.first)
+        (L.faults gear.devices.dialers.first))
+        (dials (L.links (manually_drop_value result.transfers.first.dialer))
+        (L.out (manually_drop_value result.transfers.first.dialer))
         (L.faults (manually_drop_value result.transfers.first.dialer))) }
     ensures transferring_two { HasTransferred result.transfers.second.transfers
-        (C.may_stop gear.tools.transferring.second) gear.seats.transferring.second result.transfers.second.reading
-        (dials (L.links gear.devices.dialers.second) (L.out gear.devices.dialers.second) (L.faults gear.devices.dialers.second))
-        (dials (L.links (manually_drop_value result.transfers.second.dialer)) (L.out (manually_drop_value result.transfers.second.dialer))
+        (C.may_stop gear.tools.transferring.second) gear.seats.transferring.second
+        result.transfers.second.reading
+        (dials (L.links gear.devices.dialers.second) (L.out gear.devices.dialers.second)
+        (L.faults gear.devices.dialers.second))
+        (dials (L.links (manually_drop_value result.transfers.second.dialer))
+        (L.out (manually_drop_value result.transfers.second.dialer))
         (L.faults (manually_drop_value result.transfers.second.dialer))) }
 {
     let Gear {
@@ -160,12 +184,17 @@ where
                     },
                     run: move || -> Listened<D, C>
                         requires { IsSeated B.publisher one.reading }
-                        ensures { HasListened result.end (D.is_closed (manually_drop_value result.device))
+                        ensures { HasListened result.end
+                            (D.is_closed (manually_drop_value result.device))
                             B.may_fail (C.may_give one.clock) one.reading result.reading
-                            (told (D.received (manually_drop_value one.device)) (D.sent (manually_drop_value one.device))
-                            (D.faults (manually_drop_value one.device)) one.reading.sights (C.given one.clock))
-                            (told (D.received (manually_drop_value result.device)) (D.sent (manually_drop_value result.device))
-                            (D.faults (manually_drop_value result.device)) result.reading.sights (C.given result.clock)) }
+                            (told (D.received (manually_drop_value one.device))
+                            (D.sent (manually_drop_value one.device))
+                            (D.faults (manually_drop_value one.device)) one.reading.sights
+                            (C.given one.clock))
+                            (told (D.received (manually_drop_value result.device))
+                            (D.sent (manually_drop_value result.device))
+                            (D.faults (manually_drop_value result.device)) result.reading.sights
+                            (C.given result.clock)) }
                     { listen(rt, jobs, one) },
                 },
                 second: Task {
@@ -175,12 +204,17 @@ where
                     },
                     run: move || -> Listened<D, C>
                         requires { IsSeated B.publisher two.reading }
-                        ensures { HasListened result.end (D.is_closed (manually_drop_value result.device))
+                        ensures { HasListened result.end
+                            (D.is_closed (manually_drop_value result.device))
                             B.may_fail (C.may_give two.clock) two.reading result.reading
-                            (told (D.received (manually_drop_value two.device)) (D.sent (manually_drop_value two.device))
-                            (D.faults (manually_drop_value two.device)) two.reading.sights (C.given two.clock))
-                            (told (D.received (manually_drop_value result.device)) (D.sent (manually_drop_value result.device))
-                            (D.faults (manually_drop_value result.device)) result.reading.sights (C.given result.clock)) }
+                            (told (D.received (manually_drop_value two.device))
+                            (D.sent (manually_drop_value two.device))
+                            (D.faults (manually_drop_value two.device)) two.reading.sights
+                            (C.given two.clock))
+                            (told (D.received (manually_drop_value result.device))
+                            (D.sent (manually_drop_value result.device))
+                            (D.faults (manually_drop_value result.device)) result.reading.sights
+                            (C.given result.clock)) }
                     { listen(rt, jobs, two) },
                 },
             },
@@ -193,11 +227,16 @@ where
                     run: move || -> Linked<A, C>
                         requires seated { IsSeated B.publisher three.reading }
                         requires none { A.out (manually_drop_value three.acceptor) ≡ None }
-                        ensures { HasLinked result.end B.may_fail (C.may_give three.clock) three.reading result.reading
-                            (accepts (A.links (manually_drop_value three.acceptor)) (A.out (manually_drop_value three.acceptor))
-                            (A.is_closed (manually_drop_value three.acceptor)) (A.faults (manually_drop_value three.acceptor)))
-                            (accepts (A.links (manually_drop_value result.acceptor)) (A.out (manually_drop_value result.acceptor))
-                            (A.is_closed (manually_drop_value result.acceptor)) (A.faults (manually_drop_value result.acceptor)))
+                        ensures { HasLinked result.end B.may_fail
+                            (C.may_give three.clock) three.reading result.reading
+                            (accepts (A.links (manually_drop_value three.acceptor))
+                            (A.out (manually_drop_value three.acceptor))
+                            (A.is_closed (manually_drop_value three.acceptor))
+                            (A.faults (manually_drop_value three.acceptor)))
+                            (accepts (A.links (manually_drop_value result.acceptor))
+                            (A.out (manually_drop_value result.acceptor))
+                            (A.is_closed (manually_drop_value result.acceptor))
+                            (A.faults (manually_drop_value result.acceptor)))
                             (C.given three.clock) (C.given result.clock) }
                     { link(rt, jobs, three) },
                 },
@@ -209,11 +248,16 @@ where
                     run: move || -> Linked<A, C>
                         requires seated { IsSeated B.publisher four.reading }
                         requires none { A.out (manually_drop_value four.acceptor) ≡ None }
-                        ensures { HasLinked result.end B.may_fail (C.may_give four.clock) four.reading result.reading
-                            (accepts (A.links (manually_drop_value four.acceptor)) (A.out (manually_drop_value four.acceptor))
-                            (A.is_closed (manually_drop_value four.acceptor)) (A.faults (manually_drop_value four.acceptor)))
-                            (accepts (A.links (manually_drop_value result.acceptor)) (A.out (manually_drop_value result.acceptor))
-                            (A.is_closed (manually_drop_value result.acceptor)) (A.faults (manually_drop_value result.acceptor)))
+                        ensures { HasLinked result.end B.may_fail
+                            (C.may_give four.clock) four.reading result.reading
+                            (accepts (A.links (manually_drop_value four.acceptor))
+                            (A.out (manually_drop_value four.acceptor))
+                            (A.is_closed (manually_drop_value four.acceptor))
+                            (A.faults (manually_drop_value four.acceptor)))
+                            (accepts (A.links (manually_drop_value result.acceptor))
+                            (A.out (manually_drop_value result.acceptor))
+                            (A.is_closed (manually_drop_value result.acceptor))
+                            (A.faults (manually_drop_value result.acceptor)))
                             (C.given four.clock) (C.given result.clock) }
                     { link(rt, jobs, four) },
                 },
@@ -224,10 +268,13 @@ where
                     run: move || -> Transferred<L>
                         requires seated { IsSeated B.publisher five.reading }
                         requires none { L.out (manually_drop_value five.dialer) ≡ None }
-                        ensures { HasTransferred result.transfers (C.may_stop five.clock) five.reading result.reading
-                            (dials (L.links (manually_drop_value five.dialer)) (L.out (manually_drop_value five.dialer))
+                        ensures { HasTransferred result.transfers
+                            (C.may_stop five.clock) five.reading result.reading
+                            (dials (L.links (manually_drop_value five.dialer))
+                            (L.out (manually_drop_value five.dialer))
                             (L.faults (manually_drop_value five.dialer)))
-                            (dials (L.links (manually_drop_value result.dialer)) (L.out (manually_drop_value result.dialer))
+                            (dials (L.links (manually_drop_value result.dialer))
+                            (L.out (manually_drop_value result.dialer))
                             (L.faults (manually_drop_value result.dialer))) }
                     { transfer(rt, alloc, jobs, five) },
                 },
@@ -236,10 +283,13 @@ where
                     run: move || -> Transferred<L>
                         requires seated { IsSeated B.publisher six.reading }
                         requires none { L.out (manually_drop_value six.dialer) ≡ None }
-                        ensures { HasTransferred result.transfers (C.may_stop six.clock) six.reading result.reading
-                            (dials (L.links (manually_drop_value six.dialer)) (L.out (manually_drop_value six.dialer))
+                        ensures { HasTransferred result.transfers
+                            (C.may_stop six.clock) six.reading result.reading
+                            (dials (L.links (manually_drop_value six.dialer))
+                            (L.out (manually_drop_value six.dialer))
                             (L.faults (manually_drop_value six.dialer)))
-                            (dials (L.links (manually_drop_value result.dialer)) (L.out (manually_drop_value result.dialer))
+                            (dials (L.links (manually_drop_value result.dialer))
+                            (L.out (manually_drop_value result.dialer))
                             (L.faults (manually_drop_value result.dialer))) }
                     { transfer(rt, alloc, jobs, six) },
                 },
@@ -314,13 +364,16 @@ pub(crate) fn end_crew<K: Sink, J: Naming, D, A, L, C, R: Wait>(
     ensures publisher { (result.publisher.staged ≡ None) × (result.publisher.book ≡ J.publisher) }
     ensures legal { IsLegal result.publisher.list }
     ensures logged { IsLogged result.publisher.list (K.held result.output) result.log_failed }
-    ensures cause { MatchBool result.log_failed (HasRisen 0 (K.faults result.output)) (K.faults result.output ≡ 0) }
+    ensures cause { MatchBool result.log_failed (HasRisen 0 (K.faults result.output))
+        (K.faults result.output ≡ 0) }
     ensures listening_one { IsPrefix crew.now.datagrams.first.reading.list result.publisher.list }
     ensures listening_two { IsPrefix crew.now.datagrams.second.reading.list result.publisher.list }
     ensures linking_one { IsPrefix crew.now.links.first.reading.list result.publisher.list }
     ensures linking_two { IsPrefix crew.now.links.second.reading.list result.publisher.list }
-    ensures transferring_one { IsPrefix crew.now.transfers.first.reading.list result.publisher.list }
-    ensures transferring_two { IsPrefix crew.now.transfers.second.reading.list result.publisher.list }
+    ensures transferring_one { IsPrefix crew.now.transfers.first.reading.list
+        result.publisher.list }
+    ensures transferring_two { IsPrefix crew.now.transfers.second.reading.list
+        result.publisher.list }
 {
     let parts = shared.close().close();
     parts.publisher.count();

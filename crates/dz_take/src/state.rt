@@ -169,8 +169,10 @@ fn feed_differences(
     mut differences: Differences,
     records: Vec<Rr>,
 ) -> Result<State, AllocError>
-    requires is_open { IsOpen (IsIncremental differences.held) (incremental_form.Blames differences.held.apex) differences.fed }
-    requires kind { IsIncrementalKind transfer.now differences.held (differences.fed ++ records.items) }
+    requires is_open { IsOpen (IsIncremental differences.held)
+        (incremental_form.Blames differences.held.apex) differences.fed }
+    requires kind { IsIncrementalKind transfer.now differences.held
+        (differences.fed ++ records.items) }
     ensures { IfOk result (Reads transfer.now (differences.fed ++ records.items)) }
 {
     match differences.feed(records) {
@@ -186,7 +188,8 @@ fn feed_differences(
 
 /// The version that the records of a whole form make, or their first fault.
 fn settle(alloc: Global, apex: &Name, records: Vec<Rr>) -> Result<Outcome, AllocError>
-    ensures { IfOk result (λ o. meaning_of o ≡ checked apex.now records.items (fault_of apex.now (distinct records.items))) }
+    ensures { IfOk result (λ o. meaning_of o
+        ≡ checked apex.now records.items (fault_of apex.now (distinct records.items))) }
 {
     match check(alloc, apex, records) {
         Ok(version) => Ok(Outcome::New(Arc::new(alloc, version)?)),

@@ -71,9 +71,12 @@ impl Taking {
     pub fn feed(&mut self, message: &[u8]) -> Result<Progress, AllocError>
         requires undecided { decided self.old.transfer (messages_in self.old.octets) ≡ None }
         requires short { length message.now ≤ MESSAGE_OCTETS }
-        ensures octets { OnOk result (self.new ≡ record self.old { octets = self.old.octets ++ frame message.now }) }
-        ensures messages { OnOk result (messages_in self.new.octets ≡ messages_in self.old.octets ++ message.now ∷ []) }
-        ensures progress { IfOk result (λ p. Shows p (decided self.old.transfer (messages_in self.new.octets))) }
+        ensures octets { OnOk result
+            (self.new ≡ record self.old { octets = self.old.octets ++ frame message.now }) }
+        ensures messages { OnOk result
+            (messages_in self.new.octets ≡ messages_in self.old.octets ++ message.now ∷ []) }
+        ensures progress { IfOk result
+            (λ p. Shows p (decided self.old.transfer (messages_in self.new.octets))) }
         ensures emptied { OnErr result (self.new ≡ record self.old { octets = [] }) }
     {
         let used = self.octets.len();

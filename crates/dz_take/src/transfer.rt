@@ -28,16 +28,27 @@ impl Model for Transfer {
 
     ghost Value = { Transfer };
 
-    ghost view = { λ t. record { apex = t.apex; ask = t.ask; id = t.id; held = option_map arc_value t.held } };
+    ghost view = { λ t. record {
+      apex = t.apex;
+      ask = t.ask;
+      id = t.id;
+      held = option_map arc_value t.held;
+    } };
 
-    ghost invariant = { λ t. IsTransfer record { apex = t.apex; ask = t.ask; id = t.id; held = option_map arc_value t.held } };
+    ghost invariant = { λ t. IsTransfer
+        record { apex = t.apex; ask = t.ask; id = t.id; held = option_map arc_value t.held } };
 }
 
 impl Transfer {
     pub fn new(apex: Name, ask: Ask, id: u16, held: Option<Arc<Version>>) -> Transfer
         requires held { IsOfZone apex (option_map arc_value held) }
         requires asks { CanAsk ask (option_map arc_value held) }
-        ensures { result ≡ record { apex = apex; ask = ask; id = id; held = option_map arc_value held } }
+        ensures { result ≡ record {
+          apex = apex;
+          ask = ask;
+          id = id;
+          held = option_map arc_value held;
+        } }
     {
         Transfer {
             apex,

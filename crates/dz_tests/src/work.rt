@@ -80,7 +80,8 @@ fn publish<R: Abort + Wait, J: Naming>(
     publisher: Publisher,
     reading: Reading,
 ) -> Result<MemorySink, AllocError>
-    requires publisher { (publisher.list ≡ []) × (publisher.staged ≡ None) × (publisher.book ≡ J.publisher) }
+    requires publisher { (publisher.list ≡ []) × (publisher.staged ≡ None)
+        × (publisher.book ≡ J.publisher) }
     requires reading { IsFresh J.publisher reading }
 {
     let mut reading = reading;
@@ -116,7 +117,8 @@ fn fail<R: Abort + Wait, J: Naming>(
     publisher: Publisher,
     reading: Reading,
 ) -> Result<MemorySink, AllocError>
-    requires publisher { (publisher.list ≡ []) × (publisher.staged ≡ None) × (publisher.book ≡ J.publisher) }
+    requires publisher { (publisher.list ≡ []) × (publisher.staged ≡ None)
+        × (publisher.book ≡ J.publisher) }
     requires reading { IsFresh J.publisher reading }
 {
     let mut reading = reading;
@@ -154,7 +156,8 @@ fn serve<R: Abort + Wait, J: Naming>(
     publisher: Publisher,
     reading: Reading,
 ) -> Result<Transfers, AllocError>
-    requires publisher { (publisher.list ≡ []) × (publisher.staged ≡ None) × (publisher.book ≡ J.publisher) }
+    requires publisher { (publisher.list ≡ []) × (publisher.staged ≡ None)
+        × (publisher.book ≡ J.publisher) }
     requires reading { IsFresh J.publisher reading }
 {
     let mut reading = reading;

@@ -30,7 +30,8 @@ impl Model for Timer {
 
     ghost invariant = { λ t. t.next < 2 ^ 41 };
 
-    ghost inverse = { λ timing. record { next = timing.next; again = timing.again; busy = timing.busy } };
+    ghost inverse = { λ timing.
+        record { next = timing.next; again = timing.again; busy = timing.busy } };
 }
 
 impl Timer {

@@ -41,12 +41,14 @@ pub fn work_one<B: Jobs, D: Dialer, C: Clock, R: Wait>(
     ensures same { reading.new ≡ record reading.old { list = reading.new.list } }
     ensures seen { IsPrefix reading.old.list reading.new.list }
     ensures back { D.out dialer.new ≡ None }
-    ensures worked { (dialed : Bool) × IsWork dialed result (length reading.old.list) reading.new.list
+    ensures worked { (dialed : Bool)
+        × IsWork dialed result (length reading.old.list) reading.new.list
         (D.links dialer.old) (D.links dialer.new) (D.faults dialer.old) (D.faults dialer.new) }
     ensures left { LeavesDialer result
         (D.links dialer.old) (D.links dialer.new) (D.faults dialer.old) (D.faults dialer.new) }
     ensures later { D.faults dialer.old ≤ D.faults dialer.new }
-    ensures link { result ≡ Report.LinkFault → HasRisen (D.faults dialer.old) (D.faults dialer.new) }
+    ensures link { result ≡ Report.LinkFault
+        → HasRisen (D.faults dialer.old) (D.faults dialer.new) }
     ensures log { result ≡ Report.LogFault → B.may_fail }
     ensures moment { IsAtMoment result (C.may_give clock.old) }
     ensures give { C.may_give clock.new ≡ C.may_give clock.old }
@@ -76,7 +78,8 @@ pub(crate) fn work<B: Jobs, D: Dialer, C: Clock, R: Wait>(
     ensures left { LeavesDialer result.report
         (D.links dialer.old) (D.links dialer.new) (D.faults dialer.old) (D.faults dialer.new) }
     ensures later { D.faults dialer.old ≤ D.faults dialer.new }
-    ensures link { result.report ≡ Report.LinkFault → HasRisen (D.faults dialer.old) (D.faults dialer.new) }
+    ensures link { result.report ≡ Report.LinkFault
+        → HasRisen (D.faults dialer.old) (D.faults dialer.new) }
     ensures log { result.report ≡ Report.LogFault → B.may_fail }
     ensures moment { IsAtMoment result.report (C.may_give clock.old) }
     ensures give { C.may_give clock.new ≡ C.may_give clock.old }
@@ -117,7 +120,8 @@ fn transfer<B: Jobs, D: Dialer, C: Clock, R: Wait>(
         (D.links dialer.old) (D.links dialer.new) (D.faults dialer.old) (D.faults dialer.new) }
     ensures busy { is_busy result ≡ true }
     ensures later { D.faults dialer.old ≤ D.faults dialer.new }
-    ensures link { result ≡ Report.LinkFault → HasRisen (D.faults dialer.old) (D.faults dialer.new) }
+    ensures link { result ≡ Report.LinkFault
+        → HasRisen (D.faults dialer.old) (D.faults dialer.new) }
     ensures log { result ≡ Report.LogFault → B.may_fail }
     ensures give { C.may_give clock.new ≡ C.may_give clock.old }
     ensures stop { C.may_stop clock.new ≡ C.may_stop clock.old }

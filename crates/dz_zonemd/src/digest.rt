@@ -45,7 +45,9 @@ fn join<D: Digest>(
 ) -> usize
     requires { count ≤ BATCH_OCTETS }
     ensures within { result ≤ BATCH_OCTETS }
-    ensures holds { (m : List ℕ) → D.holds hasher.old m → (n : List ℕ) × D.holds hasher.new n × (n ++ take result batch.new ≡ m ++ take count batch.old ++ octets.now) }
+    ensures holds { (m : List ℕ) → D.holds hasher.old m
+        → (n : List ℕ) × D.holds hasher.new n
+        × (n ++ take result batch.new ≡ m ++ take count batch.old ++ octets.now) }
 {
     if octets.len() <= BATCH_OCTETS - count {
         batch[count..count + octets.len()].copy_from_slice(octets);
@@ -77,7 +79,9 @@ fn join_record<D: Digest>(
     requires count { count ≤ BATCH_OCTETS }
     requires place { place < length records.now }
     ensures within { result ≤ BATCH_OCTETS }
-    ensures holds { (r : Record) → slice_get records.now place ≡ Some r → (m : List ℕ) → D.holds hasher.old m → (n : List ℕ) × D.holds hasher.new n × (n ++ take result batch.new ≡ m ++ take count batch.old ++ record_octets r) }
+    ensures holds { (r : Record) → slice_get records.now place ≡ Some r → (m : List ℕ)
+        → D.holds hasher.old m → (n : List ℕ) × D.holds hasher.new n
+        × (n ++ take result batch.new ≡ m ++ take count batch.old ++ record_octets r) }
 {
     join(hasher, batch, count, record_at(records, place).octets())
 }
