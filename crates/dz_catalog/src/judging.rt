@@ -1,6 +1,7 @@
 //! Why a catalog's records make no listing. In a version they are in canonical order, so each reason takes one pass.
 
-ghost use Rattle.std.specs.Prelude.{◌≡◌, ◌≤◌, ◌+◌, ◌==◌, length, filter, count_by, not, Some, MatchOption};
+ghost use Rattle.std.specs.Prelude.{◌≡◌, ◌≤◌, ◌+◌, ◌==◌, length, filter, count_by, not, false, Some, MatchOption};
+ghost use Rattle.std.specs.Bool.{OnFalse};
 ghost use Rattle.std.specs.List.{list_any};
 ghost use Rattle.std.specs.List.Sorted.{IsStrictlySortedBy};
 ghost use Rattle.dz_name.specs.Name.{wire_of, same_label};
@@ -34,6 +35,8 @@ pub(crate) fn broken_records(version: &Version) -> Option<Broken>
         Some(Broken::VersionTwice)
     } else if other_version(version) {
         Some(Broken::OtherVersion)
+    } else if !pointers_twice(&apex, records) {
+        None
     } else if member_twice(&apex, records) {
         Some(Broken::MemberTwice)
     } else if coo_twice(&apex, records) {
@@ -125,6 +128,16 @@ fn coos_twin(apex: &Name, a: &Rr, b: &Rr) -> bool
     ensures { result ≡ twins (is_coo apex.now) a.now b.now }
 {
     both_point(a, b) && is_coo(apex, &a.owner_ref())
+}
+
+/// Whether some owner has two PTR records, which is told in one pass: mostly none has. Where the records ascend, these are
+/// neighbours.
+fn pointers_twice(apex: &Name, records: &[Rr]) -> bool
+    requires { IsStrictlySortedBy record_order records.now }
+    ensures member { OnFalse result (member_twice apex.now records.now ≡ false) }
+    ensures coo { OnFalse result (coo_twice apex.now records.now ≡ false) }
+{
+    !records.is_sorted_by(|a, b| !both_point(a, b))
 }
 
 /// Whether a member node has two PTR records. Where the records ascend, these are neighbours.

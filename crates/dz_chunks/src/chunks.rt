@@ -117,6 +117,20 @@ impl<K: Lead + Copy, V: Keyed<K>> Chunks<K, V> {
         Ok(Chunks { chunks })
     }
 
+    /// The map of entries in ascending order of their keys, no two of one key, made in one pass over them.
+    pub fn from_entries(
+        alloc: Global,
+        entries: Vec<Entry<K, V>>,
+    ) -> Result<Chunks<K, V>, AllocError>
+    where
+        V: Drop,
+        requires { IsTrue (is_sorted K.cmp entries.items) }
+        ensures { IfOk result (λ map. map ≡ entries.items) }
+    {
+        let chunks = cut(alloc, entries)?;
+        Ok(Chunks { chunks })
+    }
+
     /// How many keys there are; past the end of `usize` it is that end.
     pub fn len(&self) -> usize
         ensures { result ≡ min (length self.now) (2 ^ 64 - 1) }

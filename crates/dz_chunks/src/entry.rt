@@ -12,7 +12,7 @@ use std::sync::Arc;
 
 /// A value, which maps share, behind the first octets of its key. Contracts see it behind its key.
 #[derive(Drop)]
-pub(crate) struct Entry<K: Lead, V: Keyed<K>> {
+pub struct Entry<K: Lead, V: Keyed<K>> {
     lead: [u8; 16],
     value: Arc<V>,
     key: PhantomData<K>,
@@ -31,7 +31,7 @@ impl<K: Lead, V: Keyed<K>> Model for Entry<K, V> {
 
 impl<K: Lead + Copy, V: Keyed<K>> Entry<K, V> {
     /// The entry of a value. The error is want of memory.
-    pub(crate) fn new(alloc: Global, value: V) -> Result<Entry<K, V>, AllocError>
+    pub fn new(alloc: Global, value: V) -> Result<Entry<K, V>, AllocError>
     where
         V: Drop,
         ensures { IfOk result (λ entry. entry ≡ (V.key value, value)) }
@@ -50,7 +50,8 @@ impl<K: Lead + Copy, V: Keyed<K>> Entry<K, V> {
         self.lead
     }
 
-    pub(crate) fn value(&self) -> &V
+    /// The value.
+    pub fn value(&self) -> &V
         ensures value { result.now ≡ self.now.1 }
         ensures key { V.key result.now ≡ self.now.0 }
     {

@@ -15,6 +15,7 @@ mod share;
 mod walk;
 
 pub use chunks::Chunks;
+pub use entry::Entry;
 pub use keyed::Keyed;
 pub use laws::few_chunks;
 pub use lead::Lead;

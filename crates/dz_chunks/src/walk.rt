@@ -1,6 +1,6 @@
 //! The entries of a map one by one.
 
-ghost use Rattle.std.specs.Prelude.{◌≡◌, List, map};
+ghost use Rattle.std.specs.Prelude.{◌≡◌, List, [], ◌∷◌, map, MatchOption};
 ghost use Rattle.std.specs.Iterator.{YieldsFirstBy, item_count};
 ghost use Rattle.dz_chunks.specs.inner.Chunked.{flat, AreChunks};
 
@@ -41,6 +41,22 @@ impl<'a, K: Lead + Copy, V: Keyed<K>> Walk<'a, K, V> {
             chunks,
         }
     }
+
+    /// The next entry, as maps share it.
+    pub fn next_entry(&mut self) -> Option<&'a Entry<K, V>>
+        ensures { MatchOption result ((self.old ≡ []) × (self.new ≡ []))
+            (λ entry. self.old ≡ entry.now ∷ self.new) }
+    {
+        if let Some((entry, rest)) = self.entries.split_first() {
+            self.entries = rest;
+            return Some(entry);
+        }
+        let (chunk, rest) = self.chunks.split_first()?;
+        let (entry, others) = chunk.entries().split_first()?;
+        self.entries = others;
+        self.chunks = rest;
+        Some(entry)
+    }
 }
 
 impl<'a, K: Lead + Copy, V: Keyed<K>> Iterator for Walk<'a, K, V> {
@@ -51,14 +67,9 @@ impl<'a, K: Lead + Copy, V: Keyed<K>> Iterator for Walk<'a, K, V> {
     ghost remaining = { item_count (λ left. left) };
 
     fn next(&mut self) -> Option<&'a V> {
-        if let Some((entry, rest)) = self.entries.split_first() {
-            self.entries = rest;
-            return Some(entry.value());
+        match self.next_entry() {
+            None => None,
+            Some(entry) => Some(entry.value()),
         }
-        let (chunk, rest) = self.chunks.split_first()?;
-        let (entry, others) = chunk.entries().split_first()?;
-        self.entries = others;
-        self.chunks = rest;
-        Some(entry.value())
     }
 }

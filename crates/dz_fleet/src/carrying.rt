@@ -3,14 +3,13 @@
 ghost use Rattle.std.specs.Prelude.{◌≡◌, ◌≤◌, ◌++◌, length, map, take, IfOk, option_map};
 ghost use Rattle.std.specs.Option.{option_eq};
 ghost use Rattle.std.specs.Str.{bytes_eq};
-ghost use Rattle.dz_history.specs.Places.{place_at};
 ghost use Rattle.dz_schedule.specs.Values.{fresh};
-ghost use Rattle.dz_fleet.specs.Values.{value_at, value_in, kept, same_primaries, carried, relisted_values};
+ghost use Rattle.dz_fleet.specs.Values.{value_at, kept, same_primaries, carried, relisted_values};
 
-use crate::places::place_near;
+use crate::places::place_behind;
 use dz_history::Holdings;
 use dz_member::{Fold, Member};
-use dz_name::{Name, Octets};
+use dz_name::Octets;
 use dz_schedule::{Schedule, Values};
 use std::alloc::{AllocError, Global};
 
@@ -47,8 +46,8 @@ fn catalog_values(
     requires { length before.now.fold.config ≤ length schedule.now }
     ensures { IfOk result (λ v. v.items ≡ take (length before.now.fold.config) schedule.now) }
 {
-    let mut values = Vec::with_capacity(alloc, members)?;
     let catalogs = before.fold().catalogs().len();
+    let mut values = Vec::with_capacity(alloc, members.saturating_add(catalogs))?;
     values.extend_from_slice(&schedule.values()[..catalogs])?;
     Ok(values)
 }
@@ -79,30 +78,20 @@ fn carried(
 ) -> Values
     ensures { result ≡ carried before.now schedule.now member.now }
 {
-    let place = *likely;
-    match before.fold().find_near(likely, member.zone()) {
+    let fold = before.fold();
+    let zone = member.zone();
+    match fold.place_near(*likely, zone) {
         None => Values::fresh(),
-        Some(held) => {
+        Some(place) => {
+            *likely = place.saturating_add(1);
+            let held = fold.member(place);
             if held.incarnation() == member.incarnation() {
-                kept(
-                    value_in(before, schedule, place, member.zone()),
-                    &held,
-                    member,
-                )
+                let seat = place_behind(before, place, zone);
+                kept(value_at(schedule, seat), &held, member)
             } else {
                 Values::fresh()
             }
         }
-    }
-}
-
-/// The values of a zone, which is looked for first at a likely place.
-fn value_in(holdings: &Holdings, schedule: &Schedule, likely: usize, zone: &Name) -> Values
-    ensures { result ≡ value_in schedule.now (place_at holdings.now zone.now) }
-{
-    match place_near(holdings, likely, zone) {
-        None => Values::fresh(),
-        Some(place) => value_at(schedule, place),
     }
 }
 

@@ -1,6 +1,7 @@
 //! The places of zones.
 
-ghost use Rattle.std.specs.Prelude.{◌≡◌, ◌<◌, length, slice_get, Some, IsSome};
+ghost use Rattle.std.specs.Prelude.{◌≡◌, ◌<◌, length, slice_get, position, Some, IsSome};
+ghost use Rattle.dz_name.specs.Name.{same_name};
 ghost use Rattle.dz_history.specs.Places.{seats, place_at};
 
 use dz_history::Holdings;
@@ -10,19 +11,12 @@ use dz_name::Name;
 pub(crate) fn place_of(holdings: &Holdings, zone: &Name) -> Option<usize>
     ensures { result ≡ place_at holdings.now zone.now }
 {
-    place_near(holdings, 0, zone)
-}
-
-/// The same. Among the members the zone is looked for first at a place where it is likely.
-pub(crate) fn place_near(holdings: &Holdings, likely: usize, zone: &Name) -> Option<usize>
-    ensures { result ≡ place_at holdings.now zone.now }
-{
     let fold = holdings.fold();
     let catalogs = fold.catalogs();
     let _members = fold.memberships();
     match fold.catalog_number(zone) {
         Some(number) => Some(number),
-        None => match fold.place_near(likely, zone) {
+        None => match fold.place_of(zone) {
             Some(place) => Some(catalogs.len() + place),
             None => None,
         },
@@ -37,6 +31,20 @@ pub(crate) fn own_place(holdings: &Holdings, zone: &Name) -> usize
     match place_of(holdings, zone) {
         Some(place) => place,
         None => unreachable!(),
+    }
+}
+
+/// The place of a zone that has this one among the members.
+pub(crate) fn place_behind(holdings: &Holdings, member: usize, zone: &Name) -> usize
+    requires { Some member ≡ position (λ m. same_name m.zone zone.now) holdings.now.fold.members }
+    ensures { place_at holdings.now zone.now ≡ Some result }
+{
+    let fold = holdings.fold();
+    let catalogs = fold.catalogs();
+    let _members = fold.memberships();
+    match fold.catalog_number(zone) {
+        Some(number) => number,
+        None => catalogs.len() + member,
     }
 }
 

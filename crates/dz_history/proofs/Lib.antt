@@ -1,4 +1,3 @@
-pub mod AheadLemmas
 pub mod ApartLemmas
 pub mod BegunLemmas
 pub mod EndedLemmas

@@ -3,7 +3,6 @@
 #![tactic(auto)]
 
 mod aftermath;
-mod ahead;
 mod entry;
 mod held;
 mod history;

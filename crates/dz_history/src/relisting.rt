@@ -6,14 +6,11 @@ ghost use Rattle.dz_member.specs.Fold.{IsFold};
 ghost use Rattle.std.specs.Option.{unwrap_or};
 ghost use Rattle.dz_table.specs.Table.{slot_of};
 ghost use Rattle.dz_history.specs.After.{slot_after, fresh};
-ghost use Rattle.dz_history.specs.inner.Ahead.{AreOf};
 
-use crate::ahead::Ahead;
 use crate::holdings::Holdings;
-use dz_chunks::Share;
 use dz_member::{Fold, Membership};
 use dz_name::Name;
-use dz_table::{Slot, Table};
+use dz_table::{Ahead, SharedSlot, Slot, Table};
 use std::alloc::{AllocError, Global};
 
 /// The slots of the members of a fold: those of zones whose incarnation is as before are as before, and others are
@@ -28,20 +25,20 @@ pub(crate) fn table_after(
 {
     fold.catalogs();
     let slots = slots_after(alloc, before, fold.memberships())?;
-    Table::from_slots(alloc, slots.as_slice())
+    Table::from_shared(alloc, slots)
 }
 
 fn slots_after(
     alloc: Global,
     before: &Holdings,
     memberships: &[Membership],
-) -> Result<Vec<Slot>, AllocError>
+) -> Result<Vec<SharedSlot>, AllocError>
     ensures { IfOk result (λ slots. slots.items
         ≡ map (λ m. slot_after before.now (shown before.now.fold.config m)) memberships.now) }
 {
     let mut slots = Vec::with_capacity(alloc, memberships.len())?;
     let mut likely = 0;
-    let mut ahead = all_ahead(before);
+    let mut ahead = before.table().ahead();
     'members: for membership in memberships {
         let slot = slot_after(alloc, before, &mut likely, &mut ahead, membership)?;
         slots.push(slot)?;
@@ -49,53 +46,47 @@ fn slots_after(
     Ok(slots)
 }
 
-/// All slots that are held.
-fn all_ahead(before: &Holdings) -> Ahead<'_>
-    ensures { AreOf before.now.table result }
-{
-    Ahead::of(before.table())
-}
-
 /// The slot of a member, whose membership before is looked for first at a likely place, and whose slot before among
 /// those ahead.
-fn slot_after<'a>(
+fn slot_after(
     alloc: Global,
-    before: &'a Holdings,
+    before: &Holdings,
     likely: &mut usize,
-    ahead: &mut Ahead<'a>,
+    ahead: &mut Ahead,
     membership: &Membership,
-) -> Result<Slot, AllocError>
-    requires { AreOf before.now.table ahead.old }
+) -> Result<SharedSlot, AllocError>
+    requires { ahead.old ≡ before.now.table }
     ensures slot { IfOk result (λ slot. slot
         ≡ slot_after before.now (shown before.now.fold.config membership.now)) }
-    ensures ahead { AreOf before.now.table ahead.new }
+    ensures ahead { ahead.new ≡ ahead.old }
 {
     match before.fold().find_near(likely, &membership.zone) {
         Some(member) => {
             if member.incarnation() == membership.incarnation {
-                same_slot(alloc, before.table(), ahead, &membership.zone)
+                same_slot(alloc, ahead, &membership.zone)
             } else {
-                Slot::new(alloc, &membership.zone, 0, None)
+                fresh(alloc, &membership.zone)
             }
         }
-        None => Slot::new(alloc, &membership.zone, 0, None),
+        None => fresh(alloc, &membership.zone),
     }
 }
 
-/// The slot of a zone, once more.
-fn same_slot<'a>(
-    alloc: Global,
-    table: &'a Table,
-    ahead: &mut Ahead<'a>,
-    zone: &Name,
-) -> Result<Slot, AllocError>
-    requires { AreOf table.now ahead.old }
+/// The slot of a zone, once more, or else a fresh one.
+fn same_slot(alloc: Global, ahead: &mut Ahead, zone: &Name) -> Result<SharedSlot, AllocError>
     ensures slot { IfOk result (λ slot. slot
-        ≡ unwrap_or (slot_of zone.now table.now) (fresh zone.now)) }
-    ensures ahead { AreOf table.now ahead.new }
+        ≡ unwrap_or (slot_of zone.now ahead.old) (fresh zone.now)) }
+    ensures ahead { ahead.new ≡ ahead.old }
 {
-    match ahead.slot(table, zone) {
-        Some(slot) => slot.share(),
-        None => Slot::new(alloc, zone, 0, None),
+    match ahead.slot(alloc, zone)? {
+        Some(slot) => Ok(slot),
+        None => fresh(alloc, zone),
     }
+}
+
+/// The slot of a zone that begins.
+fn fresh(alloc: Global, zone: &Name) -> Result<SharedSlot, AllocError>
+    ensures { IfOk result (λ slot. slot ≡ fresh zone.now) }
+{
+    SharedSlot::new(alloc, Slot::new(alloc, zone, 0, None)?)
 }

@@ -5,3 +5,4 @@ pub mod KeptLemmas
 pub mod LastLemmas
 pub mod SharedLemmas
 pub mod LeadLemmas
+pub mod AheadLemmas

@@ -4,7 +4,9 @@ ghost use Rattle.std.specs.Prelude.{◌≡◌, ◌≢◌, ◌≤◌, ◌+◌, �
 ghost use Rattle.dz_name.specs.Words.{Name};
 ghost use Rattle.dz_table.specs.Table.{IsTable, IsClosest, put, without, slot_of, closest};
 
+use crate::ahead::Ahead;
 use crate::shared::labels_apart;
+use crate::shared_slot::{SharedSlot, entries_of};
 use crate::slot::Slot;
 use crate::slots::Slots;
 use crate::zone_key::ZoneKey;
@@ -54,12 +56,29 @@ impl Table {
         Ok(Table { slots })
     }
 
+    /// The table of shared slots in the canonical order of their zones.
+    pub fn from_shared(alloc: Global, slots: Vec<SharedSlot>) -> Result<Table, AllocError>
+        requires { IsTable slots.items }
+        ensures { IfOk result (λ t. t ≡ slots.items) }
+    {
+        let entries = entries_of(alloc, slots)?;
+        let slots = Chunks::from_entries(alloc, entries)?;
+        Ok(Table { slots })
+    }
+
     /// The slots, in the canonical order of their zones.
     pub fn walk(&self) -> Slots<'_>
         ensures slots { result ≡ self.now }
         ensures order { IsTable self.now }
     {
         Slots::over(self.slots.walk())
+    }
+
+    /// The slots, beside zones that ascend.
+    pub fn ahead(&self) -> Ahead<'_>
+        ensures { result ≡ self.now }
+    {
+        Ahead::of(self, self.slots.walk())
     }
 
     /// A new table with this slot in place of the one of its zone, or beside the others, which it shares. A step is a

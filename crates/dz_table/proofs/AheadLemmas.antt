@@ -10,7 +10,7 @@ use Rattle.dz_name.specs.Name.{same_name}
 use Rattle.dz_name.specs.Order.{same_decides, same_ties}
 use Rattle.dz_table.specs.Slot.{SlotOf}
 use Rattle.dz_table.specs.Table.{slot_order, slot_of, IsTable}
-use Rattle.dz_history.specs.inner.Ahead.{AreOf}
+use Rattle.dz_table.specs.inner.Ahead.{AreOf}
 
 own : (s : SlotOf) (ss : List SlotOf) → slot_of s.zone (s ∷ ss) ≡ Some s
 own s ss = let itself : same_name s.zone s.zone ≡ true = (same_decides s.zone s.zone).1 refl in rw itself refl
