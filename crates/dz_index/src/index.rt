@@ -1,6 +1,6 @@
 //! An index of owners.
 
-ghost use Rattle.std.specs.Prelude.{◌≡◌, ℕ, ◌+◌, ◌-◌, ◌*◌, ◌<◌, ◌≤◌, List, [], ◌∷◌, ◌++◌, length, IfOk, slice_index, nat_lt, ◌&&◌, false};
+ghost use Rattle.std.specs.Prelude.{◌≡◌, ℕ, ◌+◌, ◌-◌, ◌*◌, ◌<◌, ◌≤◌, List, [], ◌∷◌, ◌++◌, length, IfOk, slice_index, nat_lt, ◌&&◌, false, OnOk};
 ghost use Rattle.std.specs.Str.{bytes_eq};
 ghost use Rattle.std.specs.Ordering.{is_eq, is_gt};
 ghost use Rattle.dz_name.specs.Words.{Name};
@@ -268,24 +268,33 @@ impl Index {
     }
 
     /// An owner with a key of its own behind the others.
-    fn added(self, key: &[u8]) -> Result<Index, AllocError>
+    fn added(mut self, key: &[u8]) -> Result<Index, AllocError>
         requires few { total self < 250000 }
         requires room { length key.now ≤ 512 }
         ensures { IfOk result (λ i. i ≡ added self key.now) }
     {
-        let Index {
-            mut octets,
-            mut bounds,
-            mut firsts,
-        } = self;
-        let total = firsts[firsts.len() - 1];
-        octets.extend_from_slice(key)?;
-        bounds.push(octets.len() as u32)?;
-        firsts.push(total + 1)?;
-        Ok(Index {
-            octets,
-            bounds,
-            firsts,
-        })
+        self.add(key)?;
+        Ok(self)
+    }
+
+    /// The same in place. Where memory is wanting, nothing is added.
+    fn add(&mut self, key: &[u8]) -> Result<(), AllocError>
+        requires few { total self.old < 250000 }
+        requires room { length key.now ≤ 512 }
+        ensures { OnOk result (self.new ≡ added self.old key.now) }
+    {
+        let total = self.firsts[self.firsts.len() - 1];
+        let before = self.octets.len();
+        self.octets.extend_from_slice(key)?;
+        if self.bounds.push(self.octets.len() as u32).is_err() {
+            self.octets.truncate(before);
+            return Err(AllocError);
+        }
+        if self.firsts.push(total + 1).is_err() {
+            self.octets.truncate(before);
+            self.bounds.pop();
+            return Err(AllocError);
+        }
+        Ok(())
     }
 }
