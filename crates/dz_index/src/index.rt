@@ -97,7 +97,7 @@ impl Index {
     /// One more owner behind the others, or the last one once more; and how the last one stands beside it, which is
     /// before it where there is none. An owner that comes before the last one isn't added.
     pub fn with_next(
-        self,
+        mut self,
         name: &NameRef<'_>,
         key: &mut SortKey,
     ) -> Result<(Index, Ordering), AllocError>
@@ -106,16 +106,26 @@ impl Index {
         ensures order { (owners : List Name) → IsIndex owners self → IfOk result (λ s. s.1 ≡ order_behind owners name.now) }
         ensures index { (owners : List Name) → IsIndex owners self → IfOk result (λ s. is_gt s.1 ≡ false → IsIndex (owners ++ name.now ∷ []) s.0) }
     {
+        let order = self.put(name, key)?;
+        Ok((self, order))
+    }
+
+    /// The same in place.
+    pub fn put(&mut self, name: &NameRef<'_>, key: &mut SortKey) -> Result<Ordering, AllocError>
+        requires few { total self.old < 250000 }
+        ensures total { IfOk result (λ o. is_gt o ≡ false → total self.new ≡ total self.old + 1) }
+        ensures order { (owners : List Name) → IsIndex owners self.old → IfOk result (λ o. o ≡ order_behind owners name.now) }
+        ensures index { (owners : List Name) → IsIndex owners self.old → IfOk result (λ o. is_gt o ≡ false → IsIndex (owners ++ name.now ∷ []) self.new) }
+    {
         let _ = &self.firsts;
         key.set(name);
-        match self.last_cmp(key.octets()) {
-            Ordering::Less => {
-                let index = self.added(key.octets())?;
-                Ok((index, Ordering::Less))
-            }
-            Ordering::Equal => Ok((self.repeated(), Ordering::Equal)),
-            Ordering::Greater => Ok((self, Ordering::Greater)),
+        let order = self.last_cmp(key.octets());
+        match order {
+            Ordering::Less => self.add(key.octets())?,
+            Ordering::Equal => self.repeat(),
+            Ordering::Greater => {}
         }
+        Ok(order)
     }
 
     /// How many owners come before a name in canonical order, which is the place of its first record.
@@ -262,9 +272,18 @@ impl Index {
         requires some { 0 < count self }
         ensures { result ≡ repeated self }
     {
+        self.repeat();
+        self
+    }
+
+    /// The same in place.
+    fn repeat(&mut self)
+        requires few { total self.old < 250000 }
+        requires some { 0 < count self.old }
+        ensures { self.new ≡ repeated self.old }
+    {
         let last = self.firsts.len() - 1;
         self.firsts[last] += 1;
-        self
     }
 
     /// An owner with a key of its own behind the others.
