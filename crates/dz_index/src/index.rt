@@ -94,23 +94,8 @@ impl Index {
         }
     }
 
-    /// One more owner behind the others, or the last one once more; and how the last one stands beside it, which is
-    /// before it where there is none. An owner that comes before the last one isn't added.
-    pub fn with_next(
-        mut self,
-        name: &NameRef<'_>,
-        key: &mut SortKey,
-    ) -> Result<(Index, Ordering), AllocError>
-        requires few { total self < 250000 }
-        ensures total { IfOk result (λ s. is_gt s.1 ≡ false → total s.0 ≡ total self + 1) }
-        ensures order { (owners : List Name) → IsIndex owners self → IfOk result (λ s. s.1 ≡ order_behind owners name.now) }
-        ensures index { (owners : List Name) → IsIndex owners self → IfOk result (λ s. is_gt s.1 ≡ false → IsIndex (owners ++ name.now ∷ []) s.0) }
-    {
-        let order = self.put(name, key)?;
-        Ok((self, order))
-    }
-
-    /// The same in place.
+    /// One more owner behind the others, or the last one once more, in place; and how the last one stands beside it,
+    /// which is before it where there is none. An owner that comes before the last one isn't added.
     pub fn put(&mut self, name: &NameRef<'_>, key: &mut SortKey) -> Result<Ordering, AllocError>
         requires few { total self.old < 250000 }
         ensures total { IfOk result (λ o. is_gt o ≡ false → total self.new ≡ total self.old + 1) }
