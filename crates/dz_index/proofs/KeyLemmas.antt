@@ -156,3 +156,22 @@ pub room_next : (key new rest : List ℕ) (place w : ℕ) → length key ≤ pla
 room_next key new rest place w room is =
     let n : place + 1 + w - (place + 1) ≡ w = omega arith in
     omega (arith, ap length is, ended_length (take (place + 1 + w - (place + 1)) rest) key, take_short (place + 1 + w - (place + 1)) rest)
+
+-- an octet of a label that is written in front of others as two, and as one
+pub octet_two : (end c : ℕ) (old new newer : List ℕ) → 2 ≤ end → c < 2 → drop (end - 1) new ≡ (c + 1) ∷ drop (end - 1 + 1) old → drop (end - 2) newer ≡ 1 ∷ drop (end - 2 + 1) new
+    → drop (end - 2) newer ≡ octet_before c (drop end old)
+octet_two end c old new newer some low first second =
+    let e : end - 1 + 1 ≡ end = omega arith in
+    let f : end - 2 + 1 ≡ end - 1 = omega arith in
+    rw f at second ∙ (ap (λ (k : List ℕ). 1 ∷ k) (rw e at first) ∙ sym (octet_low c (drop end old) low))
+
+pub octet_one : (end c : ℕ) (old new : List ℕ) → 2 ≤ end → 2 ≤ c → drop (end - 1) new ≡ c ∷ drop (end - 1 + 1) old → drop (end - 1) new ≡ octet_before c (drop end old)
+octet_one end c old new some high is =
+    let e : end - 1 + 1 ≡ end = omega arith in
+    rw e at is ∙ sym (octet_high c (drop end old) high)
+
+-- the end of a label in front of others
+pub label_end : (end : ℕ) (old new label : List ℕ) → 1 ≤ end → drop (end - 1) new ≡ 0 ∷ drop (end - 1 + 1) old → drop (end - 1) new ≡ label_before (drop (length label) label) (drop end old)
+label_end end old new label some is =
+    let e : end - 1 + 1 ≡ end = omega arith in
+    rw e at is ∙ ended_nothing label (drop end old)

@@ -1,6 +1,6 @@
 //! An index of owners.
 
-ghost use Rattle.std.specs.Prelude.{◌≡◌, ℕ, ◌+◌, ◌-◌, ◌*◌, ◌<◌, ◌≤◌, List, [], ◌∷◌, ◌++◌, length, IfOk, slice_index, nat_lt, ◌&&◌, false};
+ghost use Rattle.std.specs.Prelude.{◌≡◌, ℕ, ◌+◌, ◌-◌, ◌*◌, ◌<◌, ◌≤◌, List, [], ◌∷◌, ◌++◌, length, IfOk, slice_index, nat_lt, ◌&&◌, false, OnOk};
 ghost use Rattle.std.specs.Str.{bytes_eq};
 ghost use Rattle.std.specs.Ordering.{is_eq, is_gt};
 ghost use Rattle.dz_name.specs.Words.{Name};
@@ -94,28 +94,23 @@ impl Index {
         }
     }
 
-    /// One more owner behind the others, or the last one once more; and how the last one stands beside it, which is
-    /// before it where there is none. An owner that comes before the last one isn't added.
-    pub fn with_next(
-        self,
-        name: &NameRef<'_>,
-        key: &mut SortKey,
-    ) -> Result<(Index, Ordering), AllocError>
-        requires few { total self < 250000 }
-        ensures total { IfOk result (λ s. is_gt s.1 ≡ false → total s.0 ≡ total self + 1) }
-        ensures order { (owners : List Name) → IsIndex owners self → IfOk result (λ s. s.1 ≡ order_behind owners name.now) }
-        ensures index { (owners : List Name) → IsIndex owners self → IfOk result (λ s. is_gt s.1 ≡ false → IsIndex (owners ++ name.now ∷ []) s.0) }
+    /// One more owner behind the others, or the last one once more, in place; and how the last one stands beside it,
+    /// which is before it where there is none. An owner that comes before the last one isn't added.
+    pub fn put(&mut self, name: &NameRef<'_>, key: &mut SortKey) -> Result<Ordering, AllocError>
+        requires few { total self.old < 250000 }
+        ensures total { IfOk result (λ o. is_gt o ≡ false → total self.new ≡ total self.old + 1) }
+        ensures order { (owners : List Name) → IsIndex owners self.old → IfOk result (λ o. o ≡ order_behind owners name.now) }
+        ensures index { (owners : List Name) → IsIndex owners self.old → IfOk result (λ o. is_gt o ≡ false → IsIndex (owners ++ name.now ∷ []) self.new) }
     {
         let _ = &self.firsts;
         key.set(name);
-        match self.last_cmp(key.octets()) {
-            Ordering::Less => {
-                let index = self.added(key.octets())?;
-                Ok((index, Ordering::Less))
-            }
-            Ordering::Equal => Ok((self.repeated(), Ordering::Equal)),
-            Ordering::Greater => Ok((self, Ordering::Greater)),
+        let order = self.last_cmp(key.octets());
+        match order {
+            Ordering::Less => self.add(key.octets())?,
+            Ordering::Equal => self.repeat(),
+            Ordering::Greater => {}
         }
+        Ok(order)
     }
 
     /// How many owners come before a name in canonical order, which is the place of its first record.
@@ -262,30 +257,48 @@ impl Index {
         requires some { 0 < count self }
         ensures { result ≡ repeated self }
     {
-        let last = self.firsts.len() - 1;
-        self.firsts[last] += 1;
+        self.repeat();
         self
     }
 
+    /// The same in place.
+    fn repeat(&mut self)
+        requires few { total self.old < 250000 }
+        requires some { 0 < count self.old }
+        ensures { self.new ≡ repeated self.old }
+    {
+        let last = self.firsts.len() - 1;
+        self.firsts[last] += 1;
+    }
+
     /// An owner with a key of its own behind the others.
-    fn added(self, key: &[u8]) -> Result<Index, AllocError>
+    fn added(mut self, key: &[u8]) -> Result<Index, AllocError>
         requires few { total self < 250000 }
         requires room { length key.now ≤ 512 }
         ensures { IfOk result (λ i. i ≡ added self key.now) }
     {
-        let Index {
-            mut octets,
-            mut bounds,
-            mut firsts,
-        } = self;
-        let total = firsts[firsts.len() - 1];
-        octets.extend_from_slice(key)?;
-        bounds.push(octets.len() as u32)?;
-        firsts.push(total + 1)?;
-        Ok(Index {
-            octets,
-            bounds,
-            firsts,
-        })
+        self.add(key)?;
+        Ok(self)
+    }
+
+    /// The same in place. Where memory is wanting, nothing is added.
+    fn add(&mut self, key: &[u8]) -> Result<(), AllocError>
+        requires few { total self.old < 250000 }
+        requires room { length key.now ≤ 512 }
+        ensures { OnOk result (self.new ≡ added self.old key.now) }
+    {
+        let total = self.firsts[self.firsts.len() - 1];
+        let before = self.octets.len();
+        self.octets.extend_from_slice(key)?;
+        if self.bounds.push(self.octets.len() as u32).is_err() {
+            self.octets.truncate(before);
+            return Err(AllocError);
+        }
+        if self.firsts.push(total + 1).is_err() {
+            self.octets.truncate(before);
+            self.bounds.pop();
+            return Err(AllocError);
+        }
+        Ok(())
     }
 }

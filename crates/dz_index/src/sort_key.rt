@@ -1,6 +1,6 @@
 //! Sort keys of names.
 
-ghost use Rattle.std.specs.Prelude.{◌≡◌, ◌+◌, ◌<◌, ◌≤◌, [], ◌∷◌, length};
+ghost use Rattle.std.specs.Prelude.{◌≡◌, ◌+◌, ◌<◌, ◌≤◌, [], ◌∷◌, length, drop};
 ghost use Rattle.dz_index.specs.SortKey.{key_of, label_before, octet_before};
 
 use dz_name::NameRef;
@@ -83,33 +83,49 @@ impl SortKey {
         requires { length self.old + (length label.now + length label.now + 1) ≤ 512 }
         ensures { self.new ≡ label_before label.now self.old }
     {
-        self.prepend(0);
-        let mut left = label.len();
-        'octets: while 0 < left {
-            left -= 1;
-            self.prepend_octet(label[left]);
-        }
+        self.start = put_label(&mut self.octets, self.start, label);
     }
+}
 
-    /// An octet of a label in front.
-    fn prepend_octet(&mut self, octet: u8)
-        requires { length self.old + 1 < 512 }
-        ensures octets { self.new ≡ octet_before octet self.old }
-        ensures room { length self.new ≤ length self.old + 2 }
-    {
-        if octet < 2 {
-            self.prepend(octet + 1);
-            self.prepend(1);
-        } else {
-            self.prepend(octet);
-        }
+/// A label with the octet that ends it, in front of what stands from a place on. Gives where it begins.
+fn put_label(octets: &mut [u8; ROOM], end: usize, label: &[u8]) -> usize
+    requires within { end ≤ 512 }
+    requires room { length label.now + length label.now + 1 ≤ end }
+    ensures octets { drop result octets.new ≡ label_before label.now (drop end octets.old) }
+    ensures within { result ≤ 512 }
+{
+    let mut begin = end - 1;
+    put(octets, begin, 0);
+    let mut left = label.len();
+    'octets: while 0 < left {
+        left -= 1;
+        begin = put_octet(octets, begin, label[left]);
     }
+    begin
+}
 
-    fn prepend(&mut self, octet: u8)
-        requires { length self.old < 512 }
-        ensures { self.new ≡ octet ∷ self.old }
-    {
-        self.start -= 1;
-        self.octets[self.start] = octet;
+/// An octet of a label, in front of what stands from a place on. Gives where it begins.
+fn put_octet(octets: &mut [u8; ROOM], end: usize, octet: u8) -> usize
+    requires within { end ≤ 512 }
+    requires room { 2 ≤ end }
+    ensures octets { drop result octets.new ≡ octet_before octet (drop end octets.old) }
+    ensures front { result < end }
+    ensures room { end ≤ result + 2 }
+{
+    if octet < 2 {
+        put(octets, end - 1, octet + 1);
+        put(octets, end - 2, 1);
+        end - 2
+    } else {
+        put(octets, end - 1, octet);
+        end - 1
     }
+}
+
+/// An octet in front of what stands behind it.
+fn put(octets: &mut [u8; ROOM], at: usize, octet: u8)
+    requires { at < 512 }
+    ensures { drop at octets.new ≡ octet ∷ drop (at + 1) octets.old }
+{
+    octets[at] = octet;
 }

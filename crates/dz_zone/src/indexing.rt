@@ -44,11 +44,10 @@ pub(crate) fn index_rising(alloc: Global, records: &[Rr]) -> Result<Option<Index
     let mut index = Index::empty(alloc)?;
     let mut key = SortKey::empty();
     'records: for place in 0..records.len() {
-        let (next, order) = index.with_next(&records[place].owner_ref(), &mut key)?;
+        let order = index.put(&records[place].owner_ref(), &mut key)?;
         if !rises_at(order, records, place) {
             return Ok(None);
         }
-        index = next;
     }
     Ok(Some(index))
 }

@@ -19,7 +19,7 @@ rises_at-requires-clause-owners c =
     let records = c.args.records.now in
     let at = c.records.place in
     let is = owner_there records at c.index-records-place.result c.owner_ref.result (omega arith) c.index-records-place.is c.owner_ref.ensures in
-    c.in_ok-next.ensures.order (take at (owners_of records)) c.records.invariant.is ∙ ap (λ n. order_behind (take at (owners_of records)) n) is
+    c.in_ok-order.ensures.order (take at (owners_of records)) c.records.invariant.is ∙ ap (λ n. order_behind (take at (owners_of records)) n) is
 
 pub records-preserved : goal.records-preserved
 records-preserved c =
@@ -32,8 +32,8 @@ records-preserved c =
     let order = c.rises_at.ensures.order c.if-not-rises_at.false in
     record {
       is = rw (one_more_owner owners at name within is)
-          (c.in_ok-next.ensures.index (take at owners) c.records.invariant.is order);
-      long = c.in_ok-next.ensures.total order ∙ ap (λ n. n + 1) c.records.invariant.long;
+          (c.in_ok-order.ensures.index (take at owners) c.records.invariant.is order);
+      long = c.in_ok-order.ensures.total order ∙ ap (λ n. n + 1) c.records.invariant.long;
       up = more_rise records at c.records.invariant.up (c.rises_at.ensures.rises c.if-not-rises_at.false);
     }
 
