@@ -26,7 +26,8 @@ pub(crate) fn relisted(
 ) -> Result<Schedule, AllocError>
     requires config { after.now.fold.config ≡ before.now.fold.config }
     requires sized { length before.now.fold.config ≤ length schedule.now }
-    ensures { IfOk result (λ s. s ≡ relisted_values before.now schedule.now after.now.fold.members) }
+    ensures { IfOk result (λ s. s
+        ≡ relisted_values before.now schedule.now after.now.fold.members) }
 {
     let mut values = catalog_values(alloc, before, schedule, after.fold().count())?;
     carry(&mut values, before, schedule, after.fold())?;
@@ -125,7 +126,8 @@ fn same_primaries(before: &Member<'_>, now: &Member<'_>) -> bool
 }
 
 fn same_choice(a: Option<&Octets>, b: Option<&Octets>) -> bool
-    ensures { result ≡ option_eq bytes_eq (option_map (λ r. r.now) a.entry) (option_map (λ r. r.now) b.entry) }
+    ensures { result ≡ option_eq bytes_eq (option_map (λ r. r.now) a.entry)
+        (option_map (λ r. r.now) b.entry) }
 {
     match (a, b) {
         (None, None) => true,

@@ -33,11 +33,30 @@ impl Model for Quiet {
 
     ghost Value = { QuietOf };
 
-    ghost view = { λ q. record { count = q.count; moment = q.moment; in_flight = q.in_flight; drawn = q.drawn; earliest = q.earliest } };
+    ghost view = { λ q. record {
+      count = q.count;
+      moment = q.moment;
+      in_flight = q.in_flight;
+      drawn = q.drawn;
+      earliest = q.earliest;
+    } };
 
-    ghost invariant = { λ q. IsQuiet record { count = q.count; moment = q.moment; in_flight = q.in_flight; drawn = q.drawn; earliest = q.earliest } };
+    ghost invariant = { λ q. IsQuiet
+        record {
+          count = q.count;
+          moment = q.moment;
+          in_flight = q.in_flight;
+          drawn = q.drawn;
+          earliest = q.earliest;
+        } };
 
-    ghost inverse = { λ q. record { count = q.count; moment = q.moment; in_flight = q.in_flight; drawn = q.drawn; earliest = q.earliest } };
+    ghost inverse = { λ q. record {
+      count = q.count;
+      moment = q.moment;
+      in_flight = q.in_flight;
+      drawn = q.drawn;
+      earliest = q.earliest;
+    } };
 }
 
 impl Quiet {
@@ -48,8 +67,20 @@ impl Quiet {
         drawn: u64,
         earliest: Option<u64>,
     ) -> Quiet
-        requires { IsQuiet record { count = count; moment = moment; in_flight = in_flight; drawn = drawn; earliest = earliest } }
-        ensures { result ≡ record { count = count; moment = moment; in_flight = in_flight; drawn = drawn; earliest = earliest } }
+        requires { IsQuiet record {
+          count = count;
+          moment = moment;
+          in_flight = in_flight;
+          drawn = drawn;
+          earliest = earliest;
+        } }
+        ensures { result ≡ record {
+          count = count;
+          moment = moment;
+          in_flight = in_flight;
+          drawn = drawn;
+          earliest = earliest;
+        } }
     {
         Quiet {
             count,

@@ -70,7 +70,8 @@ impl Fleet {
 
     /// The earliest moment for which a zone waits.
     fn earliest(&self) -> Option<u64>
-        ensures { result ≡ option_map (λ place. (value_at self.now.values place).timing.next) (first_place self.now) }
+        ensures { result ≡ option_map (λ place. (value_at self.now.values place).timing.next)
+            (first_place self.now) }
     {
         match self.schedule.first() {
             Some(place) => Some(self.schedule.at(place).next()),
@@ -134,7 +135,8 @@ impl Fleet {
     fn hand_out(&mut self, place: usize, job: Job) -> Due
         requires first { first_place self.old ≡ Some place }
         requires room { is_full self.old ≡ false }
-        requires due { nat_lt job.flight.moment (value_at self.old.values place).timing.next ≡ false }
+        requires due { nat_lt job.flight.moment (value_at self.old.values place).timing.next
+            ≡ false }
         requires job { job ≡ job_at self.old job.flight.moment place }
         ensures due { IsDue self.old job.flight.moment result self.new }
         ensures flying { IsHanded result self.new }
@@ -208,7 +210,8 @@ fn has_address(peers: &[Peer], peer: &Peer) -> bool
 
 /// A version, shared once more.
 fn shared(held: Option<&Arc<Version>>) -> Result<Option<Arc<Version>>, AllocError>
-    ensures { IfOk result (λ version. option_map arc_value version ≡ option_map (λ r. r.now.value) held.entry) }
+    ensures { IfOk result (λ version. option_map arc_value version
+        ≡ option_map (λ r. r.now.value) held.entry) }
 {
     match held {
         None => Ok(None),

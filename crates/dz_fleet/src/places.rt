@@ -51,7 +51,8 @@ pub(crate) fn place_behind(holdings: &Holdings, member: usize, zone: &Name) -> u
 /// The zone at a place, and its incarnation.
 pub(crate) fn seat_at(holdings: &Holdings, place: usize) -> (Name, u64)
     requires { place < length (seats holdings.now) }
-    ensures { slice_get (seats holdings.now) place ≡ Some record { zone = result.0; incarnation = result.1 } }
+    ensures { slice_get (seats holdings.now) place
+        ≡ Some record { zone = result.0; incarnation = result.1 } }
 {
     let fold = holdings.fold();
     let catalogs = fold.catalogs().len();

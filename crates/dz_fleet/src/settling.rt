@@ -116,7 +116,8 @@ impl Fleet {
         requires flying { IsFlying self.old job.now }
         requires standing { ended_of self.old job.now ≡ None }
         requires moment { now < 2 ^ 40 }
-        ensures { self.new ≡ (if whole then after_refusal self.old job.now now else after_failure self.old job.now now) }
+        ensures { self.new ≡ (if whole then after_refusal self.old job.now now
+            else after_failure self.old job.now now) }
     {
         let retry = retry_of(self.holdings.held(job.zone()));
         let primaries = primaries_of(&self.holdings, job.zone());
@@ -134,9 +135,11 @@ impl Fleet {
         requires entry { entry.value ≡ entry_for job.now (octets_in entry.value) }
         requires follows { CanFollow (state_of self.old) entry.value }
         requires renewed { let octets = octets_in entry.value in
-            renewed_by renewal ≡ renewal_for self.old job.now octets (aftermath_in self.old job.now octets) }
+            renewed_by renewal ≡ renewal_for self.old job.now octets
+            (aftermath_in self.old job.now octets) }
         ensures { let octets = octets_in entry.value in
-            self.new ≡ after_success self.old job.now octets (aftermath_in self.old job.now octets) }
+            self.new ≡ after_success self.old job.now octets
+            (aftermath_in self.old job.now octets) }
     {
         let position = self.holdings.count();
         land(&mut self.flying, job.ticket());
@@ -200,7 +203,8 @@ fn waits(before: Values, now: u64, retry: Option<u32>, primaries: usize, whole: 
     requires moment { now < 2 ^ 40 }
     requires some { 1 ≤ primaries }
     requires few { primaries ≤ 8 }
-    ensures { result ≡ (if whole then refused before now retry primaries else failed before now retry primaries) }
+    ensures { result ≡ (if whole then refused before now retry primaries
+        else failed before now retry primaries) }
 {
     if whole {
         before.refused(now, retry, primaries as u8)
@@ -213,7 +217,8 @@ fn waits(before: Values, now: u64, retry: Option<u32>, primaries: usize, whole: 
 fn renew(holdings: &mut Holdings, schedule: &mut Schedule, renewal: Renewal)
     requires { IsSome (renewed_by renewal) }
     ensures state { Some holdings.new ≡ option_map (λ r. r.state) (renewed_by renewal) }
-    ensures values { Some schedule.new ≡ option_map (λ r. unwrap_or r.values schedule.old) (renewed_by renewal) }
+    ensures values { Some schedule.new
+        ≡ option_map (λ r. unwrap_or r.values schedule.old) (renewed_by renewal) }
     ensures valid { IsState holdings.new }
 {
     match renewal {

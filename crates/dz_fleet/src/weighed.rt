@@ -40,7 +40,13 @@ impl Model for Weighed {
 
     ghost Value = { Weighing };
 
-    ghost view = { λ w. record { entry = w.entry.value; moment = w.moment; verdict = w.verdict; renewed = renewed_by w.renewal; is_there = is_some w.step } };
+    ghost view = { λ w. record {
+      entry = w.entry.value;
+      moment = w.moment;
+      verdict = w.verdict;
+      renewed = renewed_by w.renewal;
+      is_there = is_some w.step;
+    } };
 
     ghost invariant = { λ w. IsStep w.step w.entry.value (renewed_by w.renewal) };
 }
@@ -86,7 +92,9 @@ impl Weighed {
     pub fn take_step(&mut self) -> Option<Step>
         ensures there { is_some result ≡ self.old.is_there }
         ensures entry { IfSome result (λ step. step.entry ≡ self.old.entry) }
-        ensures table { IfSome result (λ step. option_map (λ r. r.state.table) self.old.renewed ≡ Some (arc_value step.table)) }
+        ensures table { IfSome result
+            (λ step. option_map (λ r. r.state.table) self.old.renewed
+            ≡ Some (arc_value step.table)) }
         ensures rest { self.new ≡ record self.old { is_there = false } }
     {
         self.step.take()
@@ -104,7 +112,8 @@ impl Weighed {
 
 /// The table afterwards, shared once more.
 fn table_of(renewal: &Renewal) -> Result<Option<Arc<Table>>, AllocError>
-    ensures { IfOk result (λ table. option_map arc_value table ≡ option_map (λ r. r.state.table) (renewed_by renewal.now)) }
+    ensures { IfOk result (λ table. option_map arc_value table
+        ≡ option_map (λ r. r.state.table) (renewed_by renewal.now)) }
 {
     match renewal {
         Renewal::Same => Ok(None),

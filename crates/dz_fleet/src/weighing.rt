@@ -68,7 +68,8 @@ impl Fleet {
         requires flying { IsFlying self.now job.now }
         requires transfer { finished.now.transfer ≡ transfer_for job.now }
         ensures verdict { IfOk result (λ r. r.0 ≡ verdict_of self.now job.now finished.now.octets) }
-        ensures renewed { IfOk result (λ r. renewed_by r.1 ≡ renewed_for self.now job.now finished.now.octets r.0) }
+        ensures renewed { IfOk result
+            (λ r. renewed_by r.1 ≡ renewed_for self.now job.now finished.now.octets r.0) }
     {
         match self.ended_of(job) {
             Some(position) => Ok((Verdict::Stale(position), Renewal::Same)),
@@ -87,7 +88,8 @@ impl Fleet {
         requires standing { ended_of self.now job.now ≡ None }
         requires transfer { finished.now.transfer ≡ transfer_for job.now }
         ensures verdict { IfOk result (λ r. r.0 ≡ verdict_of self.now job.now finished.now.octets) }
-        ensures renewed { IfOk result (λ r. renewed_by r.1 ≡ renewed_for self.now job.now finished.now.octets r.0) }
+        ensures renewed { IfOk result
+            (λ r. renewed_by r.1 ≡ renewed_for self.now job.now finished.now.octets r.0) }
     {
         match finished.outcome() {
             Outcome::Refused(fault) => Ok((Verdict::Refused(*fault), Renewal::Same)),
@@ -108,7 +110,8 @@ impl Fleet {
         requires transfer { finished.now.transfer ≡ transfer_for job.now }
         requires same { outcome finished.now.transfer finished.now.octets ≡ up_to_date }
         ensures verdict { IfOk result (λ r. r.0 ≡ verdict_of self.now job.now finished.now.octets) }
-        ensures renewed { IfOk result (λ r. renewed_by r.1 ≡ renewed_for self.now job.now finished.now.octets r.0) }
+        ensures renewed { IfOk result
+            (λ r. renewed_by r.1 ≡ renewed_for self.now job.now finished.now.octets r.0) }
     {
         let (_, renewal) = self.take(alloc, job, finished)?;
         let verdict = Verdict::Confirmed {
@@ -131,7 +134,8 @@ impl Fleet {
         requires transfer { finished.now.transfer ≡ transfer_for job.now }
         requires new { outcome finished.now.transfer finished.now.octets ≡ new version.now }
         ensures verdict { IfOk result (λ r. r.0 ≡ verdict_of self.now job.now finished.now.octets) }
-        ensures renewed { IfOk result (λ r. renewed_by r.1 ≡ renewed_for self.now job.now finished.now.octets r.0) }
+        ensures renewed { IfOk result
+            (λ r. renewed_by r.1 ≡ renewed_for self.now job.now finished.now.octets r.0) }
     {
         let standing = standing_of(finished, version);
         if !self.approves(job.zone(), standing) {
@@ -148,7 +152,8 @@ impl Fleet {
 
     /// Whether the policy of a zone accepts a new version of this standing.
     fn approves(&self, zone: &Name, standing: Standing) -> bool
-        ensures { result ≡ option_map_or (λ p. accepts p standing) (policy_at (state_of self.now) zone.now) false }
+        ensures { result ≡ option_map_or (λ p. accepts p standing)
+            (policy_at (state_of self.now) zone.now) false }
     {
         match self.holdings.policy(zone) {
             None => false,
@@ -166,9 +171,11 @@ impl Fleet {
         requires flying { IsFlying self.now job.now }
         requires standing { ended_of self.now job.now ≡ None }
         requires transfer { finished.now.transfer ≡ transfer_for job.now }
-        ensures aftermath { IfOk result (λ r. r.0 ≡ aftermath_of (state_of self.now) job.now.flight.zone
+        ensures aftermath { IfOk result
+            (λ r. r.0 ≡ aftermath_of (state_of self.now) job.now.flight.zone
             (outcome finished.now.transfer finished.now.octets)) }
-        ensures renewed { IfOk result (λ r. renewed_by r.1 ≡ renewal_for self.now job.now finished.now.octets r.0) }
+        ensures renewed { IfOk result
+            (λ r. renewed_by r.1 ≡ renewal_for self.now job.now finished.now.octets r.0) }
     {
         // what is known of a job is known of its moment
         job.held();
@@ -186,7 +193,10 @@ impl Fleet {
     ) -> Result<Renewal, AllocError>
         requires config { holdings.fold.config ≡ (state_of self.now).fold.config }
         ensures { IfOk result (λ r. renewed_by r
-            ≡ Some record { state = holdings; values = values_for (state_of self.now) self.now.values holdings aftermath.now }) }
+            ≡ Some record {
+              state = holdings;
+              values = values_for (state_of self.now) self.now.values holdings aftermath.now;
+            }) }
     {
         match aftermath {
             Aftermath::Member => Ok(Renewal::Taken(holdings)),

@@ -33,9 +33,20 @@ impl Model for Holdings {
 
     ghost Value = { State };
 
-    ghost view = { λ h. record { fold = h.fold.value; versions = h.versions.items; table = h.table.value; count = h.count } };
+    ghost view = { λ h. record {
+      fold = h.fold.value;
+      versions = h.versions.items;
+      table = h.table.value;
+      count = h.count;
+    } };
 
-    ghost invariant = { λ h. IsState record { fold = h.fold.value; versions = h.versions.items; table = h.table.value; count = h.count } };
+    ghost invariant = { λ h. IsState
+        record {
+          fold = h.fold.value;
+          versions = h.versions.items;
+          table = h.table.value;
+          count = h.count;
+        } };
 }
 
 impl Holdings {

@@ -151,7 +151,8 @@ impl Holdings {
 
     /// With other members and their table, one entry later.
     fn with_members(self, alloc: Global, fold: Fold, table: Table) -> Result<Holdings, AllocError>
-        requires state { IsState (record self { fold = fold; table = table; count = self.count + 1 }) }
+        requires state { IsState (record self
+            { fold = fold; table = table; count = self.count + 1 }) }
         requires room { self.count + 1 < 2 ^ 64 }
         ensures { IfOk result (λ h. h ≡ counted (record self { fold = fold; table = table })) }
     {
@@ -184,7 +185,8 @@ impl Holdings {
     ) -> Result<Holdings, AllocError>
         requires moment { moment < 2 ^ 40 }
         requires room { self.now.count + 1 < 2 ^ 64 }
-        ensures { IfOk result (λ h. h ≡ counted (member_after self.now zone.now moment up_to_date)) }
+        ensures { IfOk result (λ h. h
+            ≡ counted (member_after self.now zone.now moment up_to_date)) }
     {
         match self.table.get(zone) {
             None => Ok(self.share(alloc)?.counted()),

@@ -39,9 +39,14 @@ impl Model for Index {
 
     ghost Value = { Rows };
 
-    ghost view = { λ i. record { octets = i.octets.items; bounds = i.bounds.items; firsts = i.firsts.items } };
+    ghost view = { λ i. record {
+      octets = i.octets.items;
+      bounds = i.bounds.items;
+      firsts = i.firsts.items;
+    } };
 
-    ghost invariant = { λ i. IsKept (record { octets = i.octets.items; bounds = i.bounds.items; firsts = i.firsts.items }) };
+    ghost invariant = { λ i. IsKept
+        (record { octets = i.octets.items; bounds = i.bounds.items; firsts = i.firsts.items }) };
 }
 
 impl Index {
@@ -73,7 +78,8 @@ impl Index {
     pub fn with(self, name: &NameRef<'_>) -> Result<Index, AllocError>
         requires few { total self < 250000 }
         ensures total { IfOk result (λ i. total i ≡ total self + 1) }
-        ensures index { (owners : List Name) → IsIndex owners self → IsLast name.now owners → IfOk result (IsIndex (owners ++ name.now ∷ [])) }
+        ensures index { (owners : List Name) → IsIndex owners self → IsLast name.now owners
+            → IfOk result (IsIndex (owners ++ name.now ∷ [])) }
     {
         let mut key = SortKey::empty();
         self.with_key(name, &mut key)
@@ -83,7 +89,8 @@ impl Index {
     pub fn with_key(self, name: &NameRef<'_>, key: &mut SortKey) -> Result<Index, AllocError>
         requires few { total self < 250000 }
         ensures total { IfOk result (λ i. total i ≡ total self + 1) }
-        ensures index { (owners : List Name) → IsIndex owners self → IsLast name.now owners → IfOk result (IsIndex (owners ++ name.now ∷ [])) }
+        ensures index { (owners : List Name) → IsIndex owners self → IsLast name.now owners
+            → IfOk result (IsIndex (owners ++ name.now ∷ [])) }
     {
         let _ = &self.firsts;
         key.set(name);
@@ -99,8 +106,10 @@ impl Index {
     pub fn put(&mut self, name: &NameRef<'_>, key: &mut SortKey) -> Result<Ordering, AllocError>
         requires few { total self.old < 250000 }
         ensures total { IfOk result (λ o. is_gt o ≡ false → total self.new ≡ total self.old + 1) }
-        ensures order { (owners : List Name) → IsIndex owners self.old → IfOk result (λ o. o ≡ order_behind owners name.now) }
-        ensures index { (owners : List Name) → IsIndex owners self.old → IfOk result (λ o. is_gt o ≡ false → IsIndex (owners ++ name.now ∷ []) self.new) }
+        ensures order { (owners : List Name) → IsIndex owners self.old
+            → IfOk result (λ o. o ≡ order_behind owners name.now) }
+        ensures index { (owners : List Name) → IsIndex owners self.old
+            → IfOk result (λ o. is_gt o ≡ false → IsIndex (owners ++ name.now ∷ []) self.new) }
     {
         let _ = &self.firsts;
         key.set(name);
@@ -116,7 +125,8 @@ impl Index {
     /// How many owners come before a name in canonical order, which is the place of its first record.
     pub fn first_of<L: Ledger>(&self, name: &Name, steps: &mut Steps<L>) -> usize
         ensures within { result ≤ total self.now }
-        ensures place { (owners : List Name) → IsIndex owners self.now → IsFirstOf name.now owners result }
+        ensures place { (owners : List Name) → IsIndex owners self.now
+            → IsFirstOf name.now owners result }
         ensures cost { IsSearch (count self.now) (steps.new - steps.old) }
         ensures counted { steps.old ≤ steps.new }
     {
@@ -129,8 +139,10 @@ impl Index {
     pub fn run_of<L: Ledger>(&self, name: &NameRef<'_>, steps: &mut Steps<L>) -> Run
         ensures begins { result.begin ≤ total self.now }
         ensures ends { result.end ≤ total self.now }
-        ensures begin { (owners : List Name) → IsIndex owners self.now → IsFirstOf name.now owners result.begin }
-        ensures end { (owners : List Name) → IsIndex owners self.now → IsEndOf name.now owners result.end }
+        ensures begin { (owners : List Name) → IsIndex owners self.now
+            → IsFirstOf name.now owners result.begin }
+        ensures end { (owners : List Name) → IsIndex owners self.now
+            → IsEndOf name.now owners result.end }
         ensures cost { TakesAtMost (total self.now) (steps.new - steps.old) }
         ensures counted { steps.old ≤ steps.new }
     {
@@ -201,7 +213,8 @@ impl Index {
     /// Whether there is an owner of this number and it has this key.
     fn has_key<L: Ledger>(&self, number: usize, key: &[u8], steps: &mut Steps<L>) -> bool
         requires { number ≤ count self.now }
-        ensures value { result ≡ (nat_lt number (count self.now) && is_eq (compared (key_at self.now number) key.now)) }
+        ensures value { result ≡ (nat_lt number (count self.now)
+            && is_eq (compared (key_at self.now number) key.now)) }
         ensures counted { steps.old ≤ steps.new }
         ensures once { steps.new ≤ steps.old + 1 }
     {
@@ -234,7 +247,8 @@ impl Index {
 
     /// Whether the last key is this one.
     fn ends_in(&self, key: &[u8]) -> bool
-        ensures { result ≡ (nat_lt 0 (count self.now) && bytes_eq (key_at self.now (count self.now - 1)) key.now) }
+        ensures { result ≡ (nat_lt 0 (count self.now)
+            && bytes_eq (key_at self.now (count self.now - 1)) key.now) }
     {
         let count = self.len();
         0 < count && self.key(count - 1) == key

@@ -32,9 +32,18 @@ impl Model for Slot {
 
     ghost Value = { SlotOf };
 
-    ghost view = { λ s. record { zone = s.zone; refreshed = s.refreshed; version = option_map arc_value s.version } };
+    ghost view = { λ s. record {
+      zone = s.zone;
+      refreshed = s.refreshed;
+      version = option_map arc_value s.version;
+    } };
 
-    ghost invariant = { λ s. IsSlot record { zone = s.zone; refreshed = s.refreshed; version = option_map arc_value s.version } };
+    ghost invariant = { λ s. IsSlot
+        record {
+          zone = s.zone;
+          refreshed = s.refreshed;
+          version = option_map arc_value s.version;
+        } };
 }
 
 impl Slot {
@@ -51,7 +60,12 @@ impl Slot {
     ) -> Result<Slot, AllocError>
         requires moment { refreshed < 2 ^ 40 }
         requires apex { ForSome version (λ v. v.value.apex ≡ zone.now) }
-        ensures { IfOk result (λ slot. slot ≡ record { zone = zone.now; refreshed = refreshed; version = option_map arc_value version }) }
+        ensures { IfOk result (λ slot. slot
+            ≡ record {
+              zone = zone.now;
+              refreshed = refreshed;
+              version = option_map arc_value version;
+            }) }
     {
         Ok(Slot {
             zone: KeptName::of(alloc, &zone.as_ref())?,

@@ -91,7 +91,8 @@ impl Table {
     ) -> Result<Table, AllocError>
         ensures value { IfOk result (λ t. t ≡ put self.now slot) }
         ensures own { IfOk result (λ t. slot_of slot.zone t ≡ Some slot) }
-        ensures others { IfOk result (λ t. (zone : Name) → zone ≢ slot.zone → slot_of zone t ≡ slot_of zone self.now) }
+        ensures others { IfOk result
+            (λ t. (zone : Name) → zone ≢ slot.zone → slot_of zone t ≡ slot_of zone self.now) }
         ensures cost { steps.new ≤ steps.old + 256 + (length self.now / 64 + 1) }
     {
         let slots = self.slots.with(alloc, slot, steps)?;
@@ -108,7 +109,8 @@ impl Table {
     ) -> Result<Table, AllocError>
         ensures value { IfOk result (λ t. t ≡ without self.now zone.now) }
         ensures own { IfOk result (λ t. slot_of zone.now t ≡ None) }
-        ensures others { IfOk result (λ t. (other : Name) → other ≢ zone.now → slot_of other t ≡ slot_of other self.now) }
+        ensures others { IfOk result
+            (λ t. (other : Name) → other ≢ zone.now → slot_of other t ≡ slot_of other self.now) }
         ensures cost { steps.new ≤ steps.old + 256 + (length self.now / 64 + 1) }
     {
         let slots = self.slots.without(alloc, &ZoneKey::of(zone), steps)?;

@@ -55,7 +55,8 @@ pub(crate) fn index_rising(alloc: Global, records: &[Rr]) -> Result<Option<Index
 /// Whether the record at a place comes behind the one in front of it, as the first does, by the order of their owners.
 fn rises_at(owners: Ordering, records: &[Rr], place: usize) -> bool
     requires within { place < length records.now }
-    requires owners { owners ≡ order_behind (take place (owners_of records.now)) (slice_index_or (owners_of records.now) place []) }
+    requires owners { owners ≡ order_behind (take place (owners_of records.now))
+        (slice_index_or (owners_of records.now) place []) }
     ensures order { IsTrue result → is_gt owners ≡ false }
     ensures rises { IsTrue result → RisesAt records.now place }
 {
@@ -67,7 +68,8 @@ fn rises_at(owners: Ordering, records: &[Rr], place: usize) -> bool
 
 /// Whether a name below the apex owns an NS record.
 pub(crate) fn has_cuts(apex: &Name, records: &[Rr]) -> bool
-    ensures { result ≡ list_any (λ r. r.kind == TYPE_NS && not (same_name r.owner apex.now)) records.now }
+    ensures { result ≡ list_any
+        (λ r. r.kind == TYPE_NS && not (same_name r.owner apex.now)) records.now }
 {
     records.iter().any(|record| record.kind() == TYPE_NS && !record.is_owned_by(apex))
 }

@@ -46,7 +46,9 @@ pub(crate) fn comes_before(owners: Ordering, a: &Rr, b: &Rr) -> bool
 /// stay as they are, at the cost of one pass. Where memory is wanting, the records stay as they were.
 pub(crate) fn tidy(records: &mut Vec<Rr>) -> Result<(), AllocError>
     ensures rises { OnOk result (IsStrictlySortedBy record_order records.new.items) }
-    ensures value { MatchResult result (λ _. records.new.items ≡ in_order (distinct records.old.items)) (λ _. records.new.items ≡ records.old.items) }
+    ensures value { MatchResult result
+        (λ _. records.new.items ≡ in_order (distinct records.old.items))
+        (λ _. records.new.items ≡ records.old.items) }
 {
     if rises(records) {
         return Ok(());

@@ -147,7 +147,8 @@ fn cname_beside(records: &[Rr]) -> bool
 
 /// Whether two neighbours clash, RRSIG and NSEC left out behind the first.
 fn clash_from(first: &Rr, rest: &[Rr]) -> bool
-    ensures { result ≡ neighbours_from clash first.now (filter (λ r. not (is_beside_any r.kind)) rest.now) }
+    ensures { result ≡ neighbours_from clash first.now
+        (filter (λ r. not (is_beside_any r.kind)) rest.now) }
 {
     let mut last = first;
     'records: for record in rest {
