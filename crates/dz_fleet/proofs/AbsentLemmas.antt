@@ -6,13 +6,17 @@ use Rattle.std.specs.List.{list_any}
 use Rattle.std.specs.Str.{bytes_eq}
 use Rattle.std.specs.Cmp.{unsigned_Decides}
 use Rattle.std.proofs.lemmas.Bool.{cases_Bool}
-use Rattle.std.proofs.lemmas.Bool.Decides.{Decides-and}
+use Rattle.std.proofs.lemmas.Bool.Decides.{Decides-and, same_from_decides}
 use Rattle.std.proofs.lemmas.List.{take_more, get_or_default}
 use Rattle.std.proofs.lemmas.Slice.Eq.{bytes_eq-Decides}
-use Rattle.dz_name.specs.Name.{same_name}
+use Rattle.dz_name.specs.Name.{same_name, wire_of, labels_in}
 use Rattle.dz_name.specs.Order.{same_decides}
+use Rattle.dz_name.proofs.KeptLemmas.{labels_in-wire_of}
+use Rattle.dz_name.proofs.PartLemmas.{count_small}
 use Rattle.dz_io.specs.declared.peer.Peer.{Peer}
-use Rattle.dz_record.specs.Record.{Record, same_record}
+use Rattle.dz_record.specs.Record.{Record, IsRecord, same_record, record_octets, octets_behind_owner}
+use Rattle.dz_record.specs.inner.Kept.{record_in}
+use Rattle.dz_record.proofs.KeptLemmas.{record_back}
 use Rattle.dz_zone.specs.Version.{Zone}
 use Rattle.dz_take.specs.declared.ask.Ask.{Ask}
 use Rattle.dz_take.specs.declared.ask.Ask.TheVariants.{Axfr, Ixfr}
@@ -98,6 +102,36 @@ copy_decides a b =
     (unsigned_Decides a.ttl b.ttl))
     (λ p. record_is a b p.0.0 p.0.1.0 p.0.1.1 p.1)
     (λ e. ((ap (λ (x : Record). x.owner) e, (ap (λ (x : Record). x.kind) e, ap (λ (x : Record). x.rdata) e)), ap (λ (x : Record). x.ttl) e))
+
+owner_in : (r : Record) → IsRecord r → labels_in 255 (record_octets r) ≡ r.owner
+owner_in r is = labels_in-wire_of r.owner 255 (octets_behind_owner r) is.owner.each (count_small r.owner is.owner)
+
+-- two records of one type and of the same octets are one
+octets_tell : (a b : Record) → IsRecord a → IsRecord b → a.kind ≡ b.kind → record_octets a ≡ record_octets b → a ≡ b
+octets_tell a b is_a is_b k e =
+    let n = length (wire_of a.owner) in
+    let owner : a.owner ≡ b.owner = sym (owner_in a is_a) ∙ (ap (λ o. labels_in 255 o) e ∙ owner_in b is_b) in
+    let back : record_in (record_octets a) n b.kind ≡ b = record_back b (record_octets a) n is_b e (ap (λ o. length (wire_of o)) owner) in
+    sym (record_back a (record_octets a) n is_a refl refl) ∙ (ap (λ kind. record_in (record_octets a) n kind) k ∙ back)
+
+pub octets_told : (a b : Record) (xs ys : List ℕ) (octets : Bool) → IsRecord a → IsRecord b → xs ≡ record_octets a → ys ≡ record_octets b
+    → a.kind ≡ b.kind → octets ≡ bytes_eq xs ys → octets ≡ is_copy a b
+octets_told a b xs ys octets is_a is_b x y k o =
+    let same_octets : octets ≡ bytes_eq (record_octets a) (record_octets b) = o ∙ (ap (λ zs. bytes_eq zs ys) x ∙ ap (λ zs. bytes_eq (record_octets a) zs) y) in
+    same_from_decides octets (is_copy a b)
+    (by_parts octets
+    (rw same_octets (bytes_eq-Decides (record_octets a) (record_octets b)))
+    (λ e. octets_tell a b is_a is_b k e)
+    (λ e. ap (λ (r : Record). record_octets r) e))
+    (copy_decides a b)
+
+pub kinds_told : (a b : Record) (x y : ℕ) → x ≡ a.kind → y ≡ b.kind → (x ≡ y → ⊥) → (x == y) ≡ is_copy a b
+kinds_told a b x y p q apart =
+    same_from_decides (x == y) (is_copy a b)
+    (by_parts (x == y) (unsigned_Decides x y)
+    (λ e. absurd (apart e))
+    (λ e. p ∙ (ap (λ (r : Record). r.kind) e ∙ sym q)))
+    (copy_decides a b)
 
 pub same_more : (a b : List Record) (k : ℕ) (d : Record) → k < length a → length a ≡ length b → take k a ≡ take k b → get_or a k d ≡ get_or b k d → take (k + 1) a ≡ take (k + 1) b
 same_more a b k d lt same front at = rw (take_more a k d lt, take_more b k d (rw (← same) lt), front, at) refl
