@@ -10,4 +10,4 @@ mod reading;
 
 pub use fault::CatalogError;
 pub use laws::order_is_free;
-pub use listing::read_listing;
+pub use listing::{read_listing, read_listing_after};

@@ -21,15 +21,31 @@ use std::alloc::Global;
 pub fn read_listing(alloc: Global, version: &Version) -> Result<Listing, CatalogError>
     ensures { Reads result (listing_of version.now.apex version.now.records) }
 {
+    read_listing_after(alloc, version, None)
+}
+
+/// The same, in less time where most of the nodes stand at their labels in a listing before.
+pub fn read_listing_after(
+    alloc: Global,
+    version: &Version,
+    before: Option<&Listing>,
+) -> Result<Listing, CatalogError>
+    ensures { Reads result (listing_of version.now.apex version.now.records) }
+{
     match broken_records(version) {
         Some(broken) => Err(CatalogError::Broken(broken)),
-        None => read_nodes(alloc, &version.apex().to_name(), version.records()),
+        None => read_nodes(alloc, &version.apex().to_name(), version.records(), before),
     }
 }
 
 /// The listing of records that no reason breaks but for the number of members and the zones. Nodes that aren't too many
 /// make no listing only where two name one zone.
-fn read_nodes(alloc: Global, apex: &Name, records: &[Rr]) -> Result<Listing, CatalogError>
+fn read_nodes(
+    alloc: Global,
+    apex: &Name,
+    records: &[Rr],
+    before: Option<&Listing>,
+) -> Result<Listing, CatalogError>
     requires sorted { IsStrictlySortedBy record_order records.now }
     requires unbroken { broken_records apex.now records.now ≡ by_count apex.now records.now }
     ensures { Reads result (listing_of apex.now records.now) }
@@ -38,7 +54,7 @@ fn read_nodes(alloc: Global, apex: &Name, records: &[Rr]) -> Result<Listing, Cat
     if Listing::NODES < nodes.len() {
         return Err(CatalogError::Broken(Broken::TooManyMembers));
     }
-    match Listing::try_from_vec(alloc, nodes)? {
+    match Listing::try_from_vec_after(alloc, nodes, before)? {
         None => Err(CatalogError::Broken(Broken::ZoneTwice)),
         Some(listing) => Ok(listing),
     }

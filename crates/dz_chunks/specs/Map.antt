@@ -1,14 +1,10 @@
 -- Meaning: a finite map as its entries in ascending order of their keys. `find`, `put` and `is_sorted` are those of the
 -- standard library.
-use Rattle.std.specs.Prelude.{not, Bool, List, filter, map, Option, None}
+use Rattle.std.specs.Prelude.{not, Bool, List, filter, Option, None}
 use Rattle.std.specs.List.{last_or}
 use Rattle.std.specs.Ordering.{eq_by_cmp, is_gt}
 use Rattle.std.specs.FinMap.Entries.{where_key}
 use Rattle.std.specs.declared.cmp.Ordering.{Ordering}
-
--- values, each behind its key
-abbrev pub keyed : {K X : Type 0} → (X → K) → List X → List (K × X)
-keyed key values = map (λ value. (key value, value)) values
 
 module _ {K X : Type 0} (R : K → K → Ordering) where
   -- the map without its entry at a key, if it has one

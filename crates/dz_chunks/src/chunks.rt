@@ -3,11 +3,11 @@
 ghost use Rattle.std.specs.Prelude.{◌≡◌, ℕ, ◌+◌, ◌-◌, ◌*◌, ◌/◌, ◌^◌, ◌<◌, ◌≤◌, List, [], ◌∷◌, ◌++◌, length, map, T, IfOk, min, IsTrue};
 ghost use Rattle.std.specs.FinMap.{is_sorted, find, put};
 ghost use Rattle.std.specs.Option.{option_map};
-ghost use Rattle.dz_chunks.specs.Map.{keyed, last_upto, without_key};
+ghost use Rattle.dz_chunks.specs.Map.{last_upto, without_key};
 ghost use Rattle.dz_chunks.specs.inner.Chunked.{flat, IsChunked};
 
 use crate::chunk::{Chunk, chunk_for, count_entries, last_among, push_chunk, value_among};
-use crate::cutting::{cut, entries_of};
+use crate::cutting::cut;
 use crate::entries::{with_entry, without_entry};
 use crate::entry::Entry;
 use crate::joins::rebuilt;
@@ -104,17 +104,6 @@ impl<K: Lead + Copy, V: Keyed<K>> Chunks<K, V> {
         Chunks {
             chunks: Vec::new(alloc),
         }
-    }
-
-    /// The map of values in ascending order of their keys, no two of one key, made in one pass over them.
-    pub fn from_sorted(alloc: Global, values: Vec<V>) -> Result<Chunks<K, V>, AllocError>
-    where
-        V: Drop,
-        requires { IsTrue (is_sorted K.cmp (keyed V.key values.items)) }
-        ensures { IfOk result (λ map. map ≡ keyed V.key values.items) }
-    {
-        let chunks = cut(alloc, entries_of(alloc, values)?)?;
-        Ok(Chunks { chunks })
     }
 
     /// The map of entries in ascending order of their keys, no two of one key, made in one pass over them.

@@ -1,7 +1,6 @@
 //! Chunks of many entries at once.
 
-ghost use Rattle.std.specs.Prelude.{◌≡◌, ◌≤◌, [], ◌++◌, length, map, reverse, OnOk, IfOk};
-ghost use Rattle.dz_chunks.specs.Map.{keyed};
+ghost use Rattle.std.specs.Prelude.{◌≡◌, ◌≤◌, [], ◌++◌, length, reverse, OnOk, IfOk};
 ghost use Rattle.dz_chunks.specs.inner.Chunked.{flat, AreChunks, AreFull};
 
 use crate::chunk::{CHUNK, Chunk, push_chunk};
@@ -10,20 +9,6 @@ use crate::keyed::Keyed;
 use crate::lead::Lead;
 use std::alloc::{AllocError, Global};
 use std::sync::Arc;
-
-/// Values as entries, each behind its key.
-pub(crate) fn entries_of<K: Lead + Copy, V: Keyed<K> + Drop>(
-    alloc: Global,
-    values: Vec<V>,
-) -> Result<Vec<Entry<K, V>>, AllocError>
-    ensures { IfOk result (λ entries. entries.items ≡ keyed V.key values.items) }
-{
-    let mut entries = Vec::with_capacity(alloc, values.len())?;
-    'values: for value in values {
-        entries.push(Entry::new(alloc, value)?)?;
-    }
-    Ok(entries)
-}
 
 /// Entries cut into chunks: from the end on full ones, and in front those that are left.
 pub(crate) fn cut<K: Lead + Copy, V: Keyed<K> + Drop>(

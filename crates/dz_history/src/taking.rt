@@ -17,7 +17,7 @@ use crate::held::{share_all, with_version};
 use crate::holdings::Holdings;
 use crate::relisting::table_after;
 use crate::slots::table_with;
-use dz_catalog::{CatalogError, read_listing};
+use dz_catalog::{CatalogError, read_listing_after};
 use dz_member::{Fold, Listing};
 use dz_name::Name;
 use dz_table::{Slot, Table};
@@ -100,7 +100,7 @@ impl Holdings {
         ensures aftermath { IfOk result (λ r. r.1
             ≡ catalog_aftermath self.now catalog.now (new version.value)) }
     {
-        let listing = read_listing(alloc, &version);
+        let listing = read_listing_after(alloc, &version, self.fold.listing(number));
         let holding = self.with_version(alloc, number, version)?;
         match listing {
             Ok(listing) => holding.relisted(alloc, catalog, listing),

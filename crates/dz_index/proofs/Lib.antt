@@ -1,4 +1,5 @@
 pub mod KeyLemmas
 pub mod SearchLemmas
 pub mod OrderLemmas
+pub mod OwnerKeyLemmas
 pub mod AddingLemmas

@@ -12,7 +12,7 @@ use Rattle.std.proofs.lemmas.Nat.{mul-le}
 use Rattle.std.proofs.Math.Pow.{pow_mono}
 use Rattle.std.proofs.lemmas.Grind.{pow_more}
 use Rattle.dz_index.specs.SortKey.{key_of}
-use Rattle.dz_index.specs.Index.{IsFirstOf, IsEndOf, TakesAtMost}
+use Rattle.dz_index.specs.Index.{IsFirstOf, IsEndOf, IsRun, TakesAtMost}
 use Rattle.std.specs.FinMap.{slice_cmp-IsAntisymmetric, nat_cmp-IsAntisymmetric}
 use Rattle.dz_name.specs.Name.{canonical_order}
 use Rattle.dz_index.specs.inner.Rows.{Rows, compared, key_at, count, IsIndex, AreRising, IsPlaceAmong}
@@ -154,6 +154,37 @@ module _ (name : List (List ℕ)) (owners : List (List (List ℕ))) (r : Rows) (
       | inr le ↦ let e : found ≡ count r = omega arith in let f : slice_index r.firsts (count r) ≤ j = rw e at h in absurd (omega (arith, index.total_is))
     ],
   )
+
+-- the run of the owner of a number
+equal_is : (o : Ordering) → is_le o ≡ true → is_lt o ≡ false → o ≡ Equal
+equal_is Less h m = absurd (false≢true (sym m))
+equal_is Equal h m = refl
+equal_is Greater h m = absurd (false≢true h)
+
+module _ (owners : List (List (List ℕ))) (r : Rows) (number : ℕ) (index : IsIndex owners r) (within : number < count r) (ends : slice_index r.firsts (number + 1) ≤ length owners) where
+  own_key : (d : List (List ℕ)) → key_at r number ≡ key_of (get_or owners (slice_index r.firsts number) d)
+  own_key d =
+      let j = slice_index r.firsts number in
+      let k = key_of (get_or owners j d) in
+      let grow = index.grow number within in
+      sym (slice_cmp-IsAntisymmetric nat_cmp-IsAntisymmetric k (key_at r number) (equal_is (compared k (key_at r number)) (index.upto number j d within grow) (index.behind number j d within (omega arith) (omega (arith, grow, ends)))))
+
+  own_place : (d : List (List ℕ)) → IsPlaceAmong (key_of (get_or owners (slice_index r.firsts number) d)) r number
+  own_place d =
+      let key = key_of (get_or owners (slice_index r.firsts number) d) in
+      let same : key_at r number ≡ key = own_key d in
+      record {
+        before = λ i lt. ap is_lt (rw same at (index.rise i number lt within));
+        behind = λ i le lt. behind_more r key number index.rise (rw same (ap is_lt (tied_itself nat_list_cmp_total key))) i le lt;
+      }
+
+  pub run_is : IsRun owners (slice_index r.firsts number) (slice_index r.firsts (number + 1))
+  run_is = record {
+    some = index.grow number within;
+    within = ends;
+    first = λ d. first_place (get_or owners (slice_index r.firsts number) d) owners r (key_of (get_or owners (slice_index r.firsts number) d)) number (slice_index r.firsts number) refl index (own_place d) (omega (arith, within)) refl;
+    last = λ d. end_of_owner (get_or owners (slice_index r.firsts number) d) owners r (key_of (get_or owners (slice_index r.firsts number) d)) number refl index (own_key d) within;
+  }
 
 -- a search and one comparison more
 pub takes_at_most : (n m t taken : ℕ) → n ≤ m → 2 ^ t ≤ 2 * n + 1 → taken ≤ t + 1 → TakesAtMost m taken

@@ -19,6 +19,13 @@ abbrev pub IsEndOf : Name → List Name → ℕ → Type 0
 IsEndOf name owners place =
     IsPartitionPoint (λ owner. is_le (canonical_order owner name) ≡ true) (λ owner. is_le (canonical_order owner name) ≡ false) owners place
 
+-- from one place up to another stands one owner, which stands nowhere else
+pub record IsRun (owners : List Name) (begin end : ℕ) : Type 0 where
+  pub some : begin < end
+  pub within : end ≤ length owners
+  pub first : (d : Name) → IsFirstOf (slice_index_or owners begin d) owners begin
+  pub last : (d : Name) → IsEndOf (slice_index_or owners begin d) owners end
+
 -- no owner comes behind the name
 abbrev pub IsLast : Name → List Name → Type 0
 IsLast name owners = (at : ℕ) (d : Name) → at < length owners → is_le (canonical_order (slice_index_or owners at d) name) ≡ true

@@ -1,2 +1,3 @@
 -- Inner: how the code keeps an index.
+pub mod Above
 pub mod Rows

@@ -1,12 +1,13 @@
 //! An index of owners.
 
-ghost use Rattle.std.specs.Prelude.{◌≡◌, ℕ, ◌+◌, ◌-◌, ◌*◌, ◌<◌, ◌≤◌, List, [], ◌∷◌, ◌++◌, length, IfOk, slice_index, nat_lt, ◌&&◌, false, OnOk};
+ghost use Rattle.std.specs.Prelude.{◌≡◌, ◌↔◌, ℕ, ◌+◌, ◌-◌, ◌*◌, ◌<◌, ◌≤◌, List, [], ◌∷◌, ◌++◌, length, None, IfOk, IfSome, slice_index, nat_lt, ◌&&◌, false, true, OnOk, OnErr};
 ghost use Rattle.std.specs.Str.{bytes_eq};
 ghost use Rattle.std.specs.Ordering.{is_eq, is_gt};
 ghost use Rattle.dz_name.specs.Words.{Name};
-ghost use Rattle.dz_index.specs.Index.{IsFirstOf, IsEndOf, IsLast, InOrder, order_behind, IsSearch, TakesAtMost};
+ghost use Rattle.dz_index.specs.Index.{IsFirstOf, IsEndOf, IsRun, IsLast, InOrder, order_behind, IsSearch, TakesAtMost};
 ghost use Rattle.dz_index.specs.inner.Rows.{count, total, key_at, compared, IsIndex, AreRising, IsPlaceAmong, repeated, added, last_compared};
 
+use crate::owner_key::OwnerKey;
 use crate::sort_key::SortKey;
 use dz_name::{Name, NameRef};
 use dz_steps::Steps;
@@ -27,9 +28,10 @@ pub struct Index {
     firsts: Vec<u32>,
 }
 
-/// A run of records: from one place up to another.
+/// A run of records: from one place up to another, and the number of its owner, which is how many owners stand in front.
 #[derive(Clone, Copy, Debug, PartialEq, Eq)]
 pub struct Run {
+    pub number: usize,
     pub begin: usize,
     pub end: usize,
 }
@@ -102,14 +104,17 @@ impl Index {
     }
 
     /// One more owner behind the others, or the last one once more, in place; and how the last one stands beside it,
-    /// which is before it where there is none. An owner that comes before the last one isn't added.
-    pub fn put(&mut self, name: &NameRef<'_>, key: &mut SortKey) -> Result<Ordering, AllocError>
+    /// which is before it where there is none. An owner that comes before the last one isn't added, nor is one where
+    /// memory is wanting.
+    pub fn put(&mut self, name: &NameRef<'_>, key: &mut OwnerKey) -> Result<Ordering, AllocError>
         requires few { total self.old < 250000 }
         ensures total { IfOk result (λ o. is_gt o ≡ false → total self.new ≡ total self.old + 1) }
         ensures order { (owners : List Name) → IsIndex owners self.old
             → IfOk result (λ o. o ≡ order_behind owners name.now) }
         ensures index { (owners : List Name) → IsIndex owners self.old
             → IfOk result (λ o. is_gt o ≡ false → IsIndex (owners ++ name.now ∷ []) self.new) }
+        ensures kept { IfOk result (λ o. is_gt o ≡ true → self.new ≡ self.old) }
+        ensures wanting { OnErr result (self.new ≡ self.old) }
     {
         let _ = &self.firsts;
         key.set(name);
@@ -143,6 +148,8 @@ impl Index {
             → IsFirstOf name.now owners result.begin }
         ensures end { (owners : List Name) → IsIndex owners self.now
             → IsEndOf name.now owners result.end }
+        ensures number { result.number ≤ count self.now }
+        ensures first { result.begin ≡ slice_index self.now.firsts result.number }
         ensures cost { TakesAtMost (total self.now) (steps.new - steps.old) }
         ensures counted { steps.old ≤ steps.new }
     {
@@ -152,12 +159,36 @@ impl Index {
         let begin = self.first(found);
         if self.has_key(found, key, steps) {
             Run {
+                number: found,
                 begin,
                 end: self.end(found),
             }
         } else {
-            Run { begin, end: begin }
+            Run {
+                number: found,
+                begin,
+                end: begin,
+            }
         }
+    }
+
+    /// Where the records of the owner begin and end in front of which so many others stand; none where there aren't as
+    /// many. It takes no comparison.
+    pub fn run_at(&self, number: usize) -> Option<Run>
+        ensures none { (result ≡ None) ↔ (count self.now ≤ number) }
+        ensures number { IfSome result (λ run. run.number ≡ number) }
+        ensures ends { IfSome result (λ run. run.end ≤ total self.now) }
+        ensures run { (owners : List Name) → IsIndex owners self.now
+            → IfSome result (λ run. IsRun owners run.begin run.end) }
+    {
+        if self.len() <= number {
+            return None;
+        }
+        Some(Run {
+            number,
+            begin: self.first(number),
+            end: self.end(number),
+        })
     }
 
     /// How many distinct owners there are.
@@ -299,15 +330,16 @@ impl Index {
     fn add(&mut self, key: &[u8]) -> Result<(), AllocError>
         requires few { total self.old < 250000 }
         requires room { length key.now ≤ 512 }
-        ensures { OnOk result (self.new ≡ added self.old key.now) }
+        ensures value { OnOk result (self.new ≡ added self.old key.now) }
+        ensures wanting { OnErr result (self.new ≡ self.old) }
     {
-        let total = self.firsts[self.firsts.len() - 1];
         let before = self.octets.len();
         self.octets.extend_from_slice(key)?;
         if self.bounds.push(self.octets.len() as u32).is_err() {
             self.octets.truncate(before);
             return Err(AllocError);
         }
+        let total = self.firsts[self.firsts.len() - 1];
         if self.firsts.push(total + 1).is_err() {
             self.octets.truncate(before);
             self.bounds.pop();

@@ -2,7 +2,9 @@
 #![tactic(auto)]
 
 mod index;
+mod owner_key;
 mod sort_key;
 
 pub use index::{Index, OWNERS, Run};
+pub use owner_key::OwnerKey;
 pub use sort_key::SortKey;

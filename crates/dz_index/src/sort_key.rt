@@ -7,7 +7,7 @@ use dz_name::NameRef;
 use std::marker::Model;
 
 /// The most octets of a key: two for each octet of a name in wire form.
-const ROOM: usize = 512;
+pub(crate) const ROOM: usize = 512;
 
 /// The sort key of a name: octets whose order is the canonical order of names (RFC 4034 section 6.1). Contracts see the
 /// octets.

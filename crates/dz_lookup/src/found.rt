@@ -9,7 +9,9 @@ ghost use Rattle.dz_lookup.specs.Runs.{exists};
 ghost use Rattle.dz_lookup.specs.Found.{encloser, cut, source, at_node, at_source, found, meaning, alias_of, HasRecords};
 ghost use Rattle.dz_lookup.specs.inner.Places.{from_owner, IsBegin, IsNodeOf, if_exists, servers_at};
 
-use crate::runs::{Node, exists_at, exists_beside, node_of, of_type};
+use crate::runs::{
+    NEAR, Node, exists_at, exists_beside, node_near, node_of, node_of_wildcard, of_type,
+};
 use dz_name::Name;
 use dz_name::dns::{NAME_OCTETS, TYPE_ANY, TYPE_CNAME, TYPE_NS};
 use dz_record::Rr;
@@ -28,8 +30,17 @@ pub enum Found<'a> {
     NoData,
     /// Neither the name nor a wildcard for it exists.
     NoName,
-    /// The NS records of the zone cut that the name is at or below.
-    Referral(&'a [Rr]),
+    /// The zone cut that the name is at or below.
+    Referral(Delegation<'a>),
+}
+
+/// A zone cut (RFC 1034 section 4.2).
+#[derive(Clone, Copy, Debug)]
+pub struct Delegation<'a> {
+    /// Its NS records, in the order of RDATA.
+    pub servers: &'a [Rr],
+    /// The number in the index of the owner behind it.
+    pub next: usize,
 }
 
 impl<'a> Found<'a> {
@@ -46,7 +57,7 @@ impl<'a> Found<'a> {
 
 /// What a zone says of a name within its apex and a type (RFC 1034 section 4.3.2, RFC 4592); the type ANY asks for all
 /// records. The name is searched once; so is each name between it and the apex where the zone has a cut, and a wildcard
-/// where the name doesn't exist.
+/// where the name doesn't exist, but for those that are found near the name.
 pub fn find<'a, L: Ledger>(
     version: &'a Version,
     name: &Name,
@@ -61,7 +72,7 @@ pub fn find<'a, L: Ledger>(
 {
     let node = node_of(version, &name.as_ref(), steps);
     match cut(version, name, &node, steps) {
-        Some(servers) => Found::Referral(servers),
+        Some(cut) => Found::Referral(cut),
         None => at_source(version, name, &node, kind, steps),
     }
 }
@@ -84,15 +95,17 @@ fn at_source<'a, L: Ledger>(
         return at_node(node.records, kind);
     }
     match wildcard_for(version.records(), name, node.place) {
-        Some(wildcard) => at_wildcard(version, &wildcard, kind, steps),
+        Some(wildcard) => at_wildcard(version, &wildcard, node.number, kind, steps),
         None => Found::NoName,
     }
 }
 
-/// What a wildcard has that answers, where it exists (RFC 4592 section 3.3.1).
+/// What a wildcard has that answers, where it exists (RFC 4592 section 3.3.1). It may stand at the owner of a number in the
+/// index, or in front of that one.
 fn at_wildcard<'a, L: Ledger>(
     version: &'a Version,
     wildcard: &Name,
+    number: usize,
     kind: u16,
     steps: &mut Steps<L>,
 ) -> Found<'a>
@@ -101,7 +114,7 @@ fn at_wildcard<'a, L: Ledger>(
     ensures cost { TakesSearches 1 (length version.now.records) (steps.new - steps.old) }
     ensures counted { steps.old ≤ steps.new }
 {
-    let node = node_of(version, &wildcard.as_ref(), steps);
+    let node = node_of_wildcard(version, &wildcard.as_ref(), number, steps);
     if exists_at(version.records(), node.place, &wildcard.as_ref()) {
         at_node(node.records, kind)
     } else {
@@ -135,10 +148,10 @@ fn cut<'a, L: Ledger>(
     name: &Name,
     node: &Node<'a>,
     steps: &mut Steps<L>,
-) -> Option<&'a [Rr]>
+) -> Option<Delegation<'a>>
     requires within { is_within name.now version.now.apex ≡ true }
     requires node { IsNodeOf version.now.records name.now node.now.place node.now.records.now }
-    ensures cut { option_map (λ r. r.now) result
+    ensures cut { option_map (λ r. r.servers.now) result
         ≡ servers_at version.now.records (cut version.now.apex version.now.records name.now) }
     ensures cost { TakesSearches (length name.now) (length version.now.records)
         (steps.new - steps.old) }
@@ -155,12 +168,23 @@ fn cut<'a, L: Ledger>(
         if !exists_beside(records, node.place, &above) {
             return None;
         }
-        let servers = of_type(node_of(version, &above, steps).records, TYPE_NS);
+        let near = node_near(version, &above, node.number, NEAR, steps);
+        let servers = of_type(near.records, TYPE_NS);
         if !servers.is_empty() {
-            return Some(servers);
+            return Some(cut_at(servers, near.number));
         }
     }
     None
+}
+
+/// The cut of these servers at the owner of a number.
+fn cut_at(servers: &[Rr], number: usize) -> Delegation<'_>
+    ensures { result.servers.now ≡ servers.now }
+{
+    Delegation {
+        servers,
+        next: number.saturating_add(1),
+    }
 }
 
 /// The wildcard that answers for a name that doesn't exist, whether the wildcard exists or not: the one below the name's

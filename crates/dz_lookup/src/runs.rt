@@ -1,21 +1,29 @@
 //! The records of an owner, and those of an owner and a type, found by one search in the index of a version.
 
-ghost use Rattle.std.specs.Prelude.{◌≡◌, ◌&&◌, ◌≤◌, ◌-◌, [], length, take, drop, nat_lt, slice_index_or};
+ghost use Rattle.std.specs.Prelude.{◌≡◌, ◌&&◌, ◌≤◌, ◌-◌, [], length, take, drop, nat_lt, slice_index_or, IfSome};
 ghost use Rattle.std.specs.List.{AllByRecursion};
 ghost use Rattle.std.specs.List.Sorted.{IsStrictlySortedBy, IsNonDecreasingBy};
 ghost use Rattle.dz_name.specs.Name.{is_within};
 ghost use Rattle.dz_record.specs.Record.{Record, record_order};
 ghost use Rattle.dz_lookup.specs.Counted.{TakesSearches};
 ghost use Rattle.dz_lookup.specs.Runs.{of_type, records_of, exists};
-ghost use Rattle.dz_lookup.specs.inner.Places.{from_owner, IsBegin, IsPlaceWithin};
+ghost use Rattle.dz_index.specs.Index.{IsRun};
+ghost use Rattle.dz_zone.specs.Version.{owners_of};
+ghost use Rattle.dz_lookup.specs.inner.Places.{from_owner, IsBegin, IsNodeOf, IsPlaceWithin};
 
+use dz_index::Run;
 use dz_name::dns::{TYPE_A, TYPE_AAAA};
 use dz_name::{Name, NameRef};
 use dz_record::Rr;
 use dz_steps::Steps;
 use dz_zone::Version;
+use std::cmp::Ordering;
 use std::marker::Brand;
 use std::sync::ledger::{Blank, Ledger};
+
+/// How many owners are looked at before a name near another is searched: as many as a zone cut and the addresses below it
+/// often have.
+pub(crate) const NEAR: usize = 5;
 
 /// The records of an owner, in the order of type and RDATA.
 pub fn records_of<'a>(version: &'a Version, name: &Name) -> &'a [Rr]
@@ -57,14 +65,15 @@ impl<'a> Default for Addresses<'a> {
     }
 }
 
-/// The addresses of a name, by one search.
-pub fn addresses_of<'a>(version: &'a Version, name: &Name) -> Addresses<'a>
+/// The addresses of a name. The owner of a number in the index is looked at first; where it isn't the name, the name is
+/// searched once.
+pub fn addresses_of<'a>(version: &'a Version, name: &Name, number: usize) -> Addresses<'a>
     ensures four { result.four.now ≡ of_type TYPE_A (records_of version.now.records name.now) }
     ensures six { result.six.now ≡ of_type TYPE_AAAA (records_of version.now.records name.now) }
     ensures owner_of_four { AllByRecursion (λ r. r.owner ≡ name.now) result.four.now }
     ensures owner_of_six { AllByRecursion (λ r. r.owner ≡ name.now) result.six.now }
 {
-    counted_addresses::<Brand>(Blank::new(1), version, name)
+    counted_addresses::<Brand>(Blank::new(1), version, name, number)
 }
 
 /// The same, counted in a ledger that is still blank.
@@ -97,6 +106,7 @@ fn counted_addresses<'a, L: Ledger>(
     blank: Blank,
     version: &'a Version,
     name: &Name,
+    number: usize,
 ) -> Addresses<'a>
     requires name { blank.name ≡ L.name }
     requires parts { blank.parts ≡ L.parts }
@@ -107,16 +117,18 @@ fn counted_addresses<'a, L: Ledger>(
     ensures owner_of_six { AllByRecursion (λ r. r.owner ≡ name.now) result.six.now }
 {
     let mut steps = Steps::<L>::new(blank);
-    let records = node_of(version, &name.as_ref(), &mut steps).records;
+    let records = node_near(version, &name.as_ref(), number, 1, &mut steps).records;
     Addresses {
         four: of_type(records, TYPE_A),
         six: of_type(records, TYPE_AAAA),
     }
 }
 
-/// The records of an owner, in order, and the place in the zone where they begin or would begin.
+/// The records of an owner, in order, the place in the zone where they begin or would begin, and the number of the owner in
+/// the index, or that of the one that stands there in its place.
 #[derive(Clone, Copy)]
 pub(crate) struct Node<'a> {
+    pub(crate) number: usize,
     pub(crate) place: usize,
     pub(crate) records: &'a [Rr],
 }
@@ -138,9 +150,112 @@ pub(crate) fn node_of<'a, L: Ledger>(
     let records = version.records();
     let run = version.index().run_of(name, steps);
     Node {
+        number: run.number,
         place: run.begin,
         records: between(records, run.begin, run.end),
     }
+}
+
+/// The node of the owner whose records stand in a run of the index.
+fn node_of_run<'a>(version: &'a Version, run: &Run) -> Node<'a>
+    requires { IsRun (owners_of version.now.records) run.now.begin run.now.end }
+    ensures { (d : Record) → IsNodeOf version.now.records
+        (slice_index_or version.now.records run.now.begin d).owner result.place result.records.now }
+{
+    Node {
+        number: run.number,
+        place: run.begin,
+        records: between(version.records(), run.begin, run.end),
+    }
+}
+
+/// The node of a name, where it is the owner of this number; none where it isn't. It takes no search.
+fn node_at<'a>(version: &'a Version, name: &NameRef, number: usize) -> Option<Node<'a>>
+    ensures { IfSome result
+        (λ node. IsNodeOf version.now.records name.now node.place node.records.now) }
+{
+    let run = version.index().run_at(number)?;
+    let records = version.records();
+    if records[run.begin].owner_ref().same(name) {
+        Some(node_of_run(version, &run))
+    } else {
+        None
+    }
+}
+
+/// The node of a name. So many owners are looked at first, from the one of a number to the front.
+pub(crate) fn node_near<'a, L: Ledger>(
+    version: &'a Version,
+    name: &NameRef,
+    number: usize,
+    looks: usize,
+    steps: &mut Steps<L>,
+) -> Node<'a>
+    ensures node { IsNodeOf version.now.records name.now result.place result.records.now }
+    ensures rises { IsStrictlySortedBy record_order version.now.records }
+    ensures cost { TakesSearches 1 (length version.now.records) (steps.new - steps.old) }
+    ensures counted { steps.old ≤ steps.new }
+{
+    version.records();
+    let mut behind = number.saturating_add(1);
+    let first = behind.saturating_sub(looks);
+    'owners: while first < behind {
+        behind -= 1;
+        if let Some(node) = node_at(version, name, behind) {
+            return node;
+        }
+    }
+    node_of(version, name, steps)
+}
+
+/// The node of a name, where it stands or would stand behind the records of the first owner, which is the apex; none
+/// where it doesn't. It takes no search.
+fn node_behind_apex<'a>(version: &'a Version, name: &NameRef) -> Option<Node<'a>>
+    ensures { IfSome result
+        (λ node. IsNodeOf version.now.records name.now node.place node.records.now) }
+{
+    let run = version.index().run_at(1)?;
+    let records = version.records();
+    if run.begin == 0
+        || !records[run.begin - 1]
+            .owner_ref()
+            .canonical_cmp(name)
+            .is_lt()
+    {
+        return None;
+    }
+    match records[run.begin].owner_ref().canonical_cmp(name) {
+        Ordering::Less => None,
+        Ordering::Equal => Some(node_of_run(version, &run)),
+        Ordering::Greater => Some(Node {
+            number: run.number,
+            place: run.begin,
+            records: &[],
+        }),
+    }
+}
+
+/// The node of a wildcard. Where it is the apex's, what stands behind the apex's records is looked at first; then the owners
+/// up to a number.
+pub(crate) fn node_of_wildcard<'a, L: Ledger>(
+    version: &'a Version,
+    wildcard: &NameRef,
+    number: usize,
+    steps: &mut Steps<L>,
+) -> Node<'a>
+    ensures node { IsNodeOf version.now.records wildcard.now result.place result.records.now }
+    ensures rises { IsStrictlySortedBy record_order version.now.records }
+    ensures cost { TakesSearches 1 (length version.now.records) (steps.new - steps.old) }
+    ensures counted { steps.old ≤ steps.new }
+{
+    version.records();
+    let above = wildcard.label_count().saturating_sub(1);
+    if above == version.apex().label_count() {
+        if let Some(node) = node_behind_apex(version, wildcard) {
+            return node;
+        }
+    }
+    node_near(version, wildcard, number, NEAR, steps)
 }
 
 /// The records of a type among those of an owner.

@@ -2,8 +2,7 @@
 
 use dz_advice::{Advice, Expected, Kept, Key, Place, advise};
 use dz_io::{MemorySource, Source};
-use std::alloc::{AllocError, Global};
-use std::process::Abort;
+use std::alloc::AllocError;
 use std::test::*;
 
 /// A configuration that can't be read, the line to mend, and what was expected there.

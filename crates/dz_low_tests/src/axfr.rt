@@ -3,15 +3,12 @@
 ghost use Rattle.dz_form.specs.Feeding.{IsOpen};
 ghost use Rattle.dz_axfr.specs.Whole.{IsWhole, Blames};
 
+use crate::parts::{Row, make_record, make_records};
 use dz_axfr::{FeedError, Progress, ShapeFault, Whole};
-use dz_name::{Name, Octets};
 use dz_record::Rr;
 use std::alloc::{AllocError, Global};
 use std::process::Abort;
 use std::test::*;
-
-/// Owner in wire form, type, TTL and RDATA of a record.
-type Row = (&'static [u8], u16, u32, &'static [u8]);
 
 const APEX: &[u8] = b"\x04zone\x00";
 
@@ -39,27 +36,6 @@ const A: Row = (b"\x01a\x04zone\x00", 1, 3600, b"\xc0\x00\x02\x01");
 
 /// The same with another TTL.
 const A_SOON: Row = (b"\x01a\x04zone\x00", 1, 60, b"\xc0\x00\x02\x01");
-
-fn make_record(rt: &impl Abort, alloc: Global, row: Row) -> Result<Rr, AllocError> {
-    let (owner, kind, ttl, octets) = row;
-    let owner = match Name::read_at(owner, 0) {
-        Ok((name, _)) => name,
-        Err(fault) => panic!(rt; "{fault:?} of {owner:?}"),
-    };
-    let rdata = Octets::from_vec(Vec::from_slice(alloc, octets)?);
-    match Rr::make(alloc, owner, kind, ttl, rdata) {
-        Ok(made) => Ok(made),
-        Err(error) => panic!(rt; "{error:?} of type {kind} with {octets:?}"),
-    }
-}
-
-fn make_records(rt: &impl Abort, alloc: Global, rows: &[Row]) -> Result<Vec<Rr>, AllocError> {
-    let mut records = Vec::new(alloc);
-    for row in rows {
-        records.push(make_record(rt, alloc, *row)?)?;
-    }
-    Ok(records)
-}
 
 /// Feeds message after message until there is an answer other than `More`: the records at the end, none where more is to
 /// come.

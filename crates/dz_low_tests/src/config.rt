@@ -1,9 +1,9 @@
 //! Tests of `dz_config`.
 
+use crate::parts::{joined, name};
 use dz_config::{ConfigError, ConfigFault, TEXT_OCTETS, read_config};
 use dz_io::Peer;
 use dz_member::{CatalogSettings, Config, Policy};
-use dz_name::Name;
 use std::alloc::{AllocError, Global};
 use std::process::Abort;
 use std::test::*;
@@ -22,27 +22,11 @@ primaries = [\"192.0.2.3\"]
 
 const LISTEN: &[u8] = b"listen = \"192.0.2.10:53\"\n";
 
-fn named(rt: &impl Abort, text: &[u8]) -> Name {
-    match Name::parse(text) {
-        Ok(name) => name,
-        Err(error) => panic!(rt; "{error:?}"),
-    }
-}
-
 fn peer(last: u8, port: u16) -> Peer {
     Peer {
         address: [192, 0, 2, last],
         port,
     }
-}
-
-/// The pieces one behind the other.
-fn joined(alloc: Global, pieces: &[&[u8]]) -> Result<Vec<u8>, AllocError> {
-    let mut text = Vec::new(alloc);
-    for piece in pieces {
-        text.extend_from_slice(piece)?;
-    }
-    Ok(text)
 }
 
 /// The text has this fault.
@@ -62,7 +46,7 @@ fn fails(
 
 /// The catalog of the sample text.
 fn is_sample(rt: &impl Abort, catalog: &CatalogSettings) {
-    assert!(rt; catalog.name.same(&named(rt, b"catalog.example")));
+    assert!(rt; catalog.name.same(&name(rt, b"catalog.example")));
     assert_eq!(rt; catalog.policy, Policy::Present);
     assert_eq!(rt; catalog.primaries.as_slice().len(), 2);
     assert_eq!(rt; catalog.primaries.as_slice().first(), Some(&peer(1, 53)));

@@ -1,7 +1,8 @@
 //! Tests of `dz_form`.
 
+use crate::parts::wire_name;
 use dz_form::{Fed, FeedError, apex_serial, held_serial, is_apex_soa, same_rdata};
-use dz_name::{Name, Octets};
+use dz_name::Octets;
 use dz_record::Rr;
 use dz_zone::check;
 use std::alloc::{AllocError, Global};
@@ -14,13 +15,6 @@ const SOA_RDATA: &[u8] =
 
 const NS_RDATA: &[u8] = b"\x02ns\x04zone\x00";
 
-fn make_name(rt: &impl Abort, wire: &[u8]) -> Name {
-    match Name::read_at(wire, 0) {
-        Ok((name, _)) => name,
-        Err(fault) => panic!(rt; "{fault:?} of {wire:?}"),
-    }
-}
-
 fn make_record(
     rt: &impl Abort,
     alloc: Global,
@@ -29,7 +23,7 @@ fn make_record(
     octets: &[u8],
 ) -> Result<Rr, AllocError> {
     let rdata = Octets::from_vec(Vec::from_slice(alloc, octets)?);
-    match Rr::make(alloc, make_name(rt, owner), kind, 3600, rdata) {
+    match Rr::make(alloc, wire_name(rt, owner), kind, 3600, rdata) {
         Ok(made) => Ok(made),
         Err(error) => panic!(rt; "{error:?} of type {kind} with {octets:?}"),
     }
@@ -38,7 +32,7 @@ fn make_record(
 #[test]
 fn an_soa_of_the_apex_has_a_serial(rt: HostRuntime) -> Result<(), AllocError> {
     let alloc = rt.alloc();
-    let apex = make_name(&rt, b"\x04zone\x00");
+    let apex = wire_name(&rt, b"\x04zone\x00");
     let rows: [(&[u8], u16, &[u8], Option<u32>); 3] = [
         (b"\x04zone\x00", 6, SOA_RDATA, Some(7)),
         (b"\x01b\x04zone\x00", 6, SOA_RDATA, None),
@@ -59,7 +53,7 @@ fn an_soa_of_the_apex_has_a_serial(rt: HostRuntime) -> Result<(), AllocError> {
 #[test]
 fn a_version_has_the_serial_of_its_soa(rt: HostRuntime) -> Result<(), AllocError> {
     let alloc = rt.alloc();
-    let apex = make_name(&rt, b"\x04zone\x00");
+    let apex = wire_name(&rt, b"\x04zone\x00");
     let soa = make_record(&rt, alloc, b"\x04zone\x00", 6, SOA_RDATA)?;
     let ns = make_record(&rt, alloc, b"\x04zone\x00", 2, NS_RDATA)?;
     assert!(rt; same_rdata(&soa, &soa));

@@ -1,5 +1,6 @@
 //! Tests of `dz_header`.
 
+use crate::parts::{is_send, is_sync, is_written};
 use dz_header::{
     Edns, Flags, Header, RecordHead, ReplyBuffer, ResponseCode, Shape, Writer, edns_of, put_opt,
     read_head, read_header, read_question, read_shape, skip_records, write_header,
@@ -191,10 +192,6 @@ fn questions_are_read_with_pointers(rt: HostRuntime) {
     }
 }
 
-fn is_written(writer: &Writer, expected: &[u8]) -> bool {
-    !writer.is_over() && writer.written() == expected
-}
-
 #[test]
 fn once_over_nothing_is_written_until_the_writer_is_emptied(rt: HostRuntime) -> Result<(), Fail> {
     let mut writer = Writer::new(rt.alloc())?;
@@ -246,17 +243,13 @@ fn take_in_and_write(buffer: &mut ReplyBuffer, octet: u8) {
 }
 
 #[test]
-fn the_halves_of_a_buffer_are_apart_in_dz_header(rt: HostRuntime) -> Result<(), Fail> {
+fn the_halves_of_a_buffer_are_apart(rt: HostRuntime) -> Result<(), Fail> {
     let mut buffer = ReplyBuffer::make(rt.alloc())?;
     take_in_and_write(&mut buffer, 7);
     assert!(rt; buffer.request_mut()[1] == 7 && buffer.request_mut()[2] == 0);
     assert!(rt; buffer.reply(3) == b"ab\0".as_slice());
     Ok(())
 }
-
-fn is_send<T: Send>(_value: &T) {}
-
-fn is_sync<T: Sync>(_value: &T) {}
 
 #[test]
 fn a_buffer_may_go_to_another_thread(rt: HostRuntime) -> Result<(), Fail> {

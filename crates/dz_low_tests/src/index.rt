@@ -2,8 +2,8 @@
 
 ghost use Rattle.std.specs.Prelude.{◌≡◌};
 
+use crate::parts::name;
 use dz_index::{Index, OWNERS, SortKey};
-use dz_name::Name;
 use dz_steps::Steps;
 use std::alloc::{AllocError, Global};
 use std::cmp::Ordering;
@@ -27,13 +27,6 @@ const NAMES: [&[u8]; 12] = [
     b"z.example.",
     b"\\200.z.example.",
 ];
-
-fn name(rt: &impl Abort, text: &[u8]) -> Name {
-    match Name::parse(text) {
-        Ok(name) => name,
-        Err(fault) => panic!(rt; "{fault:?} of {text:?}"),
-    }
-}
 
 #[test]
 fn keys_stand_in_the_order_of_their_names(rt: HostRuntime) {

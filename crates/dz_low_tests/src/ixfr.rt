@@ -3,17 +3,15 @@
 ghost use Rattle.dz_form.specs.Feeding.{IsOpen};
 ghost use Rattle.dz_ixfr.specs.Incremental.{IsIncremental, Blames};
 
+use crate::parts::{Row, wire_name};
 use dz_form::is_apex_soa;
 use dz_ixfr::{Differences, FeedError, Progress, ShapeFault};
-use dz_name::{Name, Octets};
+use dz_name::Octets;
 use dz_record::Rr;
 use dz_zone::{Version, check};
 use std::alloc::{AllocError, Global};
 use std::process::Abort;
 use std::test::*;
-
-/// Owner in wire form, type, TTL and RDATA of a record.
-type Row = (&'static [u8], u16, u32, &'static [u8]);
 
 /// A record of `example.`.
 #[derive(Clone, Copy, Debug)]
@@ -60,13 +58,6 @@ const SOA_BELOW: Item = Other((
     b"\x00\x00\x00\x00\x00\x07\x00\x00\x00\x02\x00\x00\x00\x03\x00\x00\x00\x04\x00\x00\x00\x05",
 ));
 
-fn make_name(rt: &impl Abort, wire: &[u8]) -> Name {
-    match Name::read_at(wire, 0) {
-        Ok((name, _)) => name,
-        Err(fault) => panic!(rt; "{fault:?} of {wire:?}"),
-    }
-}
-
 fn make_row(
     rt: &impl Abort,
     alloc: Global,
@@ -77,7 +68,7 @@ fn make_row(
 ) -> Rr {
     match Rr::make(
         alloc,
-        make_name(rt, owner),
+        wire_name(rt, owner),
         kind,
         ttl,
         Octets::from_vec(rdata),
@@ -123,7 +114,7 @@ fn make_records(rt: &impl Abort, alloc: Global, items: &[Item]) -> Result<Vec<Rr
 
 fn make_version(rt: &impl Abort, alloc: Global, items: &[Item]) -> Result<Version, AllocError> {
     let records = make_records(rt, alloc, items)?;
-    match check(alloc, &make_name(rt, APEX), records) {
+    match check(alloc, &wire_name(rt, APEX), records) {
         Ok(version) => Ok(version),
         Err(error) => panic!(rt; "{error:?} of {items:?}"),
     }

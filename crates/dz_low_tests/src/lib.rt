@@ -27,6 +27,8 @@ mod name;
 #[cfg(test)]
 mod notify;
 #[cfg(test)]
+mod parts;
+#[cfg(test)]
 mod record;
 #[cfg(test)]
 mod request;

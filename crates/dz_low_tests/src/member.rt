@@ -2,6 +2,7 @@
 
 ghost use Rattle.std.specs.Prelude.{◌≡◌};
 
+use crate::parts::name_of;
 use dz_io::Peer;
 use dz_member::{
     CatalogSettings, Changes, Config, Fold, GroupSettings, Groups, Listing, Node, Peers, Policy,
@@ -11,13 +12,6 @@ use dz_name::{KeptName, Label, Name, Octets};
 use std::alloc::{AllocError, Global};
 use std::process::Abort;
 use std::test::*;
-
-fn make_name(rt: &impl Abort, text: &str) -> Name {
-    match Name::parse(text.as_bytes()) {
-        Ok(name) => name,
-        Err(error) => panic!(rt; "{error:?} of {text}"),
-    }
-}
 
 fn make_label(rt: &impl Abort, octets: &[u8]) -> Label {
     match Label::new(octets) {
@@ -56,7 +50,7 @@ fn make_catalog(
     groups: Vec<GroupSettings>,
 ) -> Result<CatalogSettings, AllocError> {
     Ok(CatalogSettings {
-        name: make_name(rt, name),
+        name: name_of(rt, name),
         policy: Policy::Off,
         primaries: make_peers(alloc, 1, 1)?,
         groups: Groups::from_vec(groups),
@@ -80,7 +74,7 @@ fn make_fold(rt: &impl Abort, alloc: Global, names: &[&str]) -> Result<Fold, All
 }
 
 fn keep_name(rt: &impl Abort, alloc: Global, text: &str) -> KeptName {
-    match KeptName::of(alloc, &make_name(rt, text).as_ref()) {
+    match KeptName::of(alloc, &name_of(rt, text).as_ref()) {
         Ok(name) => name,
         Err(error) => panic!(rt; "{error:?} of {text}"),
     }
@@ -109,7 +103,7 @@ fn process(
     nodes: Vec<Node>,
     position: u64,
 ) -> Result<(Fold, Changes), AllocError> {
-    let catalog = make_name(rt, catalog);
+    let catalog = name_of(rt, catalog);
     let listing = match Listing::try_from_vec(alloc, nodes)? {
         Some(listing) => listing,
         None => panic!(rt; "no listing"),
@@ -138,7 +132,7 @@ fn list_one(
 fn expect_change(rt: &impl Abort, changes: &Changes, zone: &str, what: &What) {
     let changes = changes.as_slice();
     assert_eq!(rt; changes.len(), 1);
-    assert!(rt; changes[0].zone.same(&make_name(rt, zone)));
+    assert!(rt; changes[0].zone.same(&name_of(rt, zone)));
     assert!(rt;
         changes[0].what == *what,
         "{:?} is not {what:?}",
@@ -155,11 +149,11 @@ fn expect_member(
     label: &[u8],
     incarnation: u64,
 ) {
-    match fold.find(&make_name(rt, zone)) {
+    match fold.find(&name_of(rt, zone)) {
         None => panic!(rt; "no member {zone}"),
         Some(member) => {
-            assert!(rt; member.zone().same(&make_name(rt, zone)));
-            assert!(rt; member.catalog().same(&make_name(rt, catalog)), "of {zone}");
+            assert!(rt; member.zone().same(&name_of(rt, zone)));
+            assert!(rt; member.catalog().same(&name_of(rt, catalog)), "of {zone}");
             assert_eq!(rt; member.label().octets(), label, "of {zone}");
             assert_eq!(rt; member.incarnation(), incarnation, "of {zone}");
         }
@@ -175,7 +169,7 @@ fn change_of_ownership(
 ) -> Result<(Fold, Changes), AllocError> {
     let (one, two) = ("cat1.example.", "cat2.example.");
     let zone = "example.";
-    let first = make_name(rt, one);
+    let first = name_of(rt, one);
     let fold = make_fold(rt, alloc, &[one, two])?;
     let (fold, changes) = list_one(
         rt,
@@ -218,10 +212,7 @@ fn change_of_ownership(
 #[test]
 fn zone_moves_with_consent_under_its_label(rt: HostRuntime) -> Result<(), Fail> {
     let (fold, changes) = change_of_ownership(&rt, rt.alloc(), b"m1")?;
-    let (one, two) = (
-        make_name(&rt, "cat1.example."),
-        make_name(&rt, "cat2.example."),
-    );
+    let (one, two) = (name_of(&rt, "cat1.example."), name_of(&rt, "cat2.example."));
     expect_change(&rt, &changes, "example.", &What::Moved(one, two));
     expect_member(&rt, &fold, "example.", "cat2.example.", b"m1", 1);
     assert_eq!(rt; fold.count(), 1);
@@ -231,10 +222,7 @@ fn zone_moves_with_consent_under_its_label(rt: HostRuntime) -> Result<(), Fail> 
 #[test]
 fn zone_moves_and_is_reset_under_another_label(rt: HostRuntime) -> Result<(), Fail> {
     let (fold, changes) = change_of_ownership(&rt, rt.alloc(), b"m9")?;
-    let (one, two) = (
-        make_name(&rt, "cat1.example."),
-        make_name(&rt, "cat2.example."),
-    );
+    let (one, two) = (name_of(&rt, "cat1.example."), name_of(&rt, "cat2.example."));
     expect_change(&rt, &changes, "example.", &What::MovedReset(one, two));
     expect_member(&rt, &fold, "example.", "cat2.example.", b"m9", 5);
     Ok(())
@@ -273,7 +261,7 @@ fn first_known_group_counts(rt: HostRuntime) -> Result<(), Fail> {
         &rt,
         &changes,
         "a.test.",
-        &What::Regrouped(make_name(&rt, name)),
+        &What::Regrouped(name_of(&rt, name)),
     );
     expect_member(&rt, &fold, "a.test.", name, b"m1", 1);
     assert!(rt; fold.count() == 1);
@@ -301,11 +289,11 @@ fn catalogs_and_zones_above_them(rt: HostRuntime) -> Result<(), Fail> {
     expect_member(&rt, &fold, "example.", above, b"b", 3);
     let changes = changes.as_slice();
     assert_eq!(rt; changes.len(), 3);
-    assert!(rt; changes[0].zone.same(&make_name(&rt, "example.")));
-    assert!(rt; changes[0].what == What::Added(make_name(&rt, above)));
+    assert!(rt; changes[0].zone.same(&name_of(&rt, "example.")));
+    assert!(rt; changes[0].what == What::Added(name_of(&rt, above)));
     assert!(rt; changes[1].what == What::Clash(None));
     assert!(rt; changes[2].what == What::Clash(None));
-    assert!(rt; fold.find(&make_name(&rt, below)).is_none());
+    assert!(rt; fold.find(&name_of(&rt, below)).is_none());
     Ok(())
 }
 
@@ -331,15 +319,10 @@ fn labels_are_any_octets(rt: HostRuntime) -> Result<(), Fail> {
         make_node(&rt, alloc, b"a.b\\c", "x.test.", None),
         2,
     )?;
-    expect_change(&rt, &changes, "x.test.", &What::Reset(make_name(&rt, name)));
+    expect_change(&rt, &changes, "x.test.", &What::Reset(name_of(&rt, name)));
     expect_member(&rt, &fold, "x.test.", name, b"a.b\\c", 2);
     let (fold, changes) = process(&rt, alloc, &fold, name, Vec::new(alloc), 3)?;
-    expect_change(
-        &rt,
-        &changes,
-        "x.test.",
-        &What::Removed(make_name(&rt, name)),
-    );
+    expect_change(&rt, &changes, "x.test.", &What::Removed(name_of(&rt, name)));
     assert_eq!(rt; fold.count(), 0);
     Ok(())
 }

@@ -1,18 +1,12 @@
 //! Tests of `dz_name`.
 
+use crate::parts::name;
 use dz_name::numbers::{four, number_of_four, number_of_two, two};
 use dz_name::{Label, Name, NameError, Octets, Wire, WireFault, canonical_name_end, landings_of};
 use std::alloc::{AllocError, Global};
 use std::cmp::Ordering;
 use std::process::Abort;
 use std::test::*;
-
-fn name(rt: &impl Abort, text: &[u8]) -> Name {
-    match Name::parse(text) {
-        Ok(name) => name,
-        Err(error) => panic!(rt; "{:?} gives {:?}", text, error),
-    }
-}
 
 /// The names of RFC 4034 section 6.1 in their order, but for the one with an octet above 127, which follows `\001`.
 #[test]

@@ -1,17 +1,10 @@
 //! Tests of `dz_notify`.
 
+use crate::parts::name;
 use dz_header::{ReplyBuffer, Writer};
-use dz_name::Name;
 use dz_notify::{Heard, notify_reply_to, read_notify, write_notify_reply};
 use std::process::Abort;
 use std::test::*;
-
-fn name(rt: &impl Abort, text: &[u8]) -> Name {
-    match Name::parse(text) {
-        Ok(name) => name,
-        Err(error) => panic!(rt; "{text:?} gives {error:?}"),
-    }
-}
 
 #[test]
 fn a_notify_names_its_zone_in_lower_case(rt: HostRuntime) {

@@ -1,5 +1,6 @@
 //! Tests of `dz_record`.
 
+use crate::parts::{is_send, is_sync, name};
 use dz_name::{Name, Octets};
 use dz_record::{Field, Rr, RrError, RrFault, Soa, fields_of, is_bad_type, is_rdata};
 use std::alloc::{AllocError, Global};
@@ -10,13 +11,6 @@ use std::test::Fail;
 
 const SOA: &[u8] =
     b"\x02ns\x00\x05admin\x00\x78\x48\xb9\x1c\0\0\x07\x08\0\0\x03\x84\0\x09\x3a\x80\0\0\x01\x2c";
-
-fn name(rt: &impl Abort, text: &[u8]) -> Name {
-    match Name::parse(text) {
-        Ok(name) => name,
-        Err(error) => panic!(rt; "{:?} gives {:?}", text, error),
-    }
-}
 
 fn record(rt: &impl Abort, alloc: Global, owner: &[u8], kind: u16, ttl: u32, rdata: &[u8]) -> Rr {
     let octets = match Vec::from_slice(alloc, rdata) {
@@ -227,10 +221,6 @@ fn a_record_is_encoded_without_pointers(rt: HostRuntime) -> Result<(), AllocErro
     );
     Ok(())
 }
-
-fn is_send<T: Send>(_x: &T) {}
-
-fn is_sync<T: Sync>(_x: &T) {}
 
 #[test]
 fn a_share_is_the_record_and_threads_may_take_it(rt: HostRuntime) -> Result<(), AllocError> {

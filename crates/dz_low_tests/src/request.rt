@@ -1,6 +1,7 @@
 //! Tests of `dz_request`.
 
-use dz_header::{Edns, ReplyBuffer, ResponseCode, Writer};
+use crate::parts::{is_written, name};
+use dz_header::{Edns, ResponseCode, Writer};
 use dz_name::Name;
 use dz_request::{Asked, Frame, Heading, Request, Transport, read_request, reply_curt};
 use std::process::Abort;
@@ -224,13 +225,6 @@ fn requests_are_judged_in_order(rt: HostRuntime) {
     }
 }
 
-fn name(rt: &impl Abort, text: &[u8]) -> Name {
-    match Name::parse(text) {
-        Ok(name) => name,
-        Err(error) => panic!(rt; "{text:?} gives {error:?}"),
-    }
-}
-
 fn asked(rt: &impl Abort, octets: &[u8]) -> Asked {
     match read_request(octets) {
         Request::Asks(asked) => asked,
@@ -301,10 +295,6 @@ fn bare(
     };
     assert!(rt; asked.size <= 259 && 12 + asked.size <= request.len());
     frame.reply_bare(writer, code);
-}
-
-fn is_written(writer: &Writer, expected: &[u8]) -> bool {
-    !writer.is_over() && writer.written() == expected
 }
 
 /// ID, opcode, RD and the question are those of the request, in its letters, and an OPT record is there where the request has
@@ -381,25 +371,5 @@ fn a_reply_past_its_limit_is_cut(rt: HostRuntime) -> Result<(), Fail> {
     writer.put(&[0; 496]);
     frame.finish(&mut writer, ResponseCode::NoError, true);
     assert!(rt; is_written(&writer, b"\0\x13\x87\0\0\x01\0\0\0\0\0\0\0\0\x01\0\x01"));
-    Ok(())
-}
-
-/// The next request comes into one half of a buffer while the reply is written into the other.
-fn take_in_and_write(buffer: &mut ReplyBuffer, octet: u8) {
-    let ReplyBuffer { request, reply } = buffer;
-    let room = request.as_mut_slice();
-    reply.begin(4);
-    room[0] = octet;
-    reply.put(b"a");
-    room[1] = octet;
-    reply.put(b"b");
-}
-
-#[test]
-fn the_halves_of_a_buffer_are_apart_in_dz_request(rt: HostRuntime) -> Result<(), Fail> {
-    let mut buffer = ReplyBuffer::make(rt.alloc())?;
-    take_in_and_write(&mut buffer, 7);
-    assert!(rt; buffer.request_mut()[1] == 7 && buffer.request_mut()[2] == 0);
-    assert!(rt; buffer.reply(2) == b"ab".as_slice());
     Ok(())
 }

@@ -1,29 +1,14 @@
 //! Tests of `dz_script`.
 
+use crate::parts::{joined, name};
 use dz_io::Peer;
 use dz_member::{CatalogSettings, GroupSettings, Policy};
 use dz_name::Name;
 use dz_request::Transport;
 use dz_script::{Event, Line, LineError, read_line};
-use std::alloc::{AllocError, Global};
+use std::alloc::Global;
 use std::process::Abort;
 use std::test::*;
-
-fn name(rt: &impl Abort, text: &[u8]) -> Name {
-    match Name::parse(text) {
-        Ok(name) => name,
-        Err(error) => panic!(rt; "{error:?}"),
-    }
-}
-
-/// The pieces one behind the other.
-fn joined(alloc: Global, pieces: &[&[u8]]) -> Result<Vec<u8>, AllocError> {
-    let mut text = Vec::new(alloc);
-    for piece in pieces {
-        text.extend_from_slice(piece)?;
-    }
-    Ok(text)
-}
 
 /// The line has none of the forms.
 fn is_bad(rt: &impl Abort, alloc: Global, line: &[u8]) {

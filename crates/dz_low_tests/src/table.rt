@@ -2,6 +2,7 @@
 
 ghost use Rattle.std.specs.Prelude.{◌≡◌, ◌+◌, ◌≤◌, IfOk, length};
 
+use crate::parts::{is_send, is_sync, name_of};
 use dz_chunks::Share;
 use dz_name::{Label, Name, Octets};
 use dz_record::Rr;
@@ -17,13 +18,6 @@ use std::test::*;
 
 /// The last moment that a slot may have.
 const MOST: u64 = 1_099_511_627_775;
-
-fn make_name(rt: &impl Abort, text: &str) -> Name {
-    match Name::parse(text.as_bytes()) {
-        Ok(name) => name,
-        Err(error) => panic!(rt; "{error:?} of {text}"),
-    }
-}
 
 fn label(rt: &impl Abort, octets: &[u8]) -> Label {
     match Label::new(octets) {
@@ -76,7 +70,7 @@ fn make_slot(
     zone: &str,
     refreshed: u64,
 ) -> Result<Slot, AllocError> {
-    Slot::new(alloc, &make_name(rt, zone), refreshed.min(MOST), None)
+    Slot::new(alloc, &name_of(rt, zone), refreshed.min(MOST), None)
 }
 
 fn make_live(
@@ -86,7 +80,7 @@ fn make_live(
     refreshed: u64,
     expire: u32,
 ) -> Result<Slot, AllocError> {
-    let zone = make_name(rt, zone);
+    let zone = name_of(rt, zone);
     let version = make_version(rt, alloc, zone, expire)?;
     Slot::new(alloc, &zone, refreshed.min(MOST), Some(version))
 }
@@ -144,10 +138,7 @@ fn expect_slots(rt: &impl Abort, table: &Table, want: &[(&str, u64)]) {
     for (zone, refreshed) in want {
         match slots.next() {
             Some(slot) => {
-                assert!(rt;
-                    slot.zone().same(&make_name(rt, zone).as_ref()),
-                    "not {zone}"
-                );
+                assert!(rt; slot.zone().same(&name_of(rt, zone).as_ref()), "not {zone}");
                 assert_eq!(rt; slot.refreshed(), *refreshed, "of {zone}");
             }
             None => panic!(rt; "no slot of {zone}"),
@@ -158,12 +149,12 @@ fn expect_slots(rt: &impl Abort, table: &Table, want: &[(&str, u64)]) {
 
 /// The closest zone of a name.
 fn expect_closest(rt: &impl Abort, table: &Table, name: &str, want: Option<&str>) {
-    let name = make_name(rt, name);
+    let name = name_of(rt, name);
     match (table.closest(&name), want) {
         (None, None) => {}
         (Some(slot), Some(zone)) => {
             assert!(rt;
-                slot.zone().same(&make_name(rt, zone).as_ref()),
+                slot.zone().same(&name_of(rt, zone).as_ref()),
                 "{name:?} not in {zone}"
             );
         }
@@ -268,11 +259,11 @@ fn without_takes_out_the_slot_of_its_zone(rt: HostRuntime) -> Result<(), Fail> {
     let alloc = rt.alloc();
     let old = make_table(&rt, alloc, &["b.", "a.", "x.b."])?;
     let all = [("a.", 1), ("b.", 0), ("x.b.", 2)];
-    let new = without(&old, alloc, &make_name(&rt, "B."))?;
+    let new = without(&old, alloc, &name_of(&rt, "B."))?;
     expect_slots(&rt, &new, &[("a.", 1), ("x.b.", 2)]);
     expect_closest(&rt, &new, "b.", None);
     expect_slots(&rt, &old, &all);
-    let same = without(&old, alloc, &make_name(&rt, "y.b."))?;
+    let same = without(&old, alloc, &name_of(&rt, "y.b."))?;
     expect_slots(&rt, &same, &all);
     Ok(())
 }
@@ -375,7 +366,7 @@ fn get_finds_exactly_one_zone(rt: HostRuntime) -> Result<(), Fail> {
         ("xa.example.", None),
         (".", None),
     ] {
-        let found = table.get(&make_name(&rt, zone));
+        let found = table.get(&name_of(&rt, zone));
         assert_eq!(rt; found.map(|slot| slot.refreshed()), want, "of {zone}");
     }
     Ok(())
@@ -429,7 +420,7 @@ fn tables_share_versions(rt: HostRuntime) -> Result<(), Fail> {
     let one = with(&Table::empty(alloc), alloc, slot)?;
     let two = with(&one, alloc, make_slot(&rt, alloc, "a.example.", 6)?)?;
     for table in [&one, &two] {
-        match table.closest(&make_name(&rt, "www.example.")) {
+        match table.closest(&name_of(&rt, "www.example.")) {
             Some(slot) => {
                 assert_eq!(rt; slot.refreshed(), 5);
                 match slot.shared_version() {
@@ -442,10 +433,6 @@ fn tables_share_versions(rt: HostRuntime) -> Result<(), Fail> {
     }
     Ok(())
 }
-
-fn is_send<T: Send>(_value: &T) {}
-
-fn is_sync<T: Sync>(_value: &T) {}
 
 #[test]
 fn threads_may_share_slots_and_tables(rt: HostRuntime) -> Result<(), Fail> {

@@ -1,14 +1,12 @@
 //! Tests of `dz_zone`.
 
-use dz_name::{Name, Octets};
+use crate::parts::{Row, is_send, is_sync, make_records, wire_name};
+use dz_name::Octets;
 use dz_record::Rr;
 use dz_zone::{Version, ZoneError, ZoneFault, check};
 use std::alloc::{AllocError, Global};
 use std::process::Abort;
 use std::test::*;
-
-/// Owner in wire form, type, TTL and RDATA of a record.
-type Row = (&'static [u8], u16, u32, &'static [u8]);
 
 const APEX: &[u8] = b"\x04zone\x00";
 
@@ -80,37 +78,6 @@ const OTHER_DNAME: Row = (b"\x01d\x04zone\x00", 39, 3600, b"\x01b\x04zone\x00");
 
 const DNAME_ELSEWHERE: Row = (b"\x01c\x04zone\x00", 39, 3600, b"\x01b\x04zone\x00");
 
-fn make_name(rt: &impl Abort, wire: &[u8]) -> Name {
-    match Name::read_at(wire, 0) {
-        Ok((name, _)) => name,
-        Err(fault) => panic!(rt; "{fault:?} of {wire:?}"),
-    }
-}
-
-fn make_record(rt: &impl Abort, alloc: Global, row: Row) -> Result<Rr, AllocError> {
-    let (owner, kind, ttl, octets) = row;
-    let mut rdata = Vec::new(alloc);
-    rdata.extend_from_slice(octets)?;
-    match Rr::make(
-        alloc,
-        make_name(rt, owner),
-        kind,
-        ttl,
-        Octets::from_vec(rdata),
-    ) {
-        Ok(made) => Ok(made),
-        Err(error) => panic!(rt; "{error:?} of type {kind} with {octets:?}"),
-    }
-}
-
-fn make_records(rt: &impl Abort, alloc: Global, rows: &[Row]) -> Result<Vec<Rr>, AllocError> {
-    let mut records = Vec::new(alloc);
-    for row in rows {
-        records.push(make_record(rt, alloc, *row)?)?;
-    }
-    Ok(records)
-}
-
 /// The rows make no zone by this fault.
 fn expect_fault(
     rt: &impl Abort,
@@ -118,7 +85,7 @@ fn expect_fault(
     rows: &[Row],
     want: ZoneFault,
 ) -> Result<(), AllocError> {
-    let apex = make_name(rt, APEX);
+    let apex = wire_name(rt, APEX);
     let records = make_records(rt, alloc, rows)?;
     match check(alloc, &apex, records) {
         Ok(_) => panic!(rt; "no fault of {rows:?}"),
@@ -152,7 +119,7 @@ fn expect_zone(
     rows: &[Row],
     want: &[Row],
 ) -> Result<(), AllocError> {
-    let apex = make_name(rt, APEX);
+    let apex = wire_name(rt, APEX);
     let records = make_records(rt, alloc, rows)?;
     match check(alloc, &apex, records) {
         Ok(version) => expect_rows(rt, &version, want),
@@ -274,13 +241,9 @@ fn rrsig_and_nsec_stand_beside_a_cname(rt: HostRuntime) -> Result<(), Fail> {
     Ok(())
 }
 
-fn is_send<T: Send>(_value: &T) {}
-
-fn is_sync<T: Sync>(_value: &T) {}
-
 #[test]
 fn threads_may_share_a_version(rt: HostRuntime) -> Result<(), Fail> {
-    let apex = make_name(&rt, APEX);
+    let apex = wire_name(&rt, APEX);
     match check(
         rt.alloc(),
         &apex,
@@ -297,7 +260,7 @@ fn threads_may_share_a_version(rt: HostRuntime) -> Result<(), Fail> {
 
 #[test]
 fn the_soa_of_the_apex_is_shown(rt: HostRuntime) -> Result<(), Fail> {
-    let apex = make_name(&rt, APEX);
+    let apex = wire_name(&rt, APEX);
     let at_apex: Row = (APEX, 1, 60, b"\xc0\x00\x02\x01");
     let records = make_records(&rt, rt.alloc(), &[GLUE, at_apex, SOA, NS])?;
     match check(rt.alloc(), &apex, records) {
@@ -316,7 +279,7 @@ fn the_soa_of_the_apex_is_shown(rt: HostRuntime) -> Result<(), Fail> {
 
 #[test]
 fn a_zone_has_at_most_250_000_records(rt: HostRuntime) -> Result<(), Fail> {
-    let apex = make_name(&rt, APEX);
+    let apex = wire_name(&rt, APEX);
     for (addresses, want) in [
         (249_998, None),
         (249_999, Some(ZoneError::Fault(ZoneFault::TooMany))),

@@ -12,6 +12,7 @@ pub mod OctetLemmas
 pub mod OrderLemmas
 pub mod PlaceLemmas
 pub mod ProcessLemmas
+pub mod RisingLemmas
 pub mod SearchLemmas
 pub mod SortLemmas
 pub mod SpotLemmas

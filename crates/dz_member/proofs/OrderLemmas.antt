@@ -61,7 +61,7 @@ distinct_zones ns once =
     omega arith)
 
 -- and the other way round
-apart_all : (n : Node) (ns : List Node) → AllByRecursion (λ z. same_name n.zone z ≡ false) (map (λ (m : Node). m.zone) ns) → list_any (λ m. same_zone n m) ns ≡ false
+pub apart_all : (n : Node) (ns : List Node) → AllByRecursion (λ z. same_name n.zone z ≡ false) (map (λ (m : Node). m.zone) ns) → list_any (λ m. same_zone n m) ns ≡ false
 apart_all n [] a = refl
 apart_all n (m ∷ ms) a = rw a.0 (apart_all n ms a.1)
 
@@ -137,7 +137,7 @@ all_sorted : (P : Name → Type 0) (ns : List Node) → AllByRecursion P (map zo
 all_sorted P [] a = tt
 all_sorted P (n ∷ ns) a = all_insert P n (in_zone_order ns) a.0 (all_sorted P ns a.1)
 
-less_is : (k : Ordering) → is_lt k ≡ true → k ≡ Less
+pub less_is : (k : Ordering) → is_lt k ≡ true → k ≡ Less
 less_is Less h = refl
 less_is Equal h = absurd (cc)
 less_is Greater h = absurd (cc)

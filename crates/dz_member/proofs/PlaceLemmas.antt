@@ -74,7 +74,7 @@ length_insert x (y ∷ ys) =
       | false ↦ refl
     ]
 
-length_ordered : (ns : List Node) → length (in_zone_order ns) ≡ length ns
+pub length_ordered : (ns : List Node) → length (in_zone_order ns) ≡ length ns
 length_ordered [] = refl
 length_ordered (n ∷ ns) = length_insert n (in_zone_order ns) ∙ ap suc (length_ordered ns)
 

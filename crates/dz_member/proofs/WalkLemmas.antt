@@ -45,7 +45,7 @@ module _ {K : Type 0} (R : K → K → Ordering) (o : IsTotalOrder R) (same : K 
         | inl t ↦ let e : a ≡ b = (decides a b).0 t in let q : R b b ≡ Less = rw e at l in let r = tied_itself o b in absurd (cc)
       ]
 
-  apart_back : (a b : K) → R a b ≡ Less → same b a ≡ false
+  pub apart_back : (a b : K) → R a b ≡ Less → same b a ≡ false
   apart_back a b l =
       elim (cases_Bool (same b a)) [
         | inr f ↦ f

@@ -1,6 +1,7 @@
 //! The configuration of catalogs, their listings, and which zones are members of which catalog (RFC 9432).
 #![tactic(auto)]
 
+mod again;
 mod change;
 mod config;
 mod fold;

@@ -113,6 +113,13 @@ impl Listing {
         self.nodes.as_slice()
     }
 
+    /// The places of the nodes, in the order of their zones.
+    pub(crate) fn places(&self) -> &[u32]
+        ensures { ArePlaces self.now result.now }
+    {
+        self.places.as_slice()
+    }
+
     /// The node of the zone that is the one of this number in canonical order, from 0; none behind the last.
     pub(crate) fn node_by_zone(&self, number: usize) -> Option<&Node>
         ensures { option_map (λ r. r.now) result ≡ slice_get (in_zone_order self.now) number }

@@ -8,6 +8,7 @@ ghost use Rattle.dz_member.specs.Twice.{has_twice};
 ghost use Rattle.dz_member.specs.Process.{in_zone_order};
 ghost use Rattle.dz_member.specs.inner.Places.{ArePlaces, IsAt, nodes_in, zones_in};
 
+use crate::again::places_again;
 use crate::keyed::Keyed;
 use crate::listing::{Listing, Node};
 use std::alloc::{AllocError, Global};
@@ -57,7 +58,23 @@ impl Listing {
         ensures { IfOk result (λ o. MatchOption o (¬ IsListing nodes.items)
             (λ l. (l ≡ nodes.items) × IsListing nodes.items)) }
     {
-        match places_of_listing(alloc, nodes.as_slice())? {
+        Listing::try_from_vec_after(alloc, nodes, None)
+    }
+
+    /// The same, in less time where most of the nodes stand at their labels in a listing before.
+    ///
+    /// # Errors
+    ///
+    /// As of [`Listing::try_from_vec`].
+    pub fn try_from_vec_after(
+        alloc: Global,
+        nodes: Vec<Node>,
+        before: Option<&Listing>,
+    ) -> Result<Option<Listing>, AllocError>
+        ensures { IfOk result (λ o. MatchOption o (¬ IsListing nodes.items)
+            (λ l. (l ≡ nodes.items) × IsListing nodes.items)) }
+    {
+        match places_of_listing(alloc, nodes.as_slice(), before)? {
             None => Ok(None),
             Some(places) => Ok(Some(Listing::placed(nodes, places))),
         }
@@ -65,13 +82,30 @@ impl Listing {
 }
 
 /// The places of the nodes of a listing in the order of their zones; none where the nodes make no listing.
-fn places_of_listing(alloc: Global, nodes: &[Node]) -> Result<Option<Vec<u32>>, AllocError>
+fn places_of_listing(
+    alloc: Global,
+    nodes: &[Node],
+    before: Option<&Listing>,
+) -> Result<Option<Vec<u32>>, AllocError>
     ensures { IfOk result (λ o. MatchOption o (¬ IsListing nodes.now)
         (λ places. IsListing nodes.now × ArePlaces nodes.now places.items)) }
 {
     if nodes.len() > Listing::NODES || !labels_rise(nodes) {
         return Ok(None);
     }
+    match places_again(alloc, nodes, before)? {
+        None => sorted_places(alloc, nodes),
+        Some(places) => Ok(Some(places)),
+    }
+}
+
+/// The same of nodes that aren't too many and whose labels rise.
+fn sorted_places(alloc: Global, nodes: &[Node]) -> Result<Option<Vec<u32>>, AllocError>
+    requires few { length nodes.now ≤ 65536 }
+    requires labels { IsStrictlySortedBy label_order (map (λ n. n.label) nodes.now) }
+    ensures { IfOk result (λ o. MatchOption o (¬ IsListing nodes.now)
+        (λ places. IsListing nodes.now × ArePlaces nodes.now places.items)) }
+{
     let sorted = by_zone(alloc, nodes)?;
     if !zones_rise(&sorted) {
         return Ok(None);

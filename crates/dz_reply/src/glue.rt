@@ -23,6 +23,9 @@ const COUNTS: usize = 65_536;
 /// to be written.
 const SERVERS: usize = 16;
 
+/// The number of the apex in the index, which is looked at first where no owner is likelier.
+const APEX: usize = 0;
+
 /// The glue of a referral: the addresses of each name server within the zone (RFC 1034 section 4.3.2). Contracts see the
 /// records as the reply has them.
 #[derive(Drop)]
@@ -45,14 +48,14 @@ impl<'a> Model for Glue<'a> {
 }
 
 impl<'a> Glue<'a> {
-    /// The glue of some name servers.
-    pub fn of(version: &'a Version, servers: &'a [Rr]) -> Glue<'a>
+    /// The glue of some name servers, whose addresses may stand at the owners from a number in the index on.
+    pub fn of(version: &'a Version, servers: &'a [Rr], next: usize) -> Glue<'a>
         ensures { result ≡ glue version.now servers.now }
     {
         let (first, further) = servers.split_at(servers.len().min(SERVERS));
         Glue {
             version,
-            found: addresses_of_all(version, first),
+            found: addresses_of_all(version, first, next),
             further,
         }
     }
@@ -74,25 +77,32 @@ impl<'a> Glue<'a> {
     }
 }
 
-/// The addresses of each of a few name servers.
-fn addresses_of_all<'a>(version: &'a Version, servers: &[Rr]) -> ArrayVec<Addresses<'a>, SERVERS>
+/// The addresses of each of a few name servers, each of which is looked for first at the next owner of the index from a
+/// number on.
+fn addresses_of_all<'a>(
+    version: &'a Version,
+    servers: &[Rr],
+    next: usize,
+) -> ArrayVec<Addresses<'a>, SERVERS>
     requires { length servers.now ≤ SERVERS }
     ensures { flat_map shown result.items ≡ glue version.now servers.now }
 {
     let mut found = ArrayVec::new();
     'servers: for server in servers {
-        found.push(server_addresses(version, server));
+        let number = next.saturating_add(found.len());
+        found.push(server_addresses(version, server, number));
     }
     found
 }
 
-/// The addresses of a name server; none where it isn't within the zone.
-fn server_addresses<'a>(version: &'a Version, server: &Rr) -> Addresses<'a>
+/// The addresses of a name server, the owner of a number in the index being looked at first; none where it isn't within
+/// the zone.
+fn server_addresses<'a>(version: &'a Version, server: &Rr, number: usize) -> Addresses<'a>
     ensures { shown result ≡ glue_of version.now server.now }
 {
     match address_owner(version, server) {
         None => Addresses::none(),
-        Some(name) => addresses_of(version, &name),
+        Some(name) => addresses_of(version, &name, number),
     }
 }
 
@@ -136,7 +146,7 @@ fn count_further(version: &Version, servers: &[Rr]) -> usize
 {
     let mut count = 0;
     'servers: for server in servers {
-        count = (count + count_one(&server_addresses(version, server))) % COUNTS;
+        count = (count + count_one(&server_addresses(version, server, APEX))) % COUNTS;
     }
     count
 }
@@ -164,6 +174,6 @@ fn put_further(writer: &mut Writer, question: &Name, version: &Version, servers:
         ≡ also writer.old.writing (entries_octets question.now (glue version.now servers.now)) }
 {
     'servers: for server in servers {
-        put_one(writer, question, &server_addresses(version, server));
+        put_one(writer, question, &server_addresses(version, server, APEX));
     }
 }

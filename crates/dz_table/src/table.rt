@@ -10,7 +10,7 @@ use crate::shared_slot::{SharedSlot, entries_of};
 use crate::slot::Slot;
 use crate::slots::Slots;
 use crate::zone_key::ZoneKey;
-use dz_chunks::{Chunks, Share};
+use dz_chunks::Chunks;
 use dz_name::Name;
 use dz_steps::Steps;
 use std::alloc::{AllocError, Global};
@@ -46,17 +46,7 @@ impl Table {
         }
     }
 
-    /// The table of slots in the canonical order of their zones, made in one pass over them. It shares their versions.
-    pub fn from_slots(alloc: Global, slots: &[Slot]) -> Result<Table, AllocError>
-        requires { IsTable slots.now }
-        ensures { IfOk result (λ t. t ≡ slots.now) }
-    {
-        let copies = same_slots(alloc, slots)?;
-        let slots = Chunks::from_sorted(alloc, copies)?;
-        Ok(Table { slots })
-    }
-
-    /// The table of shared slots in the canonical order of their zones.
+    /// The table of shared slots in the canonical order of their zones, made in one pass over them.
     pub fn from_shared(alloc: Global, slots: Vec<SharedSlot>) -> Result<Table, AllocError>
         requires { IsTable slots.items }
         ensures { IfOk result (λ t. t ≡ slots.items) }
@@ -143,15 +133,4 @@ impl Table {
             asked = asked.ancestor(labels_apart(&below, &zone));
         }
     }
-}
-
-/// The same slots once more. They share their versions.
-fn same_slots(alloc: Global, slots: &[Slot]) -> Result<Vec<Slot>, AllocError>
-    ensures { IfOk result (λ copies. copies.items ≡ slots.now) }
-{
-    let mut copies = Vec::with_capacity(alloc, slots.len())?;
-    'slots: for slot in slots {
-        copies.push(slot.share()?)?;
-    }
-    Ok(copies)
 }

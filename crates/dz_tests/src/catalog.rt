@@ -4,8 +4,8 @@
 use crate::names::{name, name_of};
 use crate::records::Rdata::{Octets, Soa, Target};
 use crate::records::{Row, make, push_records};
-use crate::versions::version_of;
-use dz_catalog::{CatalogError, read_listing};
+use crate::versions::{version, version_of};
+use dz_catalog::{CatalogError, read_listing, read_listing_after};
 use dz_member::{Broken, Listing, Node};
 use dz_name::dns::{TYPE_NS, TYPE_PTR, TYPE_SOA, TYPE_TXT};
 use dz_record::Rr;
@@ -60,6 +60,22 @@ fn expect_node(rt: &impl Abort, node: &Node, wanted: &Wanted) {
     }
 }
 
+/// The listing that was read of a catalog, which isn't broken.
+fn unbroken(rt: &impl Abort, read: Result<Listing, CatalogError>) -> Listing {
+    match read {
+        Ok(listing) => listing,
+        Err(error) => panic!(rt; "{error:?}"),
+    }
+}
+
+/// That a listing has these nodes.
+fn expect_listed(rt: &impl Abort, listing: &Listing, wanted: &[Wanted]) {
+    assert_eq!(rt; listing.nodes().len(), wanted.len());
+    'nodes: for (node, wanted) in listing.nodes().iter().zip(wanted) {
+        expect_node(rt, node, wanted);
+    }
+}
+
 /// That a catalog lists these nodes.
 fn expect_nodes(
     rt: &impl Abort,
@@ -68,16 +84,32 @@ fn expect_nodes(
     wanted: &[Wanted],
 ) -> Result<(), AllocError> {
     let version = catalog(rt, alloc, rows)?;
-    match read_listing(alloc, &version) {
-        Ok(listing) => {
-            assert_eq!(rt; listing.nodes().len(), wanted.len());
-            'nodes: for (node, wanted) in listing.nodes().iter().zip(wanted) {
-                expect_node(rt, node, wanted);
-            }
-        }
-        Err(error) => panic!(rt; "{error:?}"),
+    expect_listed(rt, &unbroken(rt, read_listing(alloc, &version)), wanted);
+    Ok(())
+}
+
+/// That a catalog lists these nodes, whichever of these listings was the one before.
+fn expect_nodes_after(
+    rt: &impl Abort,
+    alloc: Global,
+    before: &[Listing],
+    rows: &[Row],
+    wanted: &[Wanted],
+) -> Result<(), AllocError> {
+    let version = catalog(rt, alloc, rows)?;
+    'before: for before in before {
+        let read = read_listing_after(alloc, &version, Some(before));
+        expect_listed(rt, &unbroken(rt, read), wanted);
     }
     Ok(())
+}
+
+/// That what was read of a catalog is that it is broken for this reason.
+fn expect_reason(rt: &impl Abort, read: Result<Listing, CatalogError>, wanted: Broken) {
+    match read {
+        Ok(listing) => panic!(rt; "{} nodes and not {wanted:?}", listing.nodes().len()),
+        Err(error) => assert_eq!(rt; error, CatalogError::Broken(wanted)),
+    }
 }
 
 /// That a catalog is broken for this reason.
@@ -88,10 +120,7 @@ fn expect_broken(
     wanted: Broken,
 ) -> Result<(), AllocError> {
     let version = catalog(rt, alloc, rows)?;
-    match read_listing(alloc, &version) {
-        Ok(listing) => panic!(rt; "{} nodes and not {wanted:?}", listing.nodes().len()),
-        Err(error) => assert_eq!(rt; error, CatalogError::Broken(wanted)),
-    }
+    expect_reason(rt, read_listing(alloc, &version), wanted);
     Ok(())
 }
 
@@ -230,5 +259,74 @@ fn a_catalog_has_65536_members_at_most(rt: HostRuntime) -> Result<(), Fail> {
     assert_eq!(&rt; many(&rt, rt.alloc(), Listing::NODES)?, Ok(65_536));
     let more = many(&rt, rt.alloc(), Listing::NODES + 1)?;
     assert_eq!(&rt; more, Err(CatalogError::Broken(Broken::TooManyMembers)));
+    Ok(())
+}
+
+/// What a catalog listed before: the catalog `c.` in an earlier version, the same with its zones in another order, and
+/// the catalog `d.`.
+fn listings_before(rt: &impl Abort, alloc: Global) -> Result<Vec<Listing>, AllocError> {
+    let earlier: [Row; 4] = [
+        TWO,
+        ("1.zones.c", TYPE_PTR, 0, Target("b.test")),
+        ("2.zones.c", TYPE_PTR, 0, Target("c.test")),
+        ("4.zones.c", TYPE_PTR, 0, Target("d.test")),
+    ];
+    let turned: [Row; 4] = [
+        TWO,
+        ("1.zones.c", TYPE_PTR, 0, Target("d.test")),
+        ("3.zones.c", TYPE_PTR, 0, Target("b.test")),
+        ("4.zones.c", TYPE_PTR, 0, Target("a.test")),
+    ];
+    let other: [Row; 5] = [
+        ("d", TYPE_SOA, 0, Soa(1)),
+        ("d", TYPE_NS, 0, Target("invalid")),
+        ("version.d", TYPE_TXT, 0, Octets(b"\x012")),
+        ("3.zones.d", TYPE_PTR, 0, Target("z.test")),
+        ("5.zones.d", TYPE_PTR, 0, Target("y.test")),
+    ];
+    let mut before = Vec::new(alloc);
+    before.push(unbroken(rt, read_listing(alloc, &catalog(rt, alloc, &earlier)?)))?;
+    before.push(unbroken(rt, read_listing(alloc, &catalog(rt, alloc, &turned)?)))?;
+    let other = version(rt, alloc, &name(rt, "d"), &other)?;
+    before.push(unbroken(rt, read_listing(alloc, &other)))?;
+    Ok(before)
+}
+
+#[test]
+fn a_listing_is_the_same_after_any_other(rt: HostRuntime) -> Result<(), Fail> {
+    let rows: [Row; 5] = [
+        TWO,
+        ("1.zones.c", TYPE_PTR, 0, Target("b.test")),
+        ("3.zones.c", TYPE_PTR, 0, Target("a.test")),
+        ("4.zones.c", TYPE_PTR, 0, Target("d.test")),
+        ("5.zones.c", TYPE_PTR, 0, Target("c.test")),
+    ];
+    let wanted: [Wanted; 4] = [
+        (b"1", "b.test", "", &[]),
+        (b"3", "a.test", "", &[]),
+        (b"4", "d.test", "", &[]),
+        (b"5", "c.test", "", &[]),
+    ];
+    let before = listings_before(&rt, rt.alloc())?;
+    expect_nodes(&rt, rt.alloc(), &rows, &wanted)?;
+    expect_nodes_after(&rt, rt.alloc(), before.as_slice(), &rows, &wanted)?;
+    Ok(())
+}
+
+#[test]
+fn a_zone_listed_twice_is_found_after_any_listing(rt: HostRuntime) -> Result<(), Fail> {
+    let alloc = rt.alloc();
+    let rows: [Row; 4] = [
+        TWO,
+        ("1.zones.c", TYPE_PTR, 0, Target("b.test")),
+        ("3.zones.c", TYPE_PTR, 0, Target("d.test")),
+        ("4.zones.c", TYPE_PTR, 0, Target("d.test")),
+    ];
+    let version = catalog(&rt, alloc, &rows)?;
+    let before = listings_before(&rt, alloc)?;
+    'before: for before in before.as_slice() {
+        let read = read_listing_after(alloc, &version, Some(before));
+        expect_reason(&rt, read, Broken::ZoneTwice);
+    }
     Ok(())
 }

@@ -1,6 +1,7 @@
 pub mod Ordered
 pub mod Pairs
 pub mod RecordLemmas
+pub mod AbsenceLemmas
 pub mod FaultLemmas
 pub mod WithinLemmas
 pub mod OwnerLemmas

@@ -1,3 +1,4 @@
 -- Inner: how the code keeps things.
 pub mod Kept
 pub mod Neighbours
+pub mod Singletons

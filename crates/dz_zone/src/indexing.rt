@@ -12,7 +12,7 @@ ghost use Rattle.dz_zone.specs.Version.{owners_of};
 ghost use Rattle.dz_zone.specs.inner.Kept.{IsRisen, RisesAt};
 
 use crate::order::comes_before;
-use dz_index::{Index, SortKey};
+use dz_index::{Index, OwnerKey, SortKey};
 use dz_name::Name;
 use dz_name::dns::{TYPE_NS, ZONE_RECORDS};
 use dz_record::Rr;
@@ -42,7 +42,7 @@ pub(crate) fn index_rising(alloc: Global, records: &[Rr]) -> Result<Option<Index
         return Ok(None);
     }
     let mut index = Index::empty(alloc)?;
-    let mut key = SortKey::empty();
+    let mut key = OwnerKey::empty();
     'records: for place in 0..records.len() {
         let order = index.put(&records[place].owner_ref(), &mut key)?;
         if !rises_at(order, records, place) {

@@ -1,10 +1,11 @@
 //! The faults of records in canonical order, each in one pass.
 
-ghost use Rattle.std.specs.Prelude.{◌≡◌, ◌∷◌, ◌&&◌, ◌||◌, ◌==◌, not, filter};
+ghost use Rattle.std.specs.Prelude.{◌≡◌, ◌≢◌, ◌∷◌, ◌&&◌, ◌||◌, ◌==◌, not, filter, true, false};
 ghost use Rattle.std.specs.List.{list_any};
 ghost use Rattle.std.specs.List.Sorted.{IsStrictlySortedBy};
 ghost use Rattle.dz_record.specs.Record.{record_order};
 ghost use Rattle.dz_zone.specs.inner.Neighbours.{neighbours_from};
+ghost use Rattle.dz_zone.specs.inner.Singletons.{is_singleton, has_singletons, has_soa};
 ghost use Rattle.dz_zone.specs.Valid.{at_apex, no_soa, soa_twice, soa_below, no_ns, out_of_zone, is_beside_any, is_cname_and_other, clash, cname_beside, both_are, owned_twice, too_many, fault_of};
 
 use crate::fault::ZoneFault;
@@ -20,21 +21,22 @@ pub(crate) fn fault_of(apex: &Name, records: &[Rr]) -> Option<ZoneFault>
     requires { IsStrictlySortedBy record_order records.now }
     ensures { result ≡ fault_of apex.now records.now }
 {
+    let many = has_singletons(records);
     if no_soa(apex, records) {
         Some(ZoneFault::NoSoa)
-    } else if soa_twice(apex, records) {
+    } else if is_soa_twice(many, apex, records) {
         Some(ZoneFault::SoaTwice)
-    } else if soa_below(apex, records) {
+    } else if is_soa_below(many, apex, records) {
         Some(ZoneFault::SoaBelow)
     } else if no_ns(apex, records) {
         Some(ZoneFault::NoNs)
     } else if out_of_zone(apex, records) {
         Some(ZoneFault::OutOfZone)
-    } else if cname_beside(records) {
+    } else if is_cname_beside(many, records) {
         Some(ZoneFault::CnameBeside)
-    } else if owned_twice(TYPE_CNAME, records) {
+    } else if is_owned_twice(many, TYPE_CNAME, records) {
         Some(ZoneFault::CnameTwice)
-    } else if owned_twice(TYPE_DNAME, records) {
+    } else if is_owned_twice(many, TYPE_DNAME, records) {
         Some(ZoneFault::DnameTwice)
     } else if too_many(records) {
         Some(ZoneFault::TooMany)
@@ -131,6 +133,72 @@ fn both_are(kind: u16, a: &Rr, b: &Rr) -> bool
     ensures { result ≡ both_are kind a.now b.now }
 {
     a.kind() == kind && b.kind() == kind && a.owner_ref().same(&b.owner_ref())
+}
+
+/// Whether an owner has at most one record of the type: of SOA, CNAME and DNAME.
+fn is_singleton(kind: u16) -> bool
+    ensures { result ≡ is_singleton kind }
+{
+    matches!(kind, TYPE_SOA | TYPE_CNAME | TYPE_DNAME)
+}
+
+/// Whether there is more than one record of such types: most zones have the SOA of the apex alone, which tells at once
+/// that none of them stands where it may not.
+fn has_singletons(records: &[Rr]) -> bool
+    ensures { result ≡ has_singletons records.now }
+{
+    1 < records.iter().filter(|r| is_singleton(r.kind())).count()
+}
+
+/// Whether the apex owns more than one SOA.
+fn is_soa_twice(many: bool, apex: &Name, records: &[Rr]) -> bool
+    requires many { many ≡ has_singletons records.now }
+    ensures { result ≡ soa_twice apex.now records.now }
+{
+    if many {
+        soa_twice(apex, records)
+    } else {
+        false
+    }
+}
+
+/// Whether another owner than the apex has an SOA, where the apex has one.
+fn is_soa_below(many: bool, apex: &Name, records: &[Rr]) -> bool
+    requires many { many ≡ has_singletons records.now }
+    requires soa { no_soa apex.now records.now ≡ false }
+    ensures { result ≡ soa_below apex.now records.now }
+{
+    if many {
+        soa_below(apex, records)
+    } else {
+        false
+    }
+}
+
+/// Whether an owner of a CNAME has a type that may not stand beside it, where there is an SOA.
+fn is_cname_beside(many: bool, records: &[Rr]) -> bool
+    requires rises { IsStrictlySortedBy record_order records.now }
+    requires many { many ≡ has_singletons records.now }
+    requires soa { has_soa records.now ≡ true }
+    ensures { result ≡ cname_beside records.now }
+{
+    if many { cname_beside(records) } else { false }
+}
+
+/// Whether an owner has two records of another type than SOA of which it may have one, where there is an SOA.
+fn is_owned_twice(many: bool, kind: u16, records: &[Rr]) -> bool
+    requires rises { IsStrictlySortedBy record_order records.now }
+    requires many { many ≡ has_singletons records.now }
+    requires soa { has_soa records.now ≡ true }
+    requires single { is_singleton kind ≡ true }
+    requires other { kind ≢ TYPE_SOA }
+    ensures { result ≡ owned_twice kind records.now }
+{
+    if many {
+        owned_twice(kind, records)
+    } else {
+        false
+    }
 }
 
 /// Whether an owner of a CNAME has a type that may not stand beside it. Where the records ascend, the records of an

@@ -43,25 +43,25 @@ returns-then-not-is_empty-clause-cut g c =
     let zone = c.args.version.now.records in
     let above = drop (c.labels.skip - 1) c.args.name.now in
     let shown : c.of_type-servers.result.now ≡ of_type 2 (records_of zone above) =
-    c.of_type-servers.ensures ∙ ap (of_type 2) (c.node_of.ensures.records ∙ ap (records_of zone) c.ancestor_ref-above.ensures) in
-    let owned : owns zone 2 above ≡ true = owned_shows zone above c.of_type-servers.result.now c.node_of.ensures.rises shown c.if-not-is_empty.ensures in
+    c.of_type-servers.ensures ∙ ap (of_type 2) (c.node_near-near.ensures.node.records_are ∙ ap (records_of zone) c.ancestor_ref-above.ensures) in
+    let owned : owns zone 2 above ≡ true = owned_shows zone above c.of_type-servers.result.now c.node_near-near.ensures.rises shown c.if-not-is_empty.ensures in
     let here = cut_here c.args.version.now.apex zone c.args.name.now c.labels.skip true c.labels-test.true c.labels.invariant.skip c.labels.invariant.none_above (sym owned) in
     let is : cut c.args.version.now.apex zone c.args.name.now ≡ Some above =
     topmost_found (is_cut c.args.version.now.apex zone) c.args.name.now above (c.labels.skip - 1) (omega arith) here in
-    ap Some shown ∙ ap (servers_at zone) (sym is)
+    ap Some (c.cut_at.ensures ∙ shown) ∙ ap (servers_at zone) (sym is)
 
 pub labels-preserved : goal.labels-preserved
 labels-preserved g c =
     let zone = c.args.version.now.records in
     let above = drop (c.labels.skip - 1) c.args.name.now in
     let shown : c.of_type-servers.result.now ≡ of_type 2 (records_of zone above) =
-    c.of_type-servers.ensures ∙ ap (of_type 2) (c.node_of.ensures.records ∙ ap (records_of zone) c.ancestor_ref-above.ensures) in
-    let free : owns zone 2 above ≡ false = shows_owned zone above c.of_type-servers.result.now c.node_of.ensures.rises shown c.if-not-is_empty.ensures in
+    c.of_type-servers.ensures ∙ ap (of_type 2) (c.node_near-near.ensures.node.records_are ∙ ap (records_of zone) c.ancestor_ref-above.ensures) in
+    let free : owns zone 2 above ≡ false = shows_owned zone above c.of_type-servers.result.now c.node_near-near.ensures.rises shown c.if-not-is_empty.ensures in
     record {
       skip = omega (arith, c.labels.invariant.skip, c.labels-test.true);
       none_above = cut_here c.args.version.now.apex zone c.args.name.now c.labels.skip false c.labels-test.true c.labels.invariant.skip c.labels.invariant.none_above (sym free);
-      counted = omega (arith, c.labels.invariant.counted, c.node_of.ensures.counted);
+      counted = omega (arith, c.labels.invariant.counted, c.node_near-near.ensures.counted);
       cost = searches_more (length c.args.name.now - c.labels.skip + 1) _ _ _ (omega (arith, c.labels.invariant.skip, c.labels-test.true))
-          (searches_add (length c.args.name.now - c.labels.skip) 1 _ (c.labels.steps - c.args.steps.now) (c.node_of.new.steps - c.labels.steps) _
-          c.labels.invariant.cost c.node_of.ensures.cost (omega (arith, c.labels.invariant.counted, c.node_of.ensures.counted)));
+          (searches_add (length c.args.name.now - c.labels.skip) 1 _ (c.labels.steps - c.args.steps.now) (c.node_near-near.new.steps - c.labels.steps) _
+          c.labels.invariant.cost c.node_near-near.ensures.cost (omega (arith, c.labels.invariant.counted, c.node_near-near.ensures.counted)));
     }

@@ -5,7 +5,7 @@ use Rattle.dz_lookup.proofs.found.find.Goals as goal
 
 pub returns-in-Some-clause-found : goal.returns-in-Some-clause-found
 returns-in-Some-clause-found g c =
-    found_below c.args.version.now.apex c.args.version.now.records c.args.name.now c.args.kind c.in-Some.servers.now c.in-Some.ensures.cut
+    found_below c.args.version.now.apex c.args.version.now.records c.args.name.now c.args.kind c.in-Some.cut.servers.now c.in-Some.ensures.cut
 
 pub returns-in-Some-clause-some : goal.returns-in-Some-clause-some
 returns-in-Some-clause-some g c =

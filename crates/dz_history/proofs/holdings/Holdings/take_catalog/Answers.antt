@@ -15,5 +15,5 @@ returns-in-Ok-clause-state c =
 
 pub returns-in-Broken-clause-state : goal.returns-in-Broken-clause-state
 returns-in-Broken-clause-state c =
-    let reason = reads_err c.read_listing-listing.result _ c.in-Broken.reason c.in-Err.error c.in-Err.is c.in-Broken.is (rw c.deref.ensures at c.read_listing-listing.ensures) in
+    let reason = reads_err c.read_listing_after-listing.result _ c.in-Broken.reason c.in-Err.error c.in-Err.is c.in-Broken.is (rw c.deref.ensures at c.read_listing_after-listing.ensures) in
     c.counted.ensures ∙ ap counted (c.in_ok-holding.ensures ∙ sym (listed_err c.args.self.now c.args.number c.args.catalog.now c.args.version.value c.in-Broken.reason reason))

@@ -17,7 +17,7 @@ returns-in_ok-add-in-Less-clause-index c = λ owners index _.
     let is : key ≡ key_of c.args.name.now = c.octets-in-Less.ensures.value ∙ c.set.ensures in
     let less : Less ≡ last_compared c.args.self.now (key_of c.args.name.now) = rw (c.octets.ensures.value ∙ c.set.ensures) at c.in-Less.ensures in
     let last = last_of owners c.args.self.now kept index c.args.name.now (ap is_gt (sym (less ∙ order_is owners c.args.self.now kept index c.args.name.now))) in
-    rw c.in_ok-add-in-Less.ensures
+    rw c.in_ok-add-in-Less.ensures.value
     (index_added owners c.args.self.now c.args.name.now kept index key is last (other_less c.args.self.now key (rw (sym is) at less)))
 
 pub returns-in-Equal-clause-order : goal.returns-in-Equal-clause-order

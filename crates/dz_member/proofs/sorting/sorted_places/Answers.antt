@@ -1,16 +1,16 @@
-use Rattle.std.proofs.Common.{◌∙◌, ap, map, arith}
+use Rattle.std.proofs.Common.{◌∙◌, ap, map}
 use Rattle.std.specs.Prelude.{slice_get, Some}
 use Rattle.dz_member.proofs.PlaceLemmas.{places_are}
-use Rattle.dz_member.proofs.sorting.places_of_listing.Goals as goal
+use Rattle.dz_member.proofs.sorting.sorted_places.Goals as goal
 
 pub returns : goal.returns
 returns c =
     let nodes = c.args.nodes.now in
     let places = c.in_ok-places_of.ensures ∙ ap (map (λ p. p.place)) c.deref-2.ensures.value in (
       record {
-        labels = c.labels_rise.ensures.0 c.if-not-labels_rise.false;
+        labels = c.requires.labels;
         zones = c.in_ok-sorted.ensures.once (rw c.deref.ensures.value at (c.zones_rise.ensures.0 c.if-not-zones_rise.false));
-        few = omega (arith, c.if-nodes-gt-NODES.false);
+        few = c.requires.few;
       },
       ap (map (slice_get nodes)) places ∙ (places_are nodes c.in_ok-sorted.sorted.items c.in_ok-sorted.ensures.places ∙ ap (map Some) c.in_ok-sorted.ensures.is),
     )
