@@ -78,7 +78,7 @@ meaning (code_found.Here records) = here records.now
 meaning (code_found.Alias alias_found) = alias alias_found.now
 meaning code_found.NoData = no_data
 meaning code_found.NoName = no_name
-meaning (code_found.Referral cut_found) = referral cut_found.servers.now
+meaning (code_found.Referral servers) = referral servers.now
 
 -- the CNAME that leads on, if one does
 abbrev pub alias_of : Found → Option Record

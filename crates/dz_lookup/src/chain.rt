@@ -3,13 +3,16 @@
 ghost use Rattle.std.specs.Prelude.{◌≡◌, ◌<◌, ◌≤◌, [], ◌∷◌, ◌++◌, length, true, slice_index_or};
 ghost use Rattle.dz_name.specs.Name.{same_name, is_within};
 ghost use Rattle.dz_name.specs.Words.{Name};
+ghost use Rattle.std.specs.List.{AllByRecursion};
 ghost use Rattle.dz_record.specs.Record.{Record, target_of};
+ghost use Rattle.dz_lookup.specs.Runs.{of_type, records_of};
 ghost use Rattle.dz_lookup.specs.Chain.{was_looked_up, next_name, chain_of, ending_of};
 ghost use Rattle.dz_lookup.specs.inner.Links.{behind, IsNext};
 
-use crate::found::{Found, find};
+use crate::found::{Found, find_near};
+use crate::runs::{Addresses, addresses_near};
 use arrayvec::ArrayVec;
-use dz_name::dns::ALIASES;
+use dz_name::dns::{ALIASES, TYPE_A, TYPE_AAAA};
 use dz_name::{Name, NameRef};
 use dz_record::Rr;
 use dz_steps::Steps;
@@ -28,11 +31,13 @@ pub enum Last<'a> {
 }
 
 /// The CNAME records that lead on from a name, at most 16, each with the name that it was found for. Contracts see it
-/// as the list of these pairs. Only the first name is kept: each other one is the target of the record before.
+/// as the list of these pairs. Only the first name is kept: each other one is the target of the record before. Beside
+/// them it has the number in the index of the first owner below the zone cut, if the chain ends at one.
 #[derive(Drop)]
 pub struct Chain<'a> {
     first: Name,
     records: ArrayVec<Option<&'a Rr>, ALIASES>,
+    below_cut: usize,
 }
 
 impl<'a> Model for Chain<'a> {
@@ -56,7 +61,34 @@ impl<'a> Chain<'a> {
         Chain {
             first: Name::root(),
             records: ArrayVec::new(),
+            below_cut: 0,
         }
+    }
+
+    /// The addresses of a name that may be the owner so many behind the first one below the zone cut at which the chain
+    /// ends, as its name servers often are. That owner is looked at first; where it isn't the name, the name is searched
+    /// once.
+    pub fn addresses_of<'v>(
+        &self,
+        version: &'v Version,
+        name: &Name,
+        number: usize,
+    ) -> Addresses<'v>
+        ensures four { result.four.now
+            ≡ of_type TYPE_A (records_of version.now.records name.now) }
+        ensures six { result.six.now
+            ≡ of_type TYPE_AAAA (records_of version.now.records name.now) }
+        ensures owner_of_four { AllByRecursion (λ r. r.owner ≡ name.now) result.four.now }
+        ensures owner_of_six { AllByRecursion (λ r. r.owner ≡ name.now) result.six.now }
+    {
+        addresses_near(version, name, self.below_cut.saturating_add(number))
+    }
+
+    /// Keeps the number of the first owner below the cut at which it ends.
+    fn end_at(&mut self, below_cut: usize)
+        ensures { self.new ≡ self.old }
+    {
+        self.below_cut = below_cut;
     }
 
     /// How many CNAME records it has, at most 16.
@@ -168,9 +200,12 @@ fn follow<'a, L: Ledger>(
     let mut steps = Steps::<L>::new(blank);
     let mut asked = *name;
     'aliases: while chain.len() < ALIASES {
-        let found = find(version, &asked, kind, &mut steps);
-        let alias = match found.alias() {
-            None => return Last::Found(found, asked),
+        let finding = find_near(version, &asked, kind, &mut steps);
+        let alias = match finding.found.alias() {
+            None => {
+                chain.end_at(finding.below_cut);
+                return Last::Found(finding.found, asked);
+            }
             Some(alias) => alias,
         };
         chain.push(&asked, alias);

@@ -6,7 +6,7 @@ ghost use Rattle.dz_name.specs.Name.{is_within, wildcard_of};
 ghost use Rattle.dz_record.specs.Record.{record_order};
 ghost use Rattle.dz_lookup.specs.Counted.{TakesSearches, IsLookup};
 ghost use Rattle.dz_lookup.specs.Runs.{exists};
-ghost use Rattle.dz_lookup.specs.Found.{encloser, cut, source, at_node, at_source, found, meaning, alias_of, HasRecords};
+ghost use Rattle.dz_lookup.specs.Found.{encloser, cut, source, at_node, at_source, found, meaning, alias_of, referral, HasRecords};
 ghost use Rattle.dz_lookup.specs.inner.Places.{from_owner, IsBegin, IsNodeOf, if_exists, servers_at};
 
 use crate::runs::{
@@ -30,17 +30,45 @@ pub enum Found<'a> {
     NoData,
     /// Neither the name nor a wildcard for it exists.
     NoName,
-    /// The zone cut that the name is at or below.
-    Referral(Delegation<'a>),
+    /// The NS records of the zone cut that the name is at or below.
+    Referral(&'a [Rr]),
 }
 
 /// A zone cut (RFC 1034 section 4.2).
-#[derive(Clone, Copy, Debug)]
-pub struct Delegation<'a> {
+#[derive(Clone, Copy)]
+struct Delegation<'a> {
     /// Its NS records, in the order of RDATA.
-    pub servers: &'a [Rr],
-    /// The number in the index of the owner behind it.
-    pub next: usize,
+    servers: &'a [Rr],
+    /// The number in the index of the first owner below it.
+    below: usize,
+}
+
+/// What is found, and near which owner more of it may stand.
+#[derive(Clone, Copy)]
+pub(crate) struct Finding<'a> {
+    pub(crate) found: Found<'a>,
+    /// The number in the index of the first owner below a zone cut, 0 where there is no cut.
+    pub(crate) below_cut: usize,
+}
+
+impl<'a> Finding<'a> {
+    fn at_cut(cut: &Delegation<'a>) -> Finding<'a>
+        ensures { meaning result.found ≡ referral cut.now.servers.now }
+    {
+        Finding {
+            found: Found::Referral(cut.servers),
+            below_cut: cut.below,
+        }
+    }
+
+    fn without_cut(found: Found<'a>) -> Finding<'a>
+        ensures { meaning result.found ≡ meaning found.entry }
+    {
+        Finding {
+            found,
+            below_cut: 0,
+        }
+    }
 }
 
 impl<'a> Found<'a> {
@@ -70,10 +98,27 @@ pub fn find<'a, L: Ledger>(
     ensures cost { IsLookup (length name.now) (length version.now.records) (steps.new - steps.old) }
     ensures counted { steps.old ≤ steps.new }
 {
+    find_near(version, name, kind, steps).found
+}
+
+/// The same, and near which owner more of it may stand.
+pub(crate) fn find_near<'a, L: Ledger>(
+    version: &'a Version,
+    name: &Name,
+    kind: u16,
+    steps: &mut Steps<L>,
+) -> Finding<'a>
+    requires within { is_within name.now version.now.apex ≡ true }
+    ensures found { meaning result.found
+        ≡ found version.now.apex version.now.records name.now kind }
+    ensures some { HasRecords (meaning result.found) }
+    ensures cost { IsLookup (length name.now) (length version.now.records) (steps.new - steps.old) }
+    ensures counted { steps.old ≤ steps.new }
+{
     let node = node_of(version, &name.as_ref(), steps);
     match cut(version, name, &node, steps) {
-        Some(cut) => Found::Referral(cut),
-        None => at_source(version, name, &node, kind, steps),
+        Some(cut) => Finding::at_cut(&cut),
+        None => Finding::without_cut(at_source(version, name, &node, kind, steps)),
     }
 }
 
@@ -183,7 +228,7 @@ fn cut_at(servers: &[Rr], number: usize) -> Delegation<'_>
 {
     Delegation {
         servers,
-        next: number.saturating_add(1),
+        below: number.saturating_add(1),
     }
 }
 

@@ -9,5 +9,5 @@ mod found;
 mod runs;
 
 pub use chain::{Chain, Last, chase};
-pub use found::{Delegation, Found, find};
+pub use found::{Found, find};
 pub use runs::{Addresses, addresses_of, records_of, rrset_of};

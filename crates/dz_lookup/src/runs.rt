@@ -25,6 +25,9 @@ use std::sync::ledger::{Blank, Ledger};
 /// often have.
 pub(crate) const NEAR: usize = 5;
 
+/// The number of the apex among the owners in the index.
+const APEX: usize = 0;
+
 /// The records of an owner, in the order of type and RDATA.
 pub fn records_of<'a>(version: &'a Version, name: &Name) -> &'a [Rr]
     ensures { result.now ≡ records_of version.now.records name.now }
@@ -65,9 +68,18 @@ impl<'a> Default for Addresses<'a> {
     }
 }
 
-/// The addresses of a name. The owner of a number in the index is looked at first; where it isn't the name, the name is
-/// searched once.
-pub fn addresses_of<'a>(version: &'a Version, name: &Name, number: usize) -> Addresses<'a>
+/// The addresses of a name, by one search where it isn't the apex.
+pub fn addresses_of<'a>(version: &'a Version, name: &Name) -> Addresses<'a>
+    ensures four { result.four.now ≡ of_type TYPE_A (records_of version.now.records name.now) }
+    ensures six { result.six.now ≡ of_type TYPE_AAAA (records_of version.now.records name.now) }
+    ensures owner_of_four { AllByRecursion (λ r. r.owner ≡ name.now) result.four.now }
+    ensures owner_of_six { AllByRecursion (λ r. r.owner ≡ name.now) result.six.now }
+{
+    addresses_near(version, name, APEX)
+}
+
+/// The same. The owner of a number in the index is looked at first; where it isn't the name, the name is searched once.
+pub(crate) fn addresses_near<'a>(version: &'a Version, name: &Name, number: usize) -> Addresses<'a>
     ensures four { result.four.now ≡ of_type TYPE_A (records_of version.now.records name.now) }
     ensures six { result.six.now ≡ of_type TYPE_AAAA (records_of version.now.records name.now) }
     ensures owner_of_four { AllByRecursion (λ r. r.owner ≡ name.now) result.four.now }

@@ -12,7 +12,7 @@ ghost use Rattle.dz_reply.specs.Answer.{Replies, alias_entries, own_entries, soa
 use crate::glue::Glue;
 use crate::layout::{put_entries, put_entry, put_own};
 use dz_header::{ResponseCode, Writer};
-use dz_lookup::{Chain, Delegation, Found, Last, chase};
+use dz_lookup::{Chain, Found, Last, chase};
 use dz_name::Name;
 use dz_record::Rr;
 use dz_request::{Frame, Heading};
@@ -60,7 +60,7 @@ fn reply_end(
         Found::Alias(_) => reply_aliases(answer, chain, writer),
         Found::NoData => reply_soa(answer, chain, ResponseCode::NoError, writer),
         Found::NoName => reply_soa(answer, chain, ResponseCode::NxDomain, writer),
-        Found::Referral(cut) => reply_referral(answer, chain, cut, writer),
+        Found::Referral(servers) => reply_referral(answer, chain, servers, writer),
     }
 }
 
@@ -120,23 +120,23 @@ fn reply_soa(answer: &Answer<'_>, chain: &Chain<'_>, code: ResponseCode, writer:
 }
 
 /// The aliases, and the name servers of the zone cut with their addresses (RFC 1034 section 4.3.2).
-fn reply_referral(answer: &Answer<'_>, chain: &Chain<'_>, cut: &Delegation<'_>, writer: &mut Writer)
+fn reply_referral(answer: &Answer<'_>, chain: &Chain<'_>, servers: &[Rr], writer: &mut Writer)
     requires { IsWhole answer.now.frame.now.request.now answer.now.frame.now.asked.now.size }
     ensures { Replies answer.now.frame.now
-        (with_servers answer.now.version.now chain.now cut.now.servers.now) writer.new.writing }
+        (with_servers answer.now.version.now chain.now servers.now) writer.new.writing }
 {
     let question = &answer.frame.asked.question.name;
     let authoritative = chain.len() != 0;
-    let glue = Glue::of(answer.version, cut.servers, cut.next);
+    let glue = Glue::of(answer.version, servers, chain);
     let heading = Heading {
         answer: chain.len(),
-        authority: cut.servers.len(),
+        authority: servers.len(),
         additional: glue.count(),
         ..Heading::bare(ResponseCode::NoError, authoritative, false)
     };
     answer.frame.begin(writer, &heading);
     put_aliases(writer, question, chain);
-    put_own(writer, question, cut.servers);
+    put_own(writer, question, servers);
     glue.put(writer, question);
     answer
         .frame

@@ -10,7 +10,7 @@ ghost use Rattle.dz_reply.specs.inner.Glue.{shown};
 use crate::layout::put_own;
 use arrayvec::ArrayVec;
 use dz_header::Writer;
-use dz_lookup::{Addresses, addresses_of};
+use dz_lookup::{Addresses, Chain, addresses_of};
 use dz_name::Name;
 use dz_record::Rr;
 use dz_zone::Version;
@@ -22,9 +22,6 @@ const COUNTS: usize = 65_536;
 /// The most name servers whose addresses are looked up once; those of further ones are looked up to be counted and again
 /// to be written.
 const SERVERS: usize = 16;
-
-/// The number of the apex in the index, which is looked at first where no owner is likelier.
-const APEX: usize = 0;
 
 /// The glue of a referral: the addresses of each name server within the zone (RFC 1034 section 4.3.2). Contracts see the
 /// records as the reply has them.
@@ -48,14 +45,14 @@ impl<'a> Model for Glue<'a> {
 }
 
 impl<'a> Glue<'a> {
-    /// The glue of some name servers, whose addresses may stand at the owners from a number in the index on.
-    pub fn of(version: &'a Version, servers: &'a [Rr], next: usize) -> Glue<'a>
+    /// The glue of the name servers of the zone cut at which a chain ends.
+    pub fn of(version: &'a Version, servers: &'a [Rr], chain: &Chain<'_>) -> Glue<'a>
         ensures { result ≡ glue version.now servers.now }
     {
         let (first, further) = servers.split_at(servers.len().min(SERVERS));
         Glue {
             version,
-            found: addresses_of_all(version, first, next),
+            found: addresses_of_all(version, first, chain),
             further,
         }
     }
@@ -77,32 +74,46 @@ impl<'a> Glue<'a> {
     }
 }
 
-/// The addresses of each of a few name servers, each of which is looked for first at the next owner of the index from a
-/// number on.
+/// The addresses of each of a few name servers of the zone cut at which a chain ends.
 fn addresses_of_all<'a>(
     version: &'a Version,
     servers: &[Rr],
-    next: usize,
+    chain: &Chain<'_>,
 ) -> ArrayVec<Addresses<'a>, SERVERS>
     requires { length servers.now ≤ SERVERS }
     ensures { flat_map shown result.items ≡ glue version.now servers.now }
 {
     let mut found = ArrayVec::new();
     'servers: for server in servers {
-        let number = next.saturating_add(found.len());
-        found.push(server_addresses(version, server, number));
+        let number = found.len();
+        found.push(below_addresses(version, server, chain, number));
     }
     found
 }
 
-/// The addresses of a name server, the owner of a number in the index being looked at first; none where it isn't within
+/// The addresses of the name server of this number, of the zone cut at which a chain ends; none where it isn't within
 /// the zone.
-fn server_addresses<'a>(version: &'a Version, server: &Rr, number: usize) -> Addresses<'a>
+fn below_addresses<'a>(
+    version: &'a Version,
+    server: &Rr,
+    chain: &Chain<'_>,
+    number: usize,
+) -> Addresses<'a>
     ensures { shown result ≡ glue_of version.now server.now }
 {
     match address_owner(version, server) {
         None => Addresses::none(),
-        Some(name) => addresses_of(version, &name, number),
+        Some(name) => chain.addresses_of(version, &name, number),
+    }
+}
+
+/// The addresses of a name server; none where it isn't within the zone.
+fn server_addresses<'a>(version: &'a Version, server: &Rr) -> Addresses<'a>
+    ensures { shown result ≡ glue_of version.now server.now }
+{
+    match address_owner(version, server) {
+        None => Addresses::none(),
+        Some(name) => addresses_of(version, &name),
     }
 }
 
@@ -146,7 +157,7 @@ fn count_further(version: &Version, servers: &[Rr]) -> usize
 {
     let mut count = 0;
     'servers: for server in servers {
-        count = (count + count_one(&server_addresses(version, server, APEX))) % COUNTS;
+        count = (count + count_one(&server_addresses(version, server))) % COUNTS;
     }
     count
 }
@@ -174,6 +185,6 @@ fn put_further(writer: &mut Writer, question: &Name, version: &Version, servers:
         ≡ also writer.old.writing (entries_octets question.now (glue version.now servers.now)) }
 {
     'servers: for server in servers {
-        put_one(writer, question, &server_addresses(version, server, APEX));
+        put_one(writer, question, &server_addresses(version, server));
     }
 }

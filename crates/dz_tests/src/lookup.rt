@@ -192,7 +192,7 @@ fn shown(rt: &impl Abort, found: Found) -> Seen {
         Found::Alias(alias) => Seen::Alias(alias.owner()),
         Found::NoData => Seen::NoData,
         Found::NoName => Seen::NoName,
-        Found::Referral(cut) => Seen::Referral(owner_of(rt, cut.servers), cut.servers.len()),
+        Found::Referral(servers) => Seen::Referral(owner_of(rt, servers), servers.len()),
     }
 }
 

@@ -14,30 +14,30 @@ aliases-init g c = record {
 
 pub returns-in-None-clause-aliases : goal.returns-in-None-clause-aliases
 returns-in-None-clause-aliases g c =
-    let e = chain_ends (16 - length c.aliases.chain) c.args.version.now.apex c.args.version.now.records c.args.kind _ c.aliases.asked (meaning c.find-found.result) (omega arith) c.find-found.ensures.found (sym (rw c.in-None.is at c.alias.ensures)) in
-    ap (λ x. x.aliases) (sym e ∙ c.aliases.invariant.rest)
+    let e = chain_ends (16 - length c.aliases.chain) c.args.version.now.apex c.args.version.now.records c.args.kind _ c.aliases.asked (meaning c.find_near-finding.result.found) (omega arith) c.find_near-finding.ensures.found (sym (rw c.in-None.is at c.alias.ensures)) in
+    c.end_at.ensures ∙ ap (λ x. x.aliases) (sym e ∙ c.aliases.invariant.rest)
 
 pub returns-in-None-clause-ending : goal.returns-in-None-clause-ending
 returns-in-None-clause-ending g c =
-    let e = chain_ends (16 - length c.aliases.chain) c.args.version.now.apex c.args.version.now.records c.args.kind _ c.aliases.asked (meaning c.find-found.result) (omega arith) c.find-found.ensures.found (sym (rw c.in-None.is at c.alias.ensures)) in
+    let e = chain_ends (16 - length c.aliases.chain) c.args.version.now.apex c.args.version.now.records c.args.kind _ c.aliases.asked (meaning c.find_near-finding.result.found) (omega arith) c.find_near-finding.ensures.found (sym (rw c.in-None.is at c.alias.ensures)) in
     ap (λ x. x.ending) (sym e ∙ c.aliases.invariant.rest)
 
 pub returns-in-None-next_name-clause-aliases : goal.returns-in-None-next_name-clause-aliases
 returns-in-None-next_name-clause-aliases g c =
-    let leads = links_lead c.args.version.now.apex c.args.version.now.records c.args.kind c.aliases.asked c.aliases.chain c.push.new.self (meaning c.find-found.result) c.in-Some.alias.now c.next_name.result _
-    (omega arith) c.aliases.invariant.rest c.find-found.ensures.found (rw c.in-Some.is at c.alias.ensures) c.push.ensures (rw c.apex.ensures at c.next_name.ensures) in
+    let leads = links_lead c.args.version.now.apex c.args.version.now.records c.args.kind c.aliases.asked c.aliases.chain c.push.new.self (meaning c.find_near-finding.result.found) c.in-Some.alias.now c.next_name.result _
+    (omega arith) c.aliases.invariant.rest c.find_near-finding.ensures.found (rw c.in-Some.is at c.alias.ensures) c.push.ensures (rw c.apex.ensures at c.next_name.ensures) in
     ap (λ x. x.aliases) (rw c.in-None-next_name.is at leads)
 
 pub returns-in-None-next_name-clause-ending : goal.returns-in-None-next_name-clause-ending
 returns-in-None-next_name-clause-ending g c =
-    let leads = links_lead c.args.version.now.apex c.args.version.now.records c.args.kind c.aliases.asked c.aliases.chain c.push.new.self (meaning c.find-found.result) c.in-Some.alias.now c.next_name.result _
-    (omega arith) c.aliases.invariant.rest c.find-found.ensures.found (rw c.in-Some.is at c.alias.ensures) c.push.ensures (rw c.apex.ensures at c.next_name.ensures) in
+    let leads = links_lead c.args.version.now.apex c.args.version.now.records c.args.kind c.aliases.asked c.aliases.chain c.push.new.self (meaning c.find_near-finding.result.found) c.in-Some.alias.now c.next_name.result _
+    (omega arith) c.aliases.invariant.rest c.find_near-finding.ensures.found (rw c.in-Some.is at c.alias.ensures) c.push.ensures (rw c.apex.ensures at c.next_name.ensures) in
     ap (λ x. x.ending) (rw c.in-None-next_name.is at leads)
 
 pub aliases-preserved : goal.aliases-preserved
 aliases-preserved g c =
-    let leads = links_lead c.args.version.now.apex c.args.version.now.records c.args.kind c.aliases.asked c.aliases.chain c.push.new.self (meaning c.find-found.result) c.in-Some.alias.now c.next_name.result _
-    (omega arith) c.aliases.invariant.rest c.find-found.ensures.found (rw c.in-Some.is at c.alias.ensures) c.push.ensures (rw c.apex.ensures at c.next_name.ensures) in
+    let leads = links_lead c.args.version.now.apex c.args.version.now.records c.args.kind c.aliases.asked c.aliases.chain c.push.new.self (meaning c.find_near-finding.result.found) c.in-Some.alias.now c.next_name.result _
+    (omega arith) c.aliases.invariant.rest c.find_near-finding.ensures.found (rw c.in-Some.is at c.alias.ensures) c.push.ensures (rw c.apex.ensures at c.next_name.ensures) in
     let more : length c.push.new.self ≡ length c.aliases.chain + 1 = ap length c.push.ensures ∙ length-append c.aliases.chain _ in
     let left : 16 - length c.push.new.self ≡ 16 - length c.aliases.chain - 1 = omega arith in
     record {

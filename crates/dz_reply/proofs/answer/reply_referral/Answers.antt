@@ -12,12 +12,12 @@ returns c =
     let frame = c.args.answer.now.frame.now in
     let tcp = is_tcp frame.transport in
     let query = query_of frame.request.now frame.asked.now in
-    let s = with_servers c.args.answer.now.version.now c.args.chain.now c.args.cut.now.servers.now in
-    let additional = glue c.args.answer.now.version.now c.args.cut.now.servers.now in
-    let head : c.begin.new.writer.writing ≡ also (empty (limit_of tcp query.edns)) (head_octets query 0 (not (length c.args.chain.now == 0)) false c.len.result (length c.args.cut.now.servers.now) (length additional + opt_count query.edns)) =
+    let s = with_servers c.args.answer.now.version.now c.args.chain.now c.args.servers.now in
+    let additional = glue c.args.answer.now.version.now c.args.servers.now in
+    let head : c.begin.new.writer.writing ≡ also (empty (limit_of tcp query.edns)) (head_octets query 0 (not (length c.args.chain.now == 0)) false c.len.result (length c.args.servers.now) (length additional + opt_count query.edns)) =
     rw (c.bare.ensures, c.count.ensures, c.of-glue.ensures, c.len-authoritative.ensures.value) at c.begin.ensures
-    ∙ ap (λ h. also (empty (limit_of tcp query.edns)) h) (head_low query 0 (not (length c.args.chain.now == 0)) false c.len.result (length c.args.cut.now.servers.now) (length additional) (opt_count query.edns)) in
+    ∙ ap (λ h. also (empty (limit_of tcp query.edns)) h) (head_low query 0 (not (length c.args.chain.now == 0)) false c.len.result (length c.args.servers.now) (length additional) (opt_count query.edns)) in
     ended_so tcp query s _ (rw c.len-authoritative.ensures.value at (c.finish.ensures (front_octets query s)
-    (laid tcp query s c.len.result (length c.args.cut.now.servers.now) (length additional) _ _ _ _
-    (c.len.ensures.value ∙ sym (length-alias_entries c.args.chain.now)) (sym (length-own_entries c.args.cut.now.servers.now)) refl
+    (laid tcp query s c.len.result (length c.args.servers.now) (length additional) _ _ _ _
+    (c.len.ensures.value ∙ sym (length-alias_entries c.args.chain.now)) (sym (length-own_entries c.args.servers.now)) refl
     head c.put_aliases.ensures c.put_own.ensures (rw c.of-glue.ensures at c.put.ensures))))

@@ -1,11 +1,11 @@
-use Rattle.std.proofs.Common.{arith, ◌+◌, ◌-◌, length}
+use Rattle.std.proofs.Common.{arith, ◌+◌, ◌-◌, ◌∙◌, length}
 use Rattle.dz_lookup.proofs.FoundLemmas.{has_records, found_below, found_elsewhere}
 use Rattle.dz_lookup.proofs.CountedLemmas.{searches_add, searches_more, is_lookup}
-use Rattle.dz_lookup.proofs.found.find.Goals as goal
+use Rattle.dz_lookup.proofs.found.find_near.Goals as goal
 
 pub returns-in-Some-clause-found : goal.returns-in-Some-clause-found
 returns-in-Some-clause-found g c =
-    found_below c.args.version.now.apex c.args.version.now.records c.args.name.now c.args.kind c.in-Some.cut.servers.now c.in-Some.ensures.cut
+    c.at_cut.ensures ∙ found_below c.args.version.now.apex c.args.version.now.records c.args.name.now c.args.kind c.in-Some.cut.servers.now c.in-Some.ensures.cut
 
 pub returns-in-Some-clause-some : goal.returns-in-Some-clause-some
 returns-in-Some-clause-some g c =
@@ -20,7 +20,7 @@ returns-in-Some-clause-cost g c =
 
 pub returns-in-None-clause-found : goal.returns-in-None-clause-found
 returns-in-None-clause-found g c =
-    found_elsewhere c.args.version.now.apex c.args.version.now.records c.args.name.now c.args.kind _ c.in-None.ensures.cut c.at_source.ensures.found
+    c.without_cut.ensures ∙ found_elsewhere c.args.version.now.apex c.args.version.now.records c.args.name.now c.args.kind _ c.in-None.ensures.cut c.at_source.ensures.found
 
 pub returns-in-None-clause-cost : goal.returns-in-None-clause-cost
 returns-in-None-clause-cost g c =
