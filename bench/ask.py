@@ -20,10 +20,10 @@ def is_address(message, rdata=None):
 class Asker:
     """A UDP socket that asks one server."""
 
-    def __init__(self, port):
+    def __init__(self, port, address="127.0.0.1"):
         self.socket = socket.socket(socket.AF_INET, socket.SOCK_DGRAM)
         self.socket.setsockopt(socket.SOL_SOCKET, socket.SO_RCVBUF, 1 << 20)
-        self.socket.connect(("127.0.0.1", port))
+        self.socket.connect((address, port))
         self.last = 0
 
     def ask(self, owner, kind=wire.A, limit=0.05):
@@ -89,15 +89,20 @@ def tcp_times(port, owner, count, limit=15):
     return times
 
 
-def read_frame(stream):
-    """The next message of a stream."""
+def read_octets(stream):
+    """The octets of the next message of a stream."""
     held = b""
     while len(held) < 2 or len(held) < 2 + int.from_bytes(held[:2], "big"):
         octets = stream.recv(65_537)
         if not octets:
             raise ConnectionError("the server closed the connection")
         held += octets
-    return wire.read_message(held[2:])
+    return held[2:]
+
+
+def read_frame(stream):
+    """The next message of a stream."""
+    return wire.read_message(read_octets(stream))
 
 
 def idle_clients(port, owner, count):
@@ -114,11 +119,12 @@ def idle_clients(port, owner, count):
     return streams
 
 
-def dnsperf(server, queries, seconds, connections=0):
+def dnsperf(server, queries, seconds, connections=0, dnssec=False):
     """Queries a second by dnsperf, and microseconds of the server's CPU for each, or infinity where few were
-    answered: over UDP, or TCP connections."""
+    answered: over UDP, or TCP connections, with the DO bit or without."""
     words = ["dnsperf", "-s", "127.0.0.1", "-p", str(server.port), "-d", queries, "-l", str(seconds), "-e", "-q", "200"]
     words += ["-m", "tcp", "-c", str(connections)] if connections else ["-c", "20"]
+    words += ["-D"] if dnssec else []
     before = server.cpu()
     done = subprocess.run([*words, "-T", "2", "-t", "2"], capture_output=True, text=True)
     spent = server.cpu() - before

@@ -16,7 +16,7 @@ import zones
 from primary import Primary
 
 PRIMARY_PORT, FIRST_PORT = 5300, 5310
-CATALOG, LARGE = "catalog.test.", "large.test."
+CATALOG, LARGE, SIGNED = "catalog.test.", "large.test.", "signed.test."
 BURSTS, STARTS = 4, 3  # how often a load and a start are measured; the least is told
 
 
@@ -75,6 +75,25 @@ def large_catalog(count, has_digest):
     return held
 
 
+def signed_catalog(count):
+    """A catalog with one signed member of so many addresses."""
+    return lambda: [zones.catalog(CATALOG, [SIGNED]), zones.signed(SIGNED, count)]
+
+
+def signed_query_file(folder, count):
+    """Queries for dnsperf: of ten, six addresses, one from a wildcard, one of no name, one without data, and one below
+    a signed delegation."""
+    lines, numbers = [], random.Random(1)
+    for _ in range(50_000):
+        number = numbers.randrange(count)
+        lines.append(numbers.choice([f"h{number:06}.{SIGNED} A"] * 6 + [
+            f"x{number:06}.w.{SIGNED} A", f"x{number:06}.{SIGNED} A", f"h{number:06}.{SIGNED} AAAA",
+            f"x{number:06}.s.{SIGNED} A"]))
+    path = pathlib.Path(folder) / "signed-queries"
+    path.write_text("\n".join(lines) + "\n")
+    return str(path)
+
+
 def query_file(folder, names):
     """Queries for dnsperf: of ten, seven addresses, one from a wildcard, one of no name, one without data."""
     lines, numbers = [], random.Random(1)
@@ -129,6 +148,40 @@ def cpu(bench):
     plan = servers.Plan(CATALOG, PRIMARY_PORT, names)
     table("CPU a query, microseconds (thousand queries a second)",
           ["UDP", "TCP, 2 connections", "20", "200", "MB at most / then"], bench.each(catalog_of(names), plan, measure))
+
+
+def steady(port, owner):
+    """Waits until twenty sockets in a row got an address, since NSD's processes of before still answer for a while."""
+    end, right = time.monotonic() + 60, 0
+    while right < 20:
+        asker = ask.Asker(port)
+        message = asker.ask(owner, limit=1)
+        asker.close()
+        right = right + 1 if message is not None and ask.is_address(message) else 0
+        time.sleep(0.005)
+        if time.monotonic() > end:
+            raise ask.TooLate(owner)
+
+
+def signed(bench):
+    count = 10_000
+    queries = signed_query_file(bench.folder, count)
+
+    def measure(server, _primary, _held):
+        steady(server.port, f"h{count - 1:06}.{SIGNED}")
+        cells = []
+        for connections, dnssec in ((0, False), (0, True), (20, False), (20, True)):
+            bursts = [ask.dnsperf(server, queries, bench.seconds, connections, dnssec) for _ in range(BURSTS)]
+            rate, cost = min(bursts, key=lambda burst: burst[1])
+            cells.append(f"{cost:.2f} ({rate / 1000:.0f})")
+        return cells + [megabytes(server)]
+
+    able = Bench([kind for kind in bench.kinds if kind is not servers.Bind], bench.folder, bench.seconds)
+    able.runs = 300
+    plan = servers.Plan(CATALOG, PRIMARY_PORT, [SIGNED])
+    table(f"CPU a query of a signed zone of {count:,} addresses, microseconds (thousand queries a second)",
+          ["UDP without DO", "UDP with DO", "20 TCP connections without DO", "with DO", "MB at most / then"],
+          able.each(signed_catalog(count), plan, measure))
 
 
 def latency(bench):
@@ -231,7 +284,7 @@ def change(server, primary, zone, asker, number):
     return asker.wait(f"h{4000 * 49:06}.{LARGE}", lambda message: ask.is_address(message, last), limit=60) - begun
 
 
-MEASURES = {"cpu": cpu, "latency": latency, "start": start, "new": new_member, "large": large}
+MEASURES = {"cpu": cpu, "signed": signed, "latency": latency, "start": start, "new": new_member, "large": large}
 
 
 def main():
@@ -239,7 +292,8 @@ def main():
     words.add_argument("--only", default=",".join(MEASURES), help="the measures, by commas: %(default)s")
     words.add_argument("--servers", default=",".join(servers.KINDS), help="the servers, by commas: %(default)s")
     words.add_argument("--catzd", default=servers.Catzd.program, help="the program (default: %(default)s)")
-    words.add_argument("--seconds", type=int, default=5, help="how long each load of `cpu` lasts (default: %(default)s)")
+    words.add_argument("--seconds", type=int, default=5,
+                       help="how long each load of `cpu` and `signed` lasts (default: %(default)s)")
     chosen = words.parse_args()
     kinds = [servers.KINDS[one] for one in chosen.servers.split(",")]
     if servers.Catzd in kinds:

@@ -3,9 +3,10 @@ import struct
 from dataclasses import dataclass
 
 A, NS, CNAME, SOA, PTR, MX, TXT, AAAA, OPT, ZONEMD, IXFR, AXFR = 1, 2, 5, 6, 12, 15, 16, 28, 41, 63, 251, 252
+DS, RRSIG, NSEC, DNSKEY = 43, 46, 47, 48
 NOERROR, FORMERR, SERVFAIL, NXDOMAIN, NOTIMP, REFUSED, NOTAUTH = 0, 1, 2, 3, 4, 5, 9
 RESPONSE, AUTHORITATIVE, TRUNCATED = 0x8000, 0x0400, 0x0200
-NOTIFY_FLAGS = 0x2400
+NOTIFY_FLAGS, DNSSEC_OK = 0x2400, 0x8000
 SOA_TIMES = (3600, 600, 604_800, 300)  # REFRESH, RETRY, EXPIRE and MINIMUM in seconds
 
 
@@ -48,10 +49,10 @@ def txt(text):
     return bytes([len(text)]) + text.encode()
 
 
-def query(identity, owner, kind, flags=0, edns=None):
-    """A query; `edns` is the payload size of an OPT record, where there is to be one."""
+def query(identity, owner, kind, flags=0, edns=None, dnssec=False):
+    """A query; `edns` is the payload size of an OPT record, where there is to be one, and `dnssec` its DO bit."""
     head = struct.pack(">6H", identity, flags, 1, 0, 0, 0 if edns is None else 1)
-    opt = b"" if edns is None else b"\0" + struct.pack(">HHIH", OPT, edns, 0, 0)
+    opt = b"" if edns is None else b"\0" + struct.pack(">HHIH", OPT, edns, DNSSEC_OK if dnssec else 0, 0)
     return head + name(owner) + struct.pack(">HH", kind, 1) + opt
 
 

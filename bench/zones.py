@@ -152,6 +152,59 @@ def large(apex, count, has_digest=False):
     return zone
 
 
+def count_labels(labels, apex):
+    """The labels of an owner as an RRSIG record counts them (RFC 4034 section 3.1.3)."""
+    return len([label for label in f"{labels}.{apex}".split(".") if label not in ("", "*")])
+
+
+def signature(apex, labels, kind, ttl):
+    """The RDATA of an RRSIG record in the form of ECDSA (RFC 4034 section 3.1). The signature is made up."""
+    octets = hashlib.sha512(f"{labels} {kind}".encode()).digest()
+    return struct.pack(">HBBIIIH", kind, 13, count_labels(labels, apex), ttl, 2_000_000_000, 1_700_000_000, 4711) \
+        + wire.name(apex) + octets
+
+
+def type_map(kinds):
+    """The types at an owner as an NSEC record has them (RFC 4034 section 4.1.2), all below 256."""
+    octets = bytearray(max(kinds) // 8 + 1)
+    for kind in kinds:
+        octets[kind // 8] |= 0x80 >> kind % 8
+    return bytes([0, len(octets)]) + bytes(octets)
+
+
+def signed(apex, count):
+    """A zone of so many addresses, h000000 and on, with a wildcard, a signed and an unsigned delegation, in the form of
+    one that is signed with NSEC. Nobody can verify it."""
+    zone, held = Zone(apex), {}
+
+    def put(labels, kind, rdata, is_signed=True):
+        ttl = wire.SOA_TIMES[3] if kind == wire.NSEC else 3600
+        if kind != wire.SOA:
+            zone.put(labels, kind, rdata, ttl)
+        if is_signed:
+            zone.put(labels, wire.RRSIG, signature(apex, labels, kind, ttl), ttl)
+        held.setdefault(labels, set()).add(kind)
+
+    put("", wire.SOA, b"")
+    put("", wire.NS, wire.name(f"ns.{apex}"))
+    put("", wire.DNSKEY, struct.pack(">HBB", 257, 3, 13) + bytes(range(64)))
+    put("ns", wire.A, address(53))
+    put("*.w", wire.A, address(2))
+    for cut, is_signed in (("s", True), ("o", False)):
+        put(cut, wire.NS, wire.name(f"ns.{cut}.{apex}"), False)
+        if is_signed:
+            put(cut, wire.DS, struct.pack(">HBB", 4711, 13, 2) + hashlib.sha256(cut.encode()).digest())
+    for number in range(count):
+        put(f"h{number:06}", wire.A, address(number))
+    owners = sorted(held, key=lambda labels: wire.canonical(wire.name(f"{labels}.{apex}")))
+    for labels, after in zip(owners, owners[1:] + owners[:1]):
+        kinds = held[labels] | {wire.RRSIG, wire.NSEC}
+        put(labels, wire.NSEC, wire.name(f"{after}.{apex}") + type_map(kinds))
+    for cut in ("s", "o"):
+        zone.put(f"ns.{cut}", wire.A, address(3))
+    return zone
+
+
 def catalog(apex, members):
     """A catalog zone of version 2 (RFC 9432) whose members are named m1, m2 and on."""
     zone = Zone(apex)

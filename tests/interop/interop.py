@@ -1,11 +1,12 @@
 #!/usr/bin/env python3
-"""Runs catzd behind Knot, NSD, BIND and PowerDNS and compares its replies with theirs, record by record.
+"""Runs catzd after Knot, NSD, BIND and PowerDNS and compares its replies with theirs, record by record.
 
     interop.py [--catzd PROGRAM] [--peers knot,nsd,bind,powerdns] [--verbose]
 
-Each peer is started in a temporary folder as the primary of a catalog with three members, catzd behind it, on ports
-above 5300 of 127.0.0.1. The same questions go to both; then a zone changes, and a member is removed. A difference that
-DIFFERENCES doesn't explain fails the run. A peer or a tool that isn't installed is left out, and that is said.
+Each peer is started in a temporary folder as the primary of a catalog with six members, catzd after it, on ports above
+5300 of 127.0.0.1. The same questions go to both, also those about DNAME records; then two zones change, and a member is
+removed. A difference that DIFFERENCES doesn't explain fails the run. A peer or a tool that isn't installed is left
+out, and that is said.
 """
 import argparse
 import pathlib
@@ -24,24 +25,43 @@ import wire
 
 PEER_PORT, CATZD_PORT = 5350, 5360
 
-# (peers, questions, part): why a reply of catzd differs there. "*" stands for any.
+# (peers, questions, parts): why a reply of catzd differs there. "*" stands for any.
+SEVERAL = ("a DNAME's owner with an address, ANY", "apex with a DNAME, ANY")
 DIFFERENCES = {
-    ("*", ("apex NS", "apex MX"), "additional"): "catzd adds addresses to a referral alone",
-    **{("*", ("the catalog",), part): "catzd takes orders from a catalog, and doesn't answer for it"
-       for part in ("status", "flags", "answer")},
+    ("*", ("apex NS", "apex MX"), ("additional",)): "catzd adds addresses to a referral alone",
+    ("*", ("the catalog",), ("status", "flags", "answer")):
+        "catzd takes orders from a catalog, and doesn't answer for it",
+    ("*", ("DNAME that grows",), ("status", "answer")): "catzd follows sixteen aliases",
+    ("*", ("DNAME that grows", "DNAME to the longest name"), ("status", "flags", "answer", "authority")):
+        "catzd puts no records into a truncated reply",
+    (("Knot",), ("DNAME to a name too long", "DNAME to a name too long, CNAME"), ("status", "authority")):
+        "it answers NXDOMAIN in place of YXDOMAIN",
+    (("BIND", "PowerDNS"), ("DNAME round",), ("status", "answer")): "it calls a round of DNAME records an error",
+    (("Knot",), ("DNAME round",), ("answer",)): "it goes round twice",
+    (("Knot", "NSD", "PowerDNS"), ("below a DNAME, ANY", "below a DNAME, ANY, no name"),
+     ("status", "answer", "authority")): "catzd doesn't follow a DNAME for ANY",
+    (("PowerDNS",), ("below a DNAME, CNAME",), ("authority",)): "catzd doesn't follow a DNAME for CNAME",
+    (("Knot", "NSD"), SEVERAL, ("answer",)): "it answers ANY with one RRset",
+    (("PowerDNS",), (*SEVERAL, "a DNAME's owner, ANY", "below a DNAME, ANY", "below a DNAME, ANY, no name"),
+     ("flags", "answer")): "it answers ANY over TCP alone",
+    (("NSD", "PowerDNS"), ("DNAME to another member", "below an apex with a DNAME"), ("answer",)):
+        "catzd follows a DNAME within its zone alone",
+    (("Knot",), ("below a wildcard's DNAME",), ("answer",)): "it shows the DNAME under the name that was asked for",
+    (("PowerDNS",), ("an address below a DNAME", "a cut below a DNAME", "below a cut below a DNAME"), "*"):
+        "it looks for a name's own records before it looks for a DNAME above it",
 }
 
 
 def reason_of(peer, question, part):
     """Why a part of a reply differs, or None where that isn't known."""
     for (whose, which, what), reason in DIFFERENCES.items():
-        if what == part and (whose == "*" or peer in whose) and (which == "*" or question in which):
+        if (what == "*" or part in what) and (whose == "*" or peer in whose) and question in which:
             return reason
     return None
 
 
 class Run:
-    """One peer with catzd behind it."""
+    """One peer with catzd after it."""
 
     def __init__(self, peer, folder, ports, verbose):
         peer_port, port = ports
@@ -54,10 +74,12 @@ class Run:
             self.peer.start()
             ask.Asker(self.peer.port).wait("www.a.test.", pause=0.05, limit=20)
             self.catzd.start()
-            ask.Asker(self.catzd.port).wait_all([f"www.{one}." for one in peers.MEMBERS], limit=20)
-            self.compare("at first")
+            ask.Asker(self.catzd.port).wait_all([f"www.{one}." for one in peers.MEMBERS[:4]], limit=20)
+            ask.Asker(self.catzd.port).wait("e.test.", lambda message: message.code == wire.NOERROR, limit=20)
+            self.compare("at first", questions.QUESTIONS)
+            self.compare("DNAME", questions.RENAMED)
             self.change()
-            self.compare("after the change")
+            self.compare("after the change", questions.QUESTIONS)
             self.remove()
         except ask.TooLate as error:
             self.faults.append(f"nothing came of {error}")
@@ -68,10 +90,10 @@ class Run:
     def say(self, text):
         print(f"{self.peer.label}: {text}", flush=True)
 
-    def compare(self, when):
-        """Asks both all questions in all ways."""
+    def compare(self, when, asked):
+        """Asks both these questions in all ways."""
         same, explained, unexplained = 0, {}, {}
-        for what, name, kind in questions.QUESTIONS:
+        for what, name, kind in asked:
             owner = questions.owner_of(name)
             for way in questions.ways():
                 theirs = questions.ask(way, self.peer.port, owner, kind)
@@ -85,7 +107,7 @@ class Run:
                     if reason is None or self.verbose:
                         seen = (what, part, getattr(theirs, part), getattr(ours, part), reason)
                         unexplained.setdefault(seen, []).append(str(way))
-        total = len(questions.QUESTIONS) * len(questions.ways())
+        total = len(asked) * len(questions.ways())
         self.say(f"{when}: {same} of {total} replies are the same record by record")
         for (what, reason), parts in explained.items():
             self.say(f"  {what}: another {', '.join(sorted(parts))}, since {reason}")
@@ -137,7 +159,7 @@ class Run:
     def remove(self):
         """A new version of the catalog without c.test."""
         begun = time.monotonic()
-        self.peer.change(peers.CATALOG, peers.catalog_text(2, peers.MEMBERS[:2]))
+        self.peer.change(peers.CATALOG, peers.catalog_text(2, [one for one in peers.MEMBERS if one != "c.test"]))
         moment = ask.Asker(self.catzd.port).wait(
             "www.c.test.", lambda message: message.code == wire.REFUSED, limit=30, pause=0.01)
         self.say(f"a removed member was refused {moment - begun:.2f} s after it was written")

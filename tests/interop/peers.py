@@ -1,12 +1,11 @@
-"""Other servers as primaries of a catalog and three members: how each is configured, started, and told of a change."""
+"""Other servers as primaries of a catalog and its members: how each is configured, started, and told of a change."""
 import pathlib
 import shutil
 import signal
 import subprocess
 import time
 
-CATALOG, MEMBERS = "catalog.test", ("a.test", "b.test", "c.test")
-ZONES = (CATALOG, *MEMBERS)
+CATALOG, MEMBERS = "catalog.test", ("a.test", "b.test", "c.test", "d.test", "e.test", "f.test")
 
 CATALOG_TEXT = """$ORIGIN catalog.test.
 $TTL 3600
@@ -26,8 +25,8 @@ ns A 192.0.2.53
 www A 192.0.2.{serial}
 """
 
-# What a.test has beside that.
-MORE_TEXT = """@ MX 10 mail
+# What members have beside that: a.test each kind of answer, d.test DNAME records, f.test names below one.
+MORE = {"a.test": """@ MX 10 mail
 www AAAA 2001:db8::1
 mail A 192.0.2.25
 text TXT "one" "two words"
@@ -43,6 +42,42 @@ one CNAME two
 two CNAME www
 lost CNAME nothing
 outside CNAME www.other.test.
+""", "d.test": """d DNAME t
+w.t A 192.0.2.90
+alias.t CNAME w.t
+*.wild.t A 192.0.2.91
+first CNAME w.d
+twice DNAME d
+both DNAME t
+both A 192.0.2.92
+both TXT "beside a DNAME"
+outside DNAME other.test.
+member DNAME b.test.
+round DNAME back
+back DNAME round
+grow DNAME a.grow
+long DNAME {label}.{label}.{label}
+cut NS ns.cut
+ns.cut A 192.0.2.93
+d.cut DNAME t
+tocut DNAME cut
+towild DNAME wild.t
+*.star A 192.0.2.94
+d.star DNAME t
+*.stars DNAME t
+""".format(label="l" * 61), "f.test": """d DNAME t
+w.t A 192.0.2.90
+x.d A 192.0.2.95
+cut.d NS ns.cut.d
+ns.cut.d A 192.0.2.96
+"""}
+
+# A zone whose apex owns a DNAME record, so that it has no other names.
+RENAMED_TEXT = """$ORIGIN e.test.
+$TTL 3600
+@ SOA ns.d.test. hostmaster.d.test. {serial} 3600 1 86400 300
+@ NS ns.d.test.
+@ DNAME t.d.test.
 """
 
 
@@ -52,23 +87,30 @@ def catalog_text(serial, members):
 
 
 def member_text(apex, serial):
-    return MEMBER_TEXT.format(apex=apex, serial=serial) + (MORE_TEXT if apex == "a.test" else "")
+    if apex == "e.test":
+        return RENAMED_TEXT.format(serial=serial)
+    return MEMBER_TEXT.format(apex=apex, serial=serial) + MORE.get(apex, "")
+
+
+def member_texts():
+    """The catalog and its members, as they are at first."""
+    return {CATALOG: catalog_text(1, MEMBERS), **{one: member_text(one, 1) for one in MEMBERS}}
 
 
 class Peer:
-    """A primary at a port of 127.0.0.1, which notifies another port."""
+    """A primary of zones, given as texts, at a port of a loopback address, which notifies a port of 127.0.0.1."""
     label, programs = "", ()
     has_differences = True  # whether it answers IXFR with differences
     has_digests = False  # whether it makes the ZONEMD records of a.test, which catzd then requires
     refusals = ()  # lines of catzd's log that are expected of its transfers
 
-    def __init__(self, folder, port, secondary):
-        self.folder, self.port, self.secondary = pathlib.Path(folder), port, secondary
+    def __init__(self, folder, port, secondary, texts=None, address="127.0.0.1"):
+        self.folder, self.port, self.secondary, self.address = pathlib.Path(folder), port, secondary, address
         self.folder.mkdir(parents=True)
         self.log = open(self.folder / "log", "wb")
-        self.write(CATALOG, catalog_text(1, MEMBERS))
-        for one in MEMBERS:
-            self.write(one, member_text(one, 1))
+        self.zones = texts or member_texts()
+        for zone, text in self.zones.items():
+            self.write(zone, text)
 
     @classmethod
     def is_installed(cls):
@@ -105,13 +147,14 @@ class Peer:
 
 class Knot(Peer):
     label, programs, has_digests = "Knot", ("knotd", "knotc"), True
+    refusals = ("refused f.test. rcode 2",)  # it doesn't load a zone with names below a DNAME's owner
 
     def words(self):
         (self.folder / "db").mkdir()
-        zones = "".join(f"  - domain: {one}\n" for one in ZONES).replace(
+        zones = "".join(f"  - domain: {one}\n" for one in self.zones).replace(
             "a.test\n", "a.test\n    zonemd-generate: zonemd-sha384\n")
         return ["knotd", "-c", self.config("knot.conf", f"""server:
-    listen: 127.0.0.1@{self.port}
+    listen: {self.address}@{self.port}
     rundir: {self.folder}
 database:
     storage: {self.folder}/db
@@ -141,8 +184,9 @@ zone:
 
 class Nsd(Peer):
     label, programs = "NSD", ("nsd", "nsd-control")
-    # Its differences of a zone with an MX record add that record again, though it stands in both versions.
-    refusals = ("refused a.test. shape add-present",)
+    # It doesn't load a zone with names below a DNAME's owner; and its differences of a zone with an MX record add that
+    # record again, though it is in both versions.
+    refusals = ("refused f.test. rcode 9", "refused a.test. shape add-present")
 
     def words(self):
         zones = "".join(f"""zone:
@@ -152,9 +196,9 @@ class Nsd(Peer):
     provide-xfr: 127.0.0.1 NOKEY
     store-ixfr: yes
     create-ixfr: yes
-""" for one in ZONES)
+""" for one in self.zones)
         return ["nsd", "-d", "-c", self.config("nsd.conf", f"""server:
-    ip-address: 127.0.0.1@{self.port}
+    ip-address: {self.address}@{self.port}
     username: ""
     zonesdir: {self.folder}
     database: ""
@@ -177,13 +221,14 @@ class Bind(Peer):
     label, programs = "BIND", ("named",)
 
     def words(self):
-        zones = "".join(f'zone "{one}" {{ type primary; file "{one}.zone"; }};\n' for one in ZONES)
+        zones = "".join(f'zone "{one}" {{ type primary; file "{one}.zone"; }};\n' for one in self.zones)
         return ["named", "-g", "-c", self.config("named.conf", f"""options {{
     directory "{self.folder}";
-    listen-on port {self.port} {{ 127.0.0.1; }};
+    listen-on port {self.port} {{ {self.address}; }};
     listen-on-v6 {{ none; }};
     pid-file "{self.folder}/named.pid";
     session-keyfile "{self.folder}/session.key";
+    lock-file none;
     recursion no;
     dnssec-validation no;
     allow-transfer {{ 127.0.0.1; }};
@@ -207,15 +252,16 @@ class PowerDns(Peer):
 
     def words(self):
         self.config("zones.conf", "".join(
-            f'zone "{one}" {{ type master; file "{self.folder}/{one}.zone"; }};\n' for one in ZONES))
+            f'zone "{one}" {{ type master; file "{self.folder}/{one}.zone"; }};\n' for one in self.zones))
         self.config("pdns.conf", f"""launch=bind
 bind-config={self.folder}/zones.conf
-local-address=127.0.0.1
+local-address={self.address}
 local-port={self.port}
 socket-dir={self.folder}
 primary=yes
 allow-axfr-ips=127.0.0.0/8
 only-notify=127.0.0.0/8
+dname-processing=yes
 also-notify=127.0.0.1:{self.secondary}
 cache-ttl=0
 query-cache-ttl=0

@@ -34,6 +34,57 @@ QUESTIONS = (
     ("the catalog", "catalog.test.", "SOA"),
 )
 
+# The same of zones with DNAME records.
+RENAMED = (
+    ("below a DNAME", "w.d.d.test.", "A"),
+    ("below a DNAME, no data", "w.d.d.test.", "MX"),
+    ("below a DNAME, no name", "nothing.d.d.test.", "A"),
+    ("below a DNAME, two labels", "x.w.d.d.test.", "A"),
+    ("below a DNAME, CNAME", "w.d.d.test.", "CNAME"),
+    ("below a DNAME, DNAME", "w.d.d.test.", "DNAME"),
+    ("below a DNAME, ANY", "w.d.d.test.", "ANY"),
+    ("below a DNAME, ANY, no name", "nothing.d.d.test.", "ANY"),
+    ("a DNAME's owner, DNAME", "d.d.test.", "DNAME"),
+    ("a DNAME's owner, A", "d.d.test.", "A"),
+    ("a DNAME's owner, ANY", "d.d.test.", "ANY"),
+    ("a DNAME's owner, CNAME", "d.d.test.", "CNAME"),
+    ("a DNAME's owner with an address", "both.d.test.", "A"),
+    ("a DNAME's owner with an address, no data", "both.d.test.", "AAAA"),
+    ("a DNAME's owner with an address, ANY", "both.d.test.", "ANY"),
+    ("below a DNAME with an address", "w.both.d.test.", "A"),
+    ("DNAME, CNAME, address", "alias.d.d.test.", "A"),
+    ("CNAME, DNAME, address", "first.d.test.", "A"),
+    ("DNAME, DNAME, address", "w.twice.d.test.", "A"),
+    ("DNAME to a wildcard", "w.towild.d.test.", "A"),
+    ("DNAME to a delegation", "w.tocut.d.test.", "A"),
+    ("DNAME out of the zone", "www.outside.d.test.", "A"),
+    ("DNAME to another member", "www.member.d.test.", "A"),
+    ("DNAME round", "w.round.d.test.", "A"),
+    ("DNAME that grows", "w.grow.d.test.", "A"),
+    ("DNAME to a name too long", f"{'m' * 63}.long.d.test.", "A"),
+    ("DNAME to the longest name", f"{'m' * 60}.long.d.test.", "A"),
+    ("DNAME to a name too long, CNAME", f"{'m' * 63}.long.d.test.", "CNAME"),
+    ("a DNAME's owner below a cut", "d.cut.d.test.", "DNAME"),
+    ("below a DNAME below a cut", "w.d.cut.d.test.", "A"),
+    ("wildcard beside a DNAME", "x.star.d.test.", "A"),
+    ("below a DNAME beside a wildcard", "w.d.star.d.test.", "A"),
+    ("a DNAME beside a wildcard", "d.star.d.test.", "A"),
+    ("a wildcard's DNAME, its owner", "*.stars.d.test.", "DNAME"),
+    ("a wildcard's DNAME", "w.stars.d.test.", "A"),
+    ("a wildcard's DNAME, DNAME", "w.stars.d.test.", "DNAME"),
+    ("a wildcard's DNAME, two labels", "w.x.stars.d.test.", "A"),
+    ("below a wildcard's DNAME", "w.*.stars.d.test.", "A"),
+    ("apex with a DNAME, SOA", "e.test.", "SOA"),
+    ("apex with a DNAME, DNAME", "e.test.", "DNAME"),
+    ("apex with a DNAME, A", "e.test.", "A"),
+    ("apex with a DNAME, ANY", "e.test.", "ANY"),
+    ("below an apex with a DNAME", "w.e.test.", "A"),
+    ("below a DNAME in its zone", "w.d.f.test.", "A"),
+    ("an address below a DNAME", "x.d.f.test.", "A"),
+    ("a cut below a DNAME", "cut.d.f.test.", "NS"),
+    ("below a cut below a DNAME", "w.cut.d.f.test.", "A"),
+)
+
 
 def owner_of(name):
     """The whole name of a question."""
@@ -46,25 +97,29 @@ class Way:
     tool: str
     is_tcp: bool
     has_edns: bool
+    has_do: bool = False
 
     def __str__(self):
-        return f"{self.tool}, {'TCP' if self.is_tcp else 'UDP'}, {'EDNS' if self.has_edns else 'no EDNS'}"
+        edns = "DO" if self.has_do else "EDNS" if self.has_edns else "no EDNS"
+        return f"{self.tool}, {'TCP' if self.is_tcp else 'UDP'}, {edns}"
 
     def words(self, port, owner, kind):
         """The command line."""
         if self.tool == "drill":
             flags = ["-t" if self.is_tcp else "-u"] + (["-b", "1232"] if self.has_edns else [])
+            flags += ["-D"] if self.has_do else []
             return ["drill", "-o", "rd", "-p", str(port), *flags, owner, "@127.0.0.1", kind]
         edns = ["+edns=0", "+bufsize=1232"] if self.has_edns else ["+noedns"]
         flags = ["+tcp" if self.is_tcp else "+notcp", "+norec", "+tries=1" if self.tool == "dig" else "+retry=0"]
+        edns += ["+dnssec"] if self.has_do else []
         cookie = ["+nocookie"] if self.has_edns else []
         return [self.tool, "@127.0.0.1", "-p", str(port), owner, kind, *flags, *edns, *cookie]
 
 
-def ways():
-    """All ways for the tools that are installed."""
-    return [Way(tool, is_tcp, has_edns) for tool in TOOLS if shutil.which(tool)
-            for is_tcp in (False, True) for has_edns in (False, True)]
+def ways(has_do=False):
+    """All ways for the tools that are installed, with DO or without."""
+    return [Way(tool, is_tcp, has_edns, has_do) for tool in TOOLS if shutil.which(tool)
+            for is_tcp in (False, True) for has_edns in (False, True) if has_edns or not has_do]
 
 
 @dataclass(frozen=True)

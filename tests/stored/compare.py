@@ -7,7 +7,8 @@ import sys
 CRATES = pathlib.Path(__file__).resolve().parents[2] / "crates"
 # what it shows, its name, moment and transport, the request and its reply
 THEOREM = re.compile(r'^-- (.+)\npub (\w+) : (?:Replied|Silent) (\d+) (udp|tcp) "(\w+)"(?:\n +"(\w+)")?$', re.M)
-REQUEST = re.compile(r"^# (\w+): (.+)\n(\d+) (udp|tcp) \S+ (\w+)$", re.M)
+CLAIM = re.compile(r"^pub \w+ : (?:Replied|Silent) ", re.M)
+REQUEST = re.compile(r"^(?:# (\w+): (.+)\n)?(\d+) (udp|tcp) \S+ (\w+)$", re.M)
 REPLY = re.compile(r"^(?:reply (\w+)|none)$", re.M)
 
 
@@ -17,11 +18,11 @@ def theorems(text):
 
 
 def stored(script, output):
-    """The exchanges of a script and of what it writes."""
+    """The exchanges of a script and of what it writes: those with a name, and not the requests of stories."""
     requests, replies = REQUEST.findall(script), REPLY.findall(output)
     if len(requests) != len(replies):
-        sys.exit(f"{len(requests)} requests with a name, and {len(replies)} replies")
-    return [(*request, reply) for request, reply in zip(requests, replies)]
+        sys.exit(f"{len(requests)} requests, and {len(replies)} replies")
+    return [(*request, reply) for request, reply in zip(requests, replies) if request[0]]
 
 
 def main():
@@ -31,7 +32,8 @@ def main():
     for theorem, exchange in zip(proved, ran):
         if theorem != exchange:
             sys.exit(f"the theorem {theorem[0]} and the exchange {exchange[0]} differ:\n{theorem}\n{exchange}")
-    if len(proved) != len(ran) or len(proved) != examples.read_text().count("= refl\n"):
+    claimed = CLAIM.findall(examples.read_text())
+    if len(proved) != len(ran) or len(proved) != len(claimed):
         sys.exit(f"{len(proved)} theorems with a request, and {len(ran)} exchanges")
     print(f"{len(ran)} exchanges")
 

@@ -12,6 +12,7 @@ pub enum ResponseCode {
     NxDomain,
     NotImp,
     Refused,
+    YxDomain,
     NotAuth,
     BadVers,
 }
@@ -29,6 +30,7 @@ impl ResponseCode {
             ResponseCode::NxDomain => 3,
             ResponseCode::NotImp => 4,
             ResponseCode::Refused => 5,
+            ResponseCode::YxDomain => 6,
             ResponseCode::NotAuth => 9,
             ResponseCode::BadVers => 16,
         }

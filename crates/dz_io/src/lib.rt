@@ -26,8 +26,6 @@ mod setup;
 mod shelf;
 mod sure;
 mod tape;
-#[cfg(test)]
-mod tests;
 mod window;
 
 pub use acceptor::{Accepted, Acceptor};

@@ -1,13 +1,13 @@
 -- What is found, and that it has records.
-use Rattle.std.proofs.Common.{◌≡◌, ℕ, ◌<◌, Bool, true, false, List, [], ◌∷◌, length, refl, ap, arith, inl, inr, sym, ◌∙◌}
+use Rattle.std.proofs.Common.{◌≡◌, ℕ, ◌<◌, Bool, true, false, List, [], ◌∷◌, length, refl, ap, subst, arith, inl, inr, sym, ◌∙◌}
 use Rattle.std.proofs.lemmas.Bool.Decides.{nat_tests}
-use Rattle.std.specs.Prelude.{Option, Some, None, filter, ◌==◌, ◌&&◌, not, if◌then◌else◌}
+use Rattle.std.specs.Prelude.{Option, Some, None, filter, slice_get, nat_lt, ◌==◌, ◌&&◌, not, if◌then◌else◌}
 use Rattle.std.specs.List.{list_any}
 use Rattle.std.proofs.Common.{drop, get_or}
 use Rattle.std.proofs.lemmas.List.Folds.{list_any_none, list_any_at}
 use Rattle.dz_name.specs.Order.{same_decides}
-use Rattle.dz_zone.specs.Version.{Zone, has_cuts}
-use Rattle.dz_lookup.specs.inner.Places.{servers_at}
+use Rattle.dz_zone.specs.Version.{Zone, has_cuts, has_dnames}
+use Rattle.dz_lookup.specs.inner.Places.{renamer_at}
 use Rattle.dz_lookup.proofs.Walk.{topmost_none}
 use Rattle.std.specs.List.Sorted.{IsStrictlySortedBy}
 use Rattle.std.proofs.lemmas.Bool.{cases_Bool, and_parts, false_from_ne_true, false≢true}
@@ -16,26 +16,8 @@ use Rattle.dz_name.specs.Name.{same_name}
 use Rattle.dz_record.specs.Record.{Record, record_order}
 use Rattle.std.specs.Option.{option_or}
 use Rattle.dz_lookup.specs.Runs.{owns, of_type, records_of}
-use Rattle.dz_lookup.specs.Found.{Found, here, alias, no_data, no_name, referral, found, at_cut, at_source, here_or, cut, is_cut, source, topmost, HasRecords}
+use Rattle.dz_lookup.specs.Found.{Found, referral, rename, found, at_source, here_or, renaming, barrier, behind_barrier, cut, cut_for, dname, is_cut, source, topmost, HasRecords}
 use Rattle.dz_lookup.proofs.InOrder.{records_of_is, no_run}
-
--- the records that answer are some
-some_in_or : (rs ss ts : List Record) → here_or rs ss ≡ here ts → 0 < length ts
-some_in_or (r ∷ rs) ss ts h = let e : ts ≡ r ∷ rs = cc in omega (arith, ap length e)
-some_in_or [] (s ∷ ss) ts h = absurd (cc)
-some_in_or [] [] ts h = absurd (cc)
-
-some_in_source : (zone : List Record) (kind : ℕ) (node : Option (List (List ℕ))) (rs : List Record) → at_source zone kind node ≡ here rs → 0 < length rs
-some_in_source zone kind None rs h = absurd (cc)
-some_in_source zone kind (Some name) rs h = some_in_or (if kind == 255 then records_of zone name else of_type kind (records_of zone name)) (of_type 5 (records_of zone name)) rs h
-
-some_in_cut : (zone : List Record) (name : List (List ℕ)) (kind : ℕ) (above : Option (List (List ℕ))) (rs : List Record) → at_cut zone name kind above ≡ here rs → 0 < length rs
-some_in_cut zone name kind None rs h = some_in_source zone kind (source zone name) rs h
-some_in_cut zone name kind (Some above) rs h = absurd (cc)
-
-pub here_some : (apex : List (List ℕ)) (zone : List Record) (name : List (List ℕ)) (kind : ℕ) (rs : List Record) → found apex zone name kind ≡ here rs → 0 < length rs
-unfolding found
-here_some apex zone name kind rs h = some_in_cut zone name kind (cut apex zone name) rs h
 
 -- the NS records of a referral are some
 chosen : (b : Bool) (name above : List (List ℕ)) → (if b then Some name else None) ≡ Some above → (b ≡ true) × (name ≡ above)
@@ -70,54 +52,68 @@ any_kept p q (x ∷ xs) h = elim (cases_Bool (p x)) [
   ]
 ]
 
-no_referral_or : (rs ss ts : List Record) → here_or rs ss ≡ referral ts → ⊥
-no_referral_or (r ∷ rs) ss ts h = absurd (cc)
-no_referral_or [] (s ∷ ss) ts h = absurd (cc)
-no_referral_or [] [] ts h = absurd (cc)
+-- what is found at a node has records
+or_has : (rs ss : List Record) → HasRecords (here_or rs ss)
+or_has (r ∷ rs) ss = omega arith
+or_has [] (s ∷ ss) = tt
+or_has [] [] = tt
 
-no_referral : (zone : List Record) (kind : ℕ) (node : Option (List (List ℕ))) (rs : List Record) → at_source zone kind node ≡ referral rs → ⊥
-no_referral zone kind None rs h = absurd (cc)
-no_referral zone kind (Some name) rs h = no_referral_or (if kind == 255 then records_of zone name else of_type kind (records_of zone name)) (of_type 5 (records_of zone name)) rs h
+source_has : (zone : List Record) (kind : ℕ) (node : Option Name) → HasRecords (at_source zone kind node)
+source_has zone kind None = tt
+source_has zone kind (Some name) = or_has (if kind == 255 then records_of zone name else of_type kind (records_of zone name)) (of_type 5 (records_of zone name))
 
-referral_in_cut : (apex : List (List ℕ)) (zone : List Record) (name : List (List ℕ)) (kind : ℕ) (above : Option (List (List ℕ))) (rs : List Record) → IsStrictlySortedBy record_order zone
-    → cut apex zone name ≡ above → at_cut zone name kind above ≡ referral rs → 0 < length rs
-referral_in_cut apex zone name kind None rs up e h = absurd (no_referral zone kind (source zone name) rs h)
-referral_in_cut apex zone name kind (Some above) rs up e h =
-    let is : is_cut apex zone above ≡ true = topmost_passes (is_cut apex zone) name above e in
-    let has : owns zone 2 above ≡ true = second (not (same_name above apex)) (owns zone 2 above) is in
-    let some = any_kept (λ r. same_name r.owner above) (λ r. r.kind == 2) zone has in
-    let f : rs ≡ of_type 2 (records_of zone above) = cc in
-    rw (f, records_of_is zone above up) some
+-- and so has a barrier
+renaming_has : (rs : List Record) → HasRecords (renaming rs)
+renaming_has [] = tt
+renaming_has (r ∷ rs) = tt
 
-pub referral_some : (apex : List (List ℕ)) (zone : List Record) (name : List (List ℕ)) (kind : ℕ) (rs : List Record) → IsStrictlySortedBy record_order zone → found apex zone name kind ≡ referral rs → 0 < length rs
-unfolding found
-referral_some apex zone name kind rs up h = referral_in_cut apex zone name kind (cut apex zone name) rs up refl h
+servers_some : (apex : Name) (zone : List Record) (name at : Name) → IsStrictlySortedBy record_order zone → cut apex zone name ≡ Some at → 0 < length (of_type 2 (records_of zone at))
+servers_some apex zone name at up e =
+    let is : is_cut apex zone at ≡ true = topmost_passes (is_cut apex zone) name at e in
+    let has : owns zone 2 at ≡ true = second (not (same_name at apex)) (owns zone 2 at) is in
+    let some = any_kept (λ r. same_name r.owner at) (λ r. r.kind == 2) zone has in
+    rw (records_of_is zone at up) some
+
+cut_some : (apex : Name) (zone : List Record) (name : Name) (kind : ℕ) (at : Name) → IsStrictlySortedBy record_order zone → cut_for apex zone kind name ≡ Some at → 0 < length (of_type 2 (records_of zone at))
+cut_some apex zone [] kind at up e = servers_some apex zone [] at up e
+cut_some apex zone (label ∷ labels) kind at up e = elim (cases_Bool (kind == 43)) [
+  | inl t ↦ servers_some apex zone labels at up (rw t at e)
+  | inr f ↦ servers_some apex zone (label ∷ labels) at up (rw f at e)
+]
+
+barrier_has : (apex : Name) (zone : List Record) (name : Name) (kind : ℕ) (at above : Option Name) (f : Found) → IsStrictlySortedBy record_order zone → cut_for apex zone kind name ≡ at → barrier zone at above ≡ Some f → HasRecords f
+barrier_has apex zone name kind None None f up is e = absurd (cc)
+barrier_has apex zone name kind None (Some above) f up is e = let g : renaming (of_type 39 (records_of zone above)) ≡ f = cc in subst HasRecords g (renaming_has (of_type 39 (records_of zone above)))
+barrier_has apex zone name kind (Some at) None f up is e = let g : referral (of_type 2 (records_of zone at)) ≡ f = cc in subst HasRecords g (cut_some apex zone name kind at up is)
+barrier_has apex zone name kind (Some at) (Some above) f up is e = elim (cases_Bool (nat_lt (length above) (length at))) [
+  | inl t ↦
+      let h : ◌≡◌ {A = Option Found} (Some (renaming (of_type 39 (records_of zone above)))) (Some f) = rw t at e in
+      let g : renaming (of_type 39 (records_of zone above)) ≡ f = cc in subst HasRecords g (renaming_has (of_type 39 (records_of zone above)))
+  | inr n ↦
+      let h : ◌≡◌ {A = Option Found} (Some (referral (of_type 2 (records_of zone at)))) (Some f) = rw n at e in
+      let g : referral (of_type 2 (records_of zone at)) ≡ f = cc in subst HasRecords g (cut_some apex zone name kind at up is)
+]
+
+behind_has : (apex : Name) (zone : List Record) (name : Name) (kind : ℕ) (at above : Option Name) (b : Option Found) → IsStrictlySortedBy record_order zone → cut_for apex zone kind name ≡ at → barrier zone at above ≡ b
+    → HasRecords (behind_barrier zone name kind b)
+behind_has apex zone name kind at above None up is e = source_has zone kind (source zone name)
+behind_has apex zone name kind at above (Some f) up is e = barrier_has apex zone name kind at above f up is e
 
 pub has_records : (apex : Name) (zone : List Record) (name : Name) (kind : ℕ) (f : Found) → IsStrictlySortedBy record_order zone
     → f ≡ found apex zone name kind → HasRecords f
-has_records apex zone name kind (here rs) up e = here_some apex zone name kind rs (sym e)
-has_records apex zone name kind (alias r) up e = tt
-has_records apex zone name kind no_data up e = tt
-has_records apex zone name kind no_name up e = tt
-has_records apex zone name kind (referral rs) up e = referral_some apex zone name kind rs up (sym e)
-
--- what is found at or below a cut, by the servers there, and elsewhere
-at_servers : (apex : Name) (zone : List Record) (name : Name) (kind : ℕ) (above : Option Name) (rs : List Record) → Some rs ≡ servers_at zone above → referral rs ≡ at_cut zone name kind above
-at_servers apex zone name kind None rs is = absurd (cc)
-at_servers apex zone name kind (Some above) rs is = let e : rs ≡ of_type 2 (records_of zone above) = cc in ap referral e
-
-pub found_below : (apex : Name) (zone : List Record) (name : Name) (kind : ℕ) (rs : List Record) → Some rs ≡ servers_at zone (cut apex zone name) → referral rs ≡ found apex zone name kind
 unfolding found
-found_below apex zone name kind rs is = at_servers apex zone name kind (cut apex zone name) rs is
+has_records apex zone name kind f up e =
+    subst HasRecords (sym e) (behind_has apex zone name kind (cut_for apex zone kind name) (dname zone name) (barrier zone (cut_for apex zone kind name) (dname zone name)) up refl refl)
 
-at_none : (zone : List Record) (name : Name) (kind : ℕ) (above : Option Name) (f : Found) → None ≡ servers_at zone above → f ≡ at_source zone kind (source zone name) → f ≡ at_cut zone name kind above
-at_none zone name kind None f none is = is
-at_none zone name kind (Some above) f none is = absurd (cc)
+-- what is found at or below a barrier, and elsewhere
+pub found_below : (apex : Name) (zone : List Record) (name : Name) (kind : ℕ) (f : Found) → Some f ≡ barrier zone (cut_for apex zone kind name) (dname zone name) → f ≡ found apex zone name kind
+unfolding found
+found_below apex zone name kind f is = ap (behind_barrier zone name kind) is
 
 pub found_elsewhere : (apex : Name) (zone : List Record) (name : Name) (kind : ℕ) (f : Found)
-    → None ≡ servers_at zone (cut apex zone name) → f ≡ at_source zone kind (source zone name) → f ≡ found apex zone name kind
+    → None ≡ barrier zone (cut_for apex zone kind name) (dname zone name) → f ≡ at_source zone kind (source zone name) → f ≡ found apex zone name kind
 unfolding found
-found_elsewhere apex zone name kind f none is = at_none zone name kind (cut apex zone name) f none is
+found_elsewhere apex zone name kind f none is = is ∙ ap (behind_barrier zone name kind) none
 
 -- an owner of NS records shows them, and no other name does
 pub shows_owned : (zone : List Record) (name : Name) (servers : List Record) → IsStrictlySortedBy record_order zone → servers ≡ of_type 2 (records_of zone name)
@@ -159,3 +155,41 @@ no_cut_at zone name none = elim (cases_Bool (same_name name zone.apex)) [
 
 pub no_cut : (zone : Zone) (name : Name) → false ≡ has_cuts zone → cut zone.apex zone.records name ≡ None
 no_cut zone name none = topmost_none (is_cut zone.apex zone.records) name (λ k within. no_cut_at zone (drop k name) (sym none))
+
+-- an owner of a DNAME shows it, and no other name does
+first_some : (rs : List Record) → 0 < length rs → slice_get rs 0 ≡ None → ⊥
+first_some [] some none = omega arith
+first_some (r ∷ rs) some none = cc
+
+pub no_renamer : (zone : List Record) (name : Name) → IsStrictlySortedBy record_order zone → renamer_at zone name ≡ None → owns zone 39 name ≡ false
+no_renamer zone name up none =
+    false_from_ne_true (owns zone 39 name) (λ has.
+    let some : 0 < length (of_type 39 (filter (λ r. same_name r.owner name) zone)) = any_kept (λ r. same_name r.owner name) (λ r. r.kind == 39) zone has in
+    first_some (of_type 39 (records_of zone name)) (rw (records_of_is zone name up) some) none)
+
+first_none : (rs : List Record) (r : Record) → slice_get rs 0 ≡ Some r → rs ≡ [] → ⊥
+first_none [] r e none = cc
+first_none (s ∷ ss) r e none = cc
+
+pub has_renamer : (zone : List Record) (name : Name) (r : Record) → IsStrictlySortedBy record_order zone → renamer_at zone name ≡ Some r → owns zone 39 name ≡ true
+has_renamer zone name r up e = elim (cases_Bool (owns zone 39 name)) [
+  | inl owned ↦ owned
+  | inr not_owned ↦ absurd (first_none (of_type 39 (records_of zone name)) r e (sym (no_run zone name 39 up not_owned)))
+]
+
+-- a zone without a DNAME has none at any name
+pub none_owned_at_all : (zone : Zone) (name : Name) → false ≡ has_dnames zone → owns zone.records 39 name ≡ false
+none_owned_at_all zone name none =
+    list_any_none (λ r. (r.kind == 39) && same_name r.owner name) zone.records (λ k d within.
+    let r = get_or zone.records k d in
+    false_from_ne_true ((r.kind == 39) && same_name r.owner name) (λ t.
+    let parts = and_parts (r.kind == 39) (same_name r.owner name) t in
+    let found = list_any_at (λ s. s.kind == 39) zone.records k d within parts.0 in
+    cc))
+
+pub no_renamer_at_all : (zone : Zone) (name : Name) → IsStrictlySortedBy record_order zone.records → false ≡ has_dnames zone → renamer_at zone.records name ≡ None
+no_renamer_at_all zone name up none = ap (λ rs. slice_get rs 0) (sym (no_run zone.records name 39 up (none_owned_at_all zone name none)))
+
+pub renaming_is : (rs : List Record) (r : Record) → slice_get rs 0 ≡ Some r → renaming rs ≡ rename r
+renaming_is [] r e = absurd (cc)
+renaming_is (s ∷ ss) r e = let f : s ≡ r = cc in ap rename f

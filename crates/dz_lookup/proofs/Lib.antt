@@ -1,5 +1,6 @@
 pub mod Follow
 pub mod FoundLemmas
+pub mod Barriers
 pub mod InOrder
 pub mod RunLemmas
 pub mod Walk

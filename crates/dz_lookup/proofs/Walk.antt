@@ -69,7 +69,7 @@ short_is_apex : (front name apex : List (List ℕ)) → name ≡ front ++ apex �
 short_is_apex [] name apex e h = e
 short_is_apex (label ∷ front) name apex e h = absurd (omega (arith, ap length e, length-append front apex))
 
-no_owner_above : (apex : List (List ℕ)) (zone : List Record) (kind : ℕ) (name : List (List ℕ)) → All (λ r. is_within r.owner apex ≡ true) zone → length name ≤ length apex → same_name name apex ≡ false
+pub no_owner_above : (apex : List (List ℕ)) (zone : List Record) (kind : ℕ) (name : List (List ℕ)) → All (λ r. is_within r.owner apex ≡ true) zone → length name ≤ length apex → same_name name apex ≡ false
     → owns zone kind name ≡ false
 no_owner_above apex zone kind name owners short other =
     false_from_ne_true (owns zone kind name) (λ t.
@@ -111,7 +111,7 @@ cut_here apex zone name skip r some short none is =
     (topmost_step (is_cut apex zone) name (skip - 1) (omega arith) (rw e none))
 
 -- below a name that doesn't exist no name owns records
-none_owned : (zone : List Record) (kind : ℕ) (name above : List (List ℕ)) → is_within name above ≡ true → exists zone above ≡ false → owns zone kind name ≡ false
+pub none_owned : (zone : List Record) (kind : ℕ) (name above : List (List ℕ)) → is_within name above ≡ true → exists zone above ≡ false → owns zone kind name ≡ false
 none_owned zone kind name above within none =
     false_from_ne_true (owns zone kind name) (λ t.
     let some = Any-from_list_any (λ r. r.kind == kind && same_name r.owner name) zone t in
@@ -120,7 +120,7 @@ none_owned zone kind name above within none =
     let found = list_any_at (λ r. is_within r.owner above) zone some.0 some.1 some.2 (rw (some.3, e) within) in
     absurd (cc))
 
-topmost_below : (test : List (List ℕ) → Bool) (name : List (List ℕ)) (k : ℕ) → k ≤ length name → topmost test (drop k name) ≡ None
+pub topmost_below : (test : List (List ℕ) → Bool) (name : List (List ℕ)) (k : ℕ) → k ≤ length name → topmost test (drop k name) ≡ None
     → ((j : ℕ) → j < k → test (drop j name) ≡ false) → topmost test name ≡ None
 topmost_below test name zero le none each = none
 topmost_below test name (suc k) le none each =

@@ -1,55 +1,79 @@
--- Meaning: CNAME records are followed from name to name (RFC 1034 sections 3.6.2 and 4.3.2).
-use Rattle.std.specs.Prelude.{ℕ, zero, suc, Bool, ◌&&◌, not, List, [], ◌∷◌, ◌++◌, Option, Some, None, if◌then◌else◌}
+-- Meaning: CNAME and DNAME records are followed from name to name (RFC 1034 sections 3.6.2 and 4.3.2, RFC 6672 section 3.2).
+use Rattle.std.specs.Prelude.{ℕ, zero, suc, ◌-◌, Bool, ◌==◌, ◌&&◌, ◌||◌, not, List, [], ◌∷◌, ◌++◌, length, take, Option, Some, None, if◌then◌else◌}
 use Rattle.std.specs.List.{list_any}
 use Rattle.dz_name.specs.Words.{Name, Kind}
-use Rattle.dz_name.specs.Name.{same_name, is_within}
-use Rattle.dz_name.specs.declared.dns.TheConstants.{ALIASES}
+use Rattle.dz_name.specs.Name.{same_name, is_within, fitting}
+use Rattle.dz_name.specs.declared.dns.TheConstants.{ALIASES, TYPE_ANY, TYPE_CNAME, TYPE_DNAME}
 use Rattle.dz_record.specs.Record.{Record, target_of}
-use Rattle.dz_lookup.specs.Found.{Found, here, alias, no_data, no_name, referral, found, meaning}
+use Rattle.dz_lookup.specs.Found.{Found, here, alias, no_data, no_name, referral, rename, found, meaning}
 use Rattle.dz_lookup.specs.declared.chain.Last as code
 use Rattle.dz_lookup.specs.declared.chain.Last.TheVariants as code_last
 
--- names that were looked up, each with the CNAME record found for it
-abbrev pub Aliases : Type 0
-Aliases = List (Name × Record)
+-- names that were looked up, each with the CNAME record found for it or the DNAME record above it
+abbrev pub Trail : Type 0
+Trail = List (Name × Record)
 
 pub data Ending : Type 0 where
   ended : Found → Name → Ending  -- what is found for the last name, and this name
   stopped : Ending  -- no further name is looked up
+  too_long : Record → Ending  -- the name that this DNAME gives to the last name has more than 255 octets
 
 pub record Chased : Type 0 where
-  pub aliases : Aliases
+  pub trail : Trail
   pub ending : Ending
 
-abbrev pub was_looked_up : Aliases → Name → Bool
-was_looked_up aliases name = list_any (λ a. same_name a.0 name) aliases
+-- the name that a DNAME gives to a name below its owner: its target in place of its owner, where there is room for it
+-- (RFC 6672 section 2.2)
+abbrev pub redirected : Name → Record → Option Name → Option Name
+redirected name r None = None
+redirected name r (Some target) = fitting (take (length name - length r.owner) name ++ target)
 
--- a CNAME's target is looked up where it is within the apex and wasn't looked up before
-abbrev pub next_name : Name → Aliases → Option Name → Option Name
-next_name apex aliases None = None
-next_name apex aliases (Some target) =
-    if is_within target apex && not (was_looked_up aliases target) then Some target else None
+abbrev pub renamed : Name → Record → Option Name
+renamed name r = redirected name r (target_of r)
 
-abbrev pub onward : (Aliases → Name → Chased) → Aliases → Option Name → Chased
-onward next aliases None = record { aliases = aliases; ending = stopped }
-onward next aliases (Some name) = next aliases name
+-- where a CNAME or a DNAME leads from a name
+abbrev pub led_to : Name → Record → Option Name
+led_to name r = if r.kind == TYPE_DNAME then renamed name r else target_of r
 
--- what is found for a name leads on only where it is a CNAME, which then joins the others
-abbrev pub continuation : (Aliases → Name → Chased) → Name → Aliases → Name → Found → Chased
-continuation next apex aliases name (alias r) =
-    onward next (aliases ++ (name, r) ∷ []) (next_name apex (aliases ++ (name, r) ∷ []) (target_of r))
-continuation next apex aliases name (here rs) = record { aliases = aliases; ending = ended (here rs) name }
-continuation next apex aliases name no_data = record { aliases = aliases; ending = ended no_data name }
-continuation next apex aliases name no_name = record { aliases = aliases; ending = ended no_name name }
-continuation next apex aliases name (referral rs) = record { aliases = aliases; ending = ended (referral rs) name }
+abbrev pub was_looked_up : Trail → Name → Bool
+was_looked_up trail name = list_any (λ a. same_name a.0 name) trail
 
--- the chain from a name on, where so many more CNAME records may join
-unfoldable pub chain_from : ℕ → Name → List Record → Kind → Aliases → Name → Chased
-chain_from zero apex zone kind aliases name = record { aliases = aliases; ending = stopped }
-chain_from (suc left) apex zone kind aliases name =
-    continuation (chain_from left apex zone kind) apex aliases name (found apex zone name kind)
+-- a further name is looked up where it is within the apex and wasn't looked up before
+abbrev pub next_name : Name → Trail → Option Name → Option Name
+next_name apex trail None = None
+next_name apex trail (Some target) =
+    if is_within target apex && not (was_looked_up trail target) then Some target else None
 
--- the chain of a name and a type: at most 16 CNAME records
+-- a DNAME's CNAME answers a question for CNAME and for all types
+abbrev pub is_answered : Kind → Bool
+is_answered kind = kind == TYPE_CNAME || kind == TYPE_ANY
+
+abbrev pub onward : (Trail → Name → Chased) → Trail → Option Name → Chased
+onward next trail None = record { trail = trail; ending = stopped }
+onward next trail (Some name) = next trail name
+
+abbrev pub from_renamed : (Trail → Name → Chased) → Name → Kind → Trail → Name → Record → Option Name → Chased
+from_renamed next apex kind trail name r None = record { trail = trail; ending = too_long r }
+from_renamed next apex kind trail name r (Some new) =
+    onward next (trail ++ (name, r) ∷ []) (if is_answered kind then None else next_name apex (trail ++ (name, r) ∷ []) (Some new))
+
+-- what is found for a name leads on only where it is a CNAME or a DNAME, which then joins the others
+abbrev pub continuation : (Trail → Name → Chased) → Name → Kind → Trail → Name → Found → Chased
+continuation next apex kind trail name (alias r) =
+    onward next (trail ++ (name, r) ∷ []) (next_name apex (trail ++ (name, r) ∷ []) (target_of r))
+continuation next apex kind trail name (rename r) = from_renamed next apex kind trail name r (renamed name r)
+continuation next apex kind trail name (here rs) = record { trail = trail; ending = ended (here rs) name }
+continuation next apex kind trail name no_data = record { trail = trail; ending = ended no_data name }
+continuation next apex kind trail name no_name = record { trail = trail; ending = ended no_name name }
+continuation next apex kind trail name (referral rs) = record { trail = trail; ending = ended (referral rs) name }
+
+-- the chain from a name on, where so many more steps may join
+unfoldable pub chain_from : ℕ → Name → List Record → Kind → Trail → Name → Chased
+chain_from zero apex zone kind trail name = record { trail = trail; ending = stopped }
+chain_from (suc left) apex zone kind trail name =
+    continuation (chain_from left apex zone kind) apex kind trail name (found apex zone name kind)
+
+-- the chain of a name and a type: at most 16 steps
 unfoldable pub chain_of : Name → List Record → Name → Kind → Chased
 chain_of apex zone name kind = chain_from ALIASES apex zone kind [] name
 
@@ -57,3 +81,4 @@ chain_of apex zone name kind = chain_from ALIASES apex zone kind [] name
 abbrev pub ending_of : code.Last → Ending
 ending_of (code_last.Found found_last name) = ended (meaning found_last) name
 ending_of code_last.Stopped = stopped
+ending_of (code_last.NameTooLong renamer) = too_long renamer.now

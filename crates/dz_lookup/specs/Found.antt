@@ -1,10 +1,10 @@
--- Meaning: what a zone says of a name and a type (RFC 1034 section 4.3.2, RFC 4592 sections 2.2 and 3.3).
+-- Meaning: what a zone says of a name and a type (RFC 1034 section 4.3.2, RFC 4592 sections 2.2 and 3.3, RFC 6672).
 -- A zone is a list of records in any order.
-use Rattle.std.specs.Prelude.{◌<◌, Bool, ◌==◌, ◌&&◌, not, List, [], ◌∷◌, find, Option, Some, None, if◌then◌else◌, length, ⊤}
+use Rattle.std.specs.Prelude.{◌<◌, Bool, ◌==◌, ◌&&◌, not, nat_lt, List, [], ◌∷◌, find, Option, Some, None, if◌then◌else◌, length, ⊤}
 use Rattle.std.specs.Option.{option_or}
 use Rattle.dz_name.specs.Words.{Name, Kind}
 use Rattle.dz_name.specs.Name.{same_name, upward, wildcard_of}
-use Rattle.dz_name.specs.declared.dns.TheConstants.{TYPE_ANY, TYPE_CNAME, TYPE_NS}
+use Rattle.dz_name.specs.declared.dns.TheConstants.{TYPE_ANY, TYPE_CNAME, TYPE_DNAME, TYPE_DS, TYPE_NS}
 use Rattle.dz_record.specs.Record.{Record}
 use Rattle.dz_lookup.specs.Runs.{of_type, records_of, owns, exists}
 use Rattle.dz_lookup.specs.declared.found.Found as code
@@ -35,12 +35,23 @@ topmost test (label ∷ labels) =
 abbrev pub cut : Name → List Record → Name → Option Name
 cut apex zone name = topmost (is_cut apex zone) name
 
+-- a DS belongs to the zone above its owner, so that a cut at the name itself doesn't count for it (RFC 4035 section 3.1.4.1)
+abbrev pub cut_for : Name → List Record → Kind → Name → Option Name
+cut_for apex zone kind [] = cut apex zone []
+cut_for apex zone kind (label ∷ labels) = if kind == TYPE_DS then cut apex zone labels else cut apex zone (label ∷ labels)
+
+-- of the names above a name, the topmost one that owns a DNAME (RFC 6672 sections 2.2 and 3.2)
+abbrev pub dname : List Record → Name → Option Name
+dname zone [] = None
+dname zone (label ∷ labels) = topmost (owns zone TYPE_DNAME) labels
+
 pub data Found : Type 0 where
   here : List Record → Found  -- the records that answer
   alias : Record → Found  -- a CNAME leads on
   no_data : Found  -- the name exists without such records
   no_name : Found  -- no name and no wildcard is there
   referral : List Record → Found  -- the NS records of the cut above the name
+  rename : Record → Found  -- a DNAME above the name gives it another name
 
 -- at a node: the records that answer, or its CNAME, or nothing
 abbrev pub here_or : List Record → List Record → Found
@@ -56,13 +67,28 @@ abbrev pub at_source : List Record → Kind → Option Name → Found
 at_source zone kind None = no_name
 at_source zone kind (Some node) = at_node kind (records_of zone node)
 
-abbrev pub at_cut : List Record → Name → Kind → Option Name → Found
-at_cut zone name kind None = at_source zone kind (source zone name)
-at_cut zone name kind (Some above) = referral (of_type TYPE_NS (records_of zone above))
+-- the DNAME of a name that owns one
+abbrev pub renaming : List Record → Found
+renaming [] = no_data
+renaming (r ∷ rs) = rename r
+
+-- what keeps a name from being looked at: a cut above it or at it, or a DNAME above it. Of both the one with fewer labels
+-- counts, and the cut where one name owns both.
+abbrev pub barrier : List Record → Option Name → Option Name → Option Found
+barrier zone None None = None
+barrier zone None (Some above) = Some (renaming (of_type TYPE_DNAME (records_of zone above)))
+barrier zone (Some at) None = Some (referral (of_type TYPE_NS (records_of zone at)))
+barrier zone (Some at) (Some above) =
+    if nat_lt (length above) (length at) then Some (renaming (of_type TYPE_DNAME (records_of zone above)))
+    else Some (referral (of_type TYPE_NS (records_of zone at)))
+
+abbrev pub behind_barrier : List Record → Name → Kind → Option Found → Found
+behind_barrier zone name kind None = at_source zone kind (source zone name)
+behind_barrier zone name kind (Some f) = f
 
 -- what is found for a name within the apex and a type
 unfoldable pub found : Name → List Record → Name → Kind → Found
-found apex zone name kind = at_cut zone name kind (cut apex zone name)
+found apex zone name kind = behind_barrier zone name kind (barrier zone (cut_for apex zone kind name) (dname zone name))
 
 -- the records that answer, and those of a referral, are some
 abbrev pub HasRecords : Found → Type 0
@@ -71,6 +97,7 @@ HasRecords (alias r) = ⊤
 HasRecords no_data = ⊤
 HasRecords no_name = ⊤
 HasRecords (referral rs) = 0 < length rs
+HasRecords (rename r) = ⊤
 
 -- what the code's answer means
 abbrev pub meaning : code.Found → Found
@@ -79,11 +106,13 @@ meaning (code_found.Alias alias_found) = alias alias_found.now
 meaning code_found.NoData = no_data
 meaning code_found.NoName = no_name
 meaning (code_found.Referral servers) = referral servers.now
+meaning (code_found.Rename renamer) = rename renamer.now
 
--- the CNAME that leads on, if one does
-abbrev pub alias_of : Found → Option Record
-alias_of (here rs) = None
-alias_of (alias r) = Some r
-alias_of no_data = None
-alias_of no_name = None
-alias_of (referral rs) = None
+-- the CNAME or the DNAME that leads on, if one does
+abbrev pub leading : Found → Option Record
+leading (here rs) = None
+leading (alias r) = Some r
+leading no_data = None
+leading no_name = None
+leading (referral rs) = None
+leading (rename r) = Some r

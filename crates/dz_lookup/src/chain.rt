@@ -1,18 +1,18 @@
-//! Chains of aliases.
+//! Chains of aliases and of renamed names.
 
-ghost use Rattle.std.specs.Prelude.{◌≡◌, ◌<◌, ◌≤◌, [], ◌∷◌, ◌++◌, length, true, slice_index_or};
+ghost use Rattle.std.specs.Prelude.{◌≡◌, ◌==◌, ◌&&◌, ◌+◌, ◌<◌, ◌≤◌, [], ◌∷◌, ◌++◌, length, take, true, slice_index_or, Some, None, if◌then◌else◌};
 ghost use Rattle.dz_name.specs.Name.{same_name, is_within};
 ghost use Rattle.dz_name.specs.Words.{Name};
-ghost use Rattle.std.specs.List.{AllByRecursion};
-ghost use Rattle.dz_record.specs.Record.{Record, target_of};
+ghost use Rattle.std.specs.List.{AllByRecursion, list_any};
+ghost use Rattle.dz_record.specs.Record.{Record, same_record};
 ghost use Rattle.dz_lookup.specs.Runs.{of_type, records_of};
-ghost use Rattle.dz_lookup.specs.Chain.{was_looked_up, next_name, chain_of, ending_of};
+ghost use Rattle.dz_lookup.specs.Chain.{was_looked_up, led_to, renamed, next_name, is_answered, chain_of, ending_of};
 ghost use Rattle.dz_lookup.specs.inner.Links.{behind, IsNext};
 
 use crate::found::{Found, find_near};
 use crate::runs::{Addresses, addresses_near};
 use arrayvec::ArrayVec;
-use dz_name::dns::{ALIASES, TYPE_A, TYPE_AAAA};
+use dz_name::dns::{ALIASES, TYPE_A, TYPE_AAAA, TYPE_ANY, TYPE_CNAME, TYPE_DNAME};
 use dz_name::{Name, NameRef};
 use dz_record::Rr;
 use dz_steps::Steps;
@@ -20,33 +20,35 @@ use dz_zone::Version;
 use std::marker::{Brand, Model};
 use std::sync::ledger::{Blank, Ledger};
 
-/// How a chain of aliases ends.
+/// How a chain ends.
 #[derive(Clone, Copy, Debug)]
 pub enum Last<'a> {
     /// With what is found for its last name.
     Found(Found<'a>, Name),
-    /// A further name isn't looked up: it is outside the zone, it was looked up before, or 16 CNAME records were
-    /// followed.
+    /// A further name isn't looked up: it is outside the zone, it was looked up before, 16 records were followed, or the
+    /// CNAME that a DNAME makes answers.
     Stopped,
+    /// The name that this DNAME gives to the last name has more than 255 octets.
+    NameTooLong(&'a Rr),
 }
 
-/// The CNAME records that lead on from a name, at most 16, each with the name that it was found for. Contracts see it
-/// as the list of these pairs. Only the first name is kept: each other one is the target of the record before. Beside
-/// them it has the number in the index of the first owner below the zone cut, if the chain ends at one.
+/// The CNAME and DNAME records that lead on from a name, at most 16, each with the name that it was found for. Contracts see
+/// it as the list of these pairs. Only the first name is kept: each other one is where the record before leads to. Beside
+/// them it has a number in the index near which its end was found.
 #[derive(Drop)]
 pub struct Chain<'a> {
     first: Name,
     records: ArrayVec<Option<&'a Rr>, ALIASES>,
-    below_cut: usize,
+    near: usize,
 }
 
 impl<'a> Model for Chain<'a> {
     ghost use Rattle.std.specs.Prelude.{◌≤◌, length};
     ghost use Rattle.dz_name.specs.declared.dns.TheConstants.{ALIASES};
-    ghost use Rattle.dz_lookup.specs.Chain.{Aliases};
+    ghost use Rattle.dz_lookup.specs.Chain.{Trail};
     ghost use Rattle.dz_lookup.specs.inner.Links.{pairs_of, AreThere};
 
-    ghost Value = { Aliases };
+    ghost Value = { Trail };
 
     ghost view = { λ c. pairs_of c.first c.records.items };
 
@@ -54,18 +56,18 @@ impl<'a> Model for Chain<'a> {
 }
 
 impl<'a> Chain<'a> {
-    /// A chain without CNAME records.
+    /// A chain without records.
     pub fn empty() -> Chain<'a>
         ensures { result ≡ [] }
     {
         Chain {
             first: Name::root(),
             records: ArrayVec::new(),
-            below_cut: 0,
+            near: 0,
         }
     }
 
-    /// The addresses of a name that may be the owner so many behind the first one below the zone cut at which the chain
+    /// The addresses of a name that may be the owner so many after the one that follows the zone cut at which the chain
     /// ends, as its name servers often are. That owner is looked at first; where it isn't the name, the name is searched
     /// once.
     pub fn addresses_of<'v>(
@@ -81,17 +83,24 @@ impl<'a> Chain<'a> {
         ensures owner_of_four { AllByRecursion (λ r. r.owner ≡ name.now) result.four.now }
         ensures owner_of_six { AllByRecursion (λ r. r.owner ≡ name.now) result.six.now }
     {
-        addresses_near(version, name, self.below_cut.saturating_add(number))
+        addresses_near(version, name, self.near.saturating_add(number))
     }
 
-    /// Keeps the number of the first owner below the cut at which it ends.
-    fn end_at(&mut self, below_cut: usize)
+    /// A number in the index of the version, a hint where to look first (`rrset_near`, `place_near`, `source`): where the chain
+    /// ends at a zone cut, that of the owner that follows it; else that of the last name, or of the owner that follows it. Any
+    /// number gives the same answers, so that contracts say nothing of it.
+    pub fn near(&self) -> usize {
+        self.near
+    }
+
+    /// Keeps the number near which its end was found.
+    fn end_at(&mut self, near: usize)
         ensures { self.new ≡ self.old }
     {
-        self.below_cut = below_cut;
+        self.near = near;
     }
 
-    /// How many CNAME records it has, at most 16.
+    /// How many records it has, at most 16.
     pub fn len(&self) -> usize
         ensures value { result ≡ length self.now }
         ensures few { result ≤ ALIASES }
@@ -99,26 +108,49 @@ impl<'a> Chain<'a> {
         self.records.len()
     }
 
-    /// The name that a CNAME record was found for, 0 being the first; where the record is a wildcard's, it isn't the
-    /// record's owner.
-    pub fn name(&self, number: usize) -> Name
-        requires { number < length self.now }
-        ensures { (d : Name × Record) → result ≡ (slice_index_or self.now number d).0 }
+    /// The name that the first record was found for; where the record is a wildcard's or a DNAME, it isn't the record's
+    /// owner.
+    pub fn first(&self) -> Name
+        ensures { (d : Name × Record) → 0 < length self.now
+            → result ≡ (slice_index_or self.now 0 d).0 }
     {
-        if number == 0 {
-            return self.first;
-        }
-        behind(self.record(number - 1))
+        self.first
     }
 
-    /// A CNAME record, 0 being the first.
+    /// Where a record leads to from the name that it was found for: the name of the next record, if there is one.
+    pub fn target(&self, number: usize, name: &Name) -> Name
+        requires within { number < length self.now }
+        requires name { (d : Name × Record) → name.now ≡ (slice_index_or self.now number d).0 }
+        ensures target { (d : Name × Record)
+            → result ≡ behind name.now (slice_index_or self.now number d).1 }
+        ensures next { (d : Name × Record) → number + 1 < length self.now
+            → result ≡ (slice_index_or self.now (number + 1) d).0 }
+    {
+        let _ = &self.records;
+        behind(name, self.record(number))
+    }
+
+    /// Whether the record stands among the first ones.
+    pub fn has_among(&self, upto: usize, rr: &Rr) -> bool
+        requires { upto ≤ length self.now }
+        ensures { result ≡ list_any (λ a. same_record a.1 rr.now) (take upto self.now) }
+    {
+        'records: for number in 0..upto {
+            if self.record(number).same(rr) {
+                return true;
+            }
+        }
+        false
+    }
+
+    /// A record, 0 being the first.
     pub fn record(&self, number: usize) -> &'a Rr
         requires { number < length self.now }
         ensures { (d : Name × Record) → result.now ≡ (slice_index_or self.now number d).1 }
     {
         let records = self.records.as_slice();
         match records[number] {
-            Some(alias) => alias,
+            Some(record) => record,
             None => unreachable!(),
         }
     }
@@ -130,47 +162,76 @@ impl<'a> Chain<'a> {
         self.records.clear();
     }
 
-    /// Puts a CNAME record behind the others, found for a name that is the first, or that the last record leads to.
-    fn push(&mut self, name: &Name, alias: &'a Rr)
+    /// Puts a record behind the others, found for a name that is the first, or that the last record leads to.
+    fn push(&mut self, name: &Name, rr: &'a Rr)
         requires room { length self.old < ALIASES }
         requires next { IsNext name.now self.old }
-        ensures { self.new ≡ self.old ++ (name.now, alias.now) ∷ [] }
+        ensures { self.new ≡ self.old ++ (name.now, rr.now) ∷ [] }
     {
         if self.records.is_empty() {
             self.first = *name;
         }
-        self.records.push(Some(alias));
+        self.records.push(Some(rr));
     }
 
     /// Whether a name was looked up.
     fn contains(&self, name: &Name) -> bool
         ensures { result ≡ was_looked_up self.now name.now }
     {
+        let mut found = self.first();
         'names: for number in 0..self.len() {
-            if self.name(number).same(name) {
+            if found.same(name) {
                 return true;
+            }
+            if number + 1 < self.len() {
+                found = self.target(number, &found);
             }
         }
         false
     }
 }
 
-/// The name that a CNAME record leads to, the root where it isn't one.
-fn behind(alias: &Rr) -> Name
-    ensures { result ≡ behind alias.now }
+/// Where a record leads to from a name, the root where it leads nowhere.
+fn behind(name: &Name, rr: &Rr) -> Name
+    ensures { result ≡ behind name.now rr.now }
 {
-    match alias.target() {
+    match led_to(name, rr) {
         Some(target) => target,
         None => Name::root(),
     }
 }
 
-/// Follows CNAME records from a name within the apex on, from name to name (RFC 1034 section 4.3.2): the chain becomes
-/// these records, and the answer is how it ends.
+/// Where a CNAME or a DNAME leads from a name.
+fn led_to(name: &Name, rr: &Rr) -> Option<Name>
+    ensures { result ≡ led_to name.now rr.now }
+{
+    if rr.kind() == TYPE_DNAME {
+        renamed(name, rr)
+    } else {
+        rr.target()
+    }
+}
+
+/// The name that a DNAME gives to a name below its owner; none where that would have more than 255 octets.
+fn renamed(name: &Name, renamer: &Rr) -> Option<Name>
+    ensures { result ≡ renamed name.now renamer.now }
+{
+    let target = match renamer.target() {
+        None => return None,
+        Some(target) => target,
+    };
+    let below = name
+        .label_count()
+        .saturating_sub(renamer.owner_ref().label_count());
+    name.in_front(below, &target.as_ref())
+}
+
+/// Follows CNAME and DNAME records from a name within the apex on, from name to name (RFC 1034 section 4.3.2, RFC 6672
+/// section 3.2): the chain becomes these records, and the answer is how it ends.
 pub fn chase<'a>(version: &'a Version, name: &Name, kind: u16, chain: &mut Chain<'a>) -> Last<'a>
     requires within { is_within name.now version.now.apex ≡ true }
-    ensures aliases { chain.new
-        ≡ (chain_of version.now.apex version.now.records name.now kind).aliases }
+    ensures trail { chain.new
+        ≡ (chain_of version.now.apex version.now.records name.now kind).trail }
     ensures ending { ending_of result
         ≡ (chain_of version.now.apex version.now.records name.now kind).ending }
 {
@@ -178,8 +239,8 @@ pub fn chase<'a>(version: &'a Version, name: &Name, kind: u16, chain: &mut Chain
     follow::<Brand>(Blank::new(1), version, name, kind, chain)
 }
 
-/// Follows CNAME records from name to name, and puts them into a chain without any; counted in a ledger that is still
-/// blank.
+/// Follows CNAME and DNAME records from name to name, and puts them into a chain without any; counted in a ledger that is
+/// still blank.
 fn follow<'a, L: Ledger>(
     blank: Blank,
     version: &'a Version,
@@ -192,42 +253,46 @@ fn follow<'a, L: Ledger>(
     requires whole { blank.parts ≡ 1 }
     requires within { is_within name.now version.now.apex ≡ true }
     requires empty { chain.old ≡ [] }
-    ensures aliases { chain.new
-        ≡ (chain_of version.now.apex version.now.records name.now kind).aliases }
+    ensures trail { chain.new
+        ≡ (chain_of version.now.apex version.now.records name.now kind).trail }
     ensures ending { ending_of result
         ≡ (chain_of version.now.apex version.now.records name.now kind).ending }
 {
     let mut steps = Steps::<L>::new(blank);
     let mut asked = *name;
-    'aliases: while chain.len() < ALIASES {
+    'trail: while chain.len() < ALIASES {
         let finding = find_near(version, &asked, kind, &mut steps);
-        let alias = match finding.found.alias() {
+        let record = match finding.found.leading() {
             None => {
-                chain.end_at(finding.below_cut);
+                chain.end_at(finding.near);
                 return Last::Found(finding.found, asked);
             }
-            Some(alias) => alias,
+            Some(record) => record,
         };
-        chain.push(&asked, alias);
-        asked = match next_name(&version.apex(), chain, alias) {
-            None => return Last::Stopped,
+        let target = match led_to(&asked, record) {
+            None => return Last::NameTooLong(record),
             Some(target) => target,
         };
+        chain.push(&asked, record);
+        if is_answered_by(kind, record) || !is_next(&version.apex(), chain, &target) {
+            return Last::Stopped;
+        }
+        asked = target;
     }
     Last::Stopped
 }
 
-/// The target of a CNAME, where it is within the apex and wasn't looked up before.
-fn next_name(apex: &NameRef, chain: &Chain, alias: &Rr) -> Option<Name>
-    ensures { result ≡ next_name apex.now chain.now (target_of alias.now) }
+/// Whether the record is a DNAME whose CNAME answers a question for this type.
+fn is_answered_by(kind: u16, rr: &Rr) -> bool
+    ensures { result ≡ (rr.now.kind == TYPE_DNAME && is_answered kind) }
 {
-    let target = match alias.target() {
-        None => return None,
-        Some(target) => target,
-    };
-    if target.as_ref().is_within(apex) && !chain.contains(&target) {
-        Some(target)
-    } else {
-        None
-    }
+    rr.kind() == TYPE_DNAME && (kind == TYPE_CNAME || kind == TYPE_ANY)
+}
+
+/// Whether a further name is looked up: it is within the apex and wasn't looked up before.
+fn is_next(apex: &NameRef, chain: &Chain, target: &Name) -> bool
+    ensures { (if result then Some target.now else None)
+        ≡ next_name apex.now chain.now (Some target.now) }
+{
+    target.as_ref().is_within(apex) && !chain.contains(target)
 }

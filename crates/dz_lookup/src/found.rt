@@ -1,19 +1,21 @@
 //! What is found for a name and a type.
 
-ghost use Rattle.std.specs.Prelude.{◌≡◌, ◌≤◌, ◌-◌, length, true, false, option_map};
+ghost use Rattle.std.specs.Prelude.{◌≡◌, ◌<◌, ◌≤◌, ◌-◌, ◌||◌, length, true, false, None, Some, option_map, IfSome};
 ghost use Rattle.std.specs.List.Sorted.{IsStrictlySortedBy, IsNonDecreasingBy};
-ghost use Rattle.dz_name.specs.Name.{is_within, wildcard_of};
+ghost use Rattle.dz_name.specs.Name.{is_within, wildcard_of, wire_of};
 ghost use Rattle.dz_record.specs.Record.{record_order};
+ghost use Rattle.dz_zone.specs.Version.{has_cuts, has_dnames};
 ghost use Rattle.dz_lookup.specs.Counted.{TakesSearches, IsLookup};
-ghost use Rattle.dz_lookup.specs.Runs.{exists};
-ghost use Rattle.dz_lookup.specs.Found.{encloser, cut, source, at_node, at_source, found, meaning, alias_of, referral, HasRecords};
-ghost use Rattle.dz_lookup.specs.inner.Places.{from_owner, IsBegin, IsNodeOf, if_exists, servers_at};
+ghost use Rattle.dz_lookup.specs.Runs.{exists, records_of, IsPlaceOf};
+ghost use Rattle.dz_lookup.specs.Found.{encloser, cut_for, dname, source, at_node, at_source, barrier, found, meaning, leading, referral, rename, HasRecords};
+ghost use Rattle.dz_lookup.specs.inner.Places.{from_owner, IsBegin, IsNodeOf, if_exists, renamer_at};
 
 use crate::runs::{
-    NEAR, Node, exists_at, exists_beside, node_near, node_of, node_of_wildcard, of_type,
+    APEX, NEAR, Node, exists_at, exists_beside, node_at_or_of, node_near, node_of,
+    node_of_wildcard, of_type,
 };
-use dz_name::Name;
-use dz_name::dns::{NAME_OCTETS, TYPE_ANY, TYPE_CNAME, TYPE_NS};
+use dz_name::dns::{NAME_OCTETS, TYPE_ANY, TYPE_CNAME, TYPE_DNAME, TYPE_DS, TYPE_NS};
+use dz_name::{Name, NameRef};
 use dz_record::Rr;
 use dz_steps::Steps;
 use dz_zone::Version;
@@ -32,60 +34,53 @@ pub enum Found<'a> {
     NoName,
     /// The NS records of the zone cut that the name is at or below.
     Referral(&'a [Rr]),
-}
-
-/// A zone cut (RFC 1034 section 4.2).
-#[derive(Clone, Copy)]
-struct Delegation<'a> {
-    /// Its NS records, in the order of RDATA.
-    servers: &'a [Rr],
-    /// The number in the index of the first owner below it.
-    below: usize,
+    /// The DNAME of a name above gives it another name (RFC 6672).
+    Rename(&'a Rr),
 }
 
 /// What is found, and near which owner more of it may stand.
 #[derive(Clone, Copy)]
 pub(crate) struct Finding<'a> {
     pub(crate) found: Found<'a>,
-    /// The number in the index of the first owner below a zone cut, 0 where there is no cut.
-    pub(crate) below_cut: usize,
+    /// A number in the index: of the owner that follows a zone cut, or else of the name or of the owner that follows it.
+    pub(crate) near: usize,
 }
 
 impl<'a> Finding<'a> {
-    fn at_cut(cut: &Delegation<'a>) -> Finding<'a>
-        ensures { meaning result.found ≡ referral cut.now.servers.now }
+    /// The cut of these servers at the owner of a number.
+    fn at_cut(servers: &'a [Rr], number: usize) -> Finding<'a>
+        ensures { meaning result.found ≡ referral servers.now }
     {
         Finding {
-            found: Found::Referral(cut.servers),
-            below_cut: cut.below,
+            found: Found::Referral(servers),
+            near: number.saturating_add(1),
         }
     }
 
-    fn without_cut(found: Found<'a>) -> Finding<'a>
+    /// What is found near the owner of a number.
+    fn beside(found: Found<'a>, near: usize) -> Finding<'a>
         ensures { meaning result.found ≡ meaning found.entry }
     {
-        Finding {
-            found,
-            below_cut: 0,
-        }
+        Finding { found, near }
     }
 }
 
 impl<'a> Found<'a> {
-    /// The CNAME that leads on, if one does.
-    pub fn alias(&self) -> Option<&'a Rr>
-        ensures { option_map (λ r. r.now) result ≡ alias_of (meaning self.now) }
+    /// The CNAME or the DNAME that leads on, if one does.
+    pub fn leading(&self) -> Option<&'a Rr>
+        ensures { option_map (λ r. r.now) result ≡ leading (meaning self.now) }
     {
         match self {
             Found::Alias(alias) => Some(alias),
+            Found::Rename(renamer) => Some(renamer),
             _ => None,
         }
     }
 }
 
-/// What a zone says of a name within its apex and a type (RFC 1034 section 4.3.2, RFC 4592); the type ANY asks for all
-/// records. The name is searched once; so is each name between it and the apex where the zone has a cut, and a wildcard
-/// where the name doesn't exist, but for those that are found near the name.
+/// What a zone says of a name within its apex and a type (RFC 1034 section 4.3.2, RFC 4592, RFC 6672); the type ANY asks
+/// for all records. The name is searched once; so is each name between it and the apex where the zone has a cut or a DNAME,
+/// and a wildcard where the name doesn't exist, but for those that are found near the name.
 pub fn find<'a, L: Ledger>(
     version: &'a Version,
     name: &Name,
@@ -116,9 +111,9 @@ pub(crate) fn find_near<'a, L: Ledger>(
     ensures counted { steps.old ≤ steps.new }
 {
     let node = node_of(version, &name.as_ref(), steps);
-    match cut(version, name, &node, steps) {
-        Some(cut) => Finding::at_cut(&cut),
-        None => Finding::without_cut(at_source(version, name, &node, kind, steps)),
+    match barrier(version, name, &node, kind, steps) {
+        Some(finding) => finding,
+        None => Finding::beside(at_source(version, name, &node, kind, steps), node.number),
     }
 }
 
@@ -139,8 +134,14 @@ fn at_source<'a, L: Ledger>(
     if exists_beside(version.records(), node.place, &name.as_ref()) {
         return at_node(node.records, kind);
     }
-    match wildcard_for(version.records(), name, node.place) {
-        Some(wildcard) => at_wildcard(version, &wildcard, node.number, kind, steps),
+    match encloser_for(version.records(), name, node.place) {
+        Some(above) => at_wildcard(
+            version,
+            &above.to_name().wildcard(),
+            node.number,
+            kind,
+            steps,
+        ),
         None => Found::NoName,
     }
 }
@@ -186,28 +187,99 @@ fn at_node<'a>(node: &'a [Rr], kind: u16) -> Found<'a>
     }
 }
 
-/// The NS records of the zone cut nearest the apex that the name is at or below. Only the names below the apex are looked
-/// at, longer and longer, as far as they exist.
-fn cut<'a, L: Ledger>(
+/// The zone cut that the name is at or below, or the DNAME of a name above it, whichever is nearer the apex.
+fn barrier<'a, L: Ledger>(
     version: &'a Version,
     name: &Name,
     node: &Node<'a>,
+    kind: u16,
     steps: &mut Steps<L>,
-) -> Option<Delegation<'a>>
+) -> Option<Finding<'a>>
     requires within { is_within name.now version.now.apex ≡ true }
     requires node { IsNodeOf version.now.records name.now node.now.place node.now.records.now }
-    ensures cut { option_map (λ r. r.servers.now) result
-        ≡ servers_at version.now.records (cut version.now.apex version.now.records name.now) }
+    ensures barrier { option_map (λ f. meaning f.found) result
+        ≡ barrier version.now.records (cut_for version.now.apex version.now.records kind name.now)
+        (dname version.now.records name.now) }
     ensures cost { TakesSearches (length name.now) (length version.now.records)
         (steps.new - steps.old) }
     ensures counted { steps.old ≤ steps.new }
 {
-    if !version.has_cuts() {
+    version.records();
+    if !has_barriers(version) {
         return None;
     }
+    let labels = name.label_count() - version.apex().label_count();
+    if labels == 0 {
+        return None;
+    }
+    match apex_renamer(version, steps) {
+        Some(renamer) => Some(Finding::beside(Found::Rename(renamer), APEX)),
+        None => barrier_below(version, name, node, kind, labels, steps),
+    }
+}
+
+/// Whether there is a zone cut or a DNAME.
+fn has_barriers(version: &Version) -> bool
+    ensures { result ≡ (has_cuts version.now || has_dnames version.now) }
+{
+    version.has_cuts() || version.has_dnames()
+}
+
+/// The DNAME of the apex, if it owns one.
+fn apex_renamer<'a, L: Ledger>(version: &'a Version, steps: &mut Steps<L>) -> Option<&'a Rr>
+    ensures renamer { option_map (λ r. r.now) result
+        ≡ renamer_at version.now.records version.now.apex }
+    ensures cost { TakesSearches 1 (length version.now.records) (steps.new - steps.old) }
+    ensures counted { steps.old ≤ steps.new }
+{
+    version.records();
+    if !version.has_dnames() {
+        return None;
+    }
+    let apex = version.apex();
+    let near = node_near(version, &apex, APEX, 1, steps);
+    renamer_of(version, &apex, near.records)
+}
+
+/// The DNAME among the records of an owner, if there is one.
+fn renamer_of<'a>(version: &Version, owner: &NameRef, records: &'a [Rr]) -> Option<&'a Rr>
+    requires records { records.now ≡ records_of version.now.records owner.now }
+    requires kinds { IsNonDecreasingBy (λ r. r.kind) records.now }
+    ensures { option_map (λ r. r.now) result ≡ renamer_at version.now.records owner.now }
+{
+    version.records();
+    if version.has_dnames() {
+        of_type(records, TYPE_DNAME).first()
+    } else {
+        None
+    }
+}
+
+/// The same as `barrier` where the apex owns no DNAME and the name has so many labels more than it. Only the names below the
+/// apex are looked at, longer and longer, as far as they exist.
+fn barrier_below<'a, L: Ledger>(
+    version: &'a Version,
+    name: &Name,
+    node: &Node<'a>,
+    kind: u16,
+    labels: usize,
+    steps: &mut Steps<L>,
+) -> Option<Finding<'a>>
+    requires within { is_within name.now version.now.apex ≡ true }
+    requires node { IsNodeOf version.now.records name.now node.now.place node.now.records.now }
+    requires some { 0 < labels }
+    requires labels { labels ≡ length name.now - length version.now.apex }
+    requires apex { renamer_at version.now.records version.now.apex ≡ None }
+    ensures barrier { option_map (λ f. meaning f.found) result
+        ≡ barrier version.now.records (cut_for version.now.apex version.now.records kind name.now)
+        (dname version.now.records name.now) }
+    ensures cost { TakesSearches (labels - 1) (length version.now.records)
+        (steps.new - steps.old) }
+    ensures counted { steps.old ≤ steps.new }
+{
     let records = version.records();
-    let mut skip = name.label_count() - version.apex().label_count();
-    'labels: while 0 < skip {
+    let mut skip = labels;
+    'labels: while 1 < skip {
         skip -= 1;
         let above = name.ancestor_ref(skip);
         if !exists_beside(records, node.place, &above) {
@@ -216,30 +288,33 @@ fn cut<'a, L: Ledger>(
         let near = node_near(version, &above, node.number, NEAR, steps);
         let servers = of_type(near.records, TYPE_NS);
         if !servers.is_empty() {
-            return Some(cut_at(servers, near.number));
+            return Some(Finding::at_cut(servers, near.number));
+        }
+        if let Some(renamer) = renamer_of(version, &above, near.records) {
+            return Some(Finding::beside(Found::Rename(renamer), near.number));
         }
     }
-    None
-}
-
-/// The cut of these servers at the owner of a number.
-fn cut_at(servers: &[Rr], number: usize) -> Delegation<'_>
-    ensures { result.servers.now ≡ servers.now }
-{
-    Delegation {
-        servers,
-        below: number.saturating_add(1),
+    // a DS belongs to the zone above the cut (RFC 4035 section 3.1.4.1)
+    if kind == TYPE_DS {
+        return None;
+    }
+    let servers = of_type(node.records, TYPE_NS);
+    if servers.is_empty() {
+        None
+    } else {
+        Some(Finding::at_cut(servers, node.number))
     }
 }
 
-/// The wildcard that answers for a name that doesn't exist, whether the wildcard exists or not: the one below the name's
-/// closest encloser (RFC 4592 section 3.3.1). The name would stand at the place `begin`.
-fn wildcard_for(records: &[Rr], name: &Name, begin: usize) -> Option<Name>
+/// The closest encloser of a name that doesn't exist, strictly above it (RFC 4592 section 3.3.1). The name would stand at the
+/// place `begin`.
+fn encloser_for<'n>(records: &[Rr], name: &'n Name, begin: usize) -> Option<NameRef<'n>>
     requires sorted { IsStrictlySortedBy record_order records.now }
     requires room { begin ≤ length records.now }
     requires point { IsBegin (from_owner name.now) records.now begin }
     requires missing { exists records.now name.now ≡ false }
-    ensures { result ≡ option_map wildcard_of (encloser records.now name.now) }
+    ensures encloser { result ≡ encloser records.now name.now }
+    ensures short { IfSome result (λ above. length (wire_of above) < 254) }
 {
     let count = name.label_count();
     prove!(name.wire().len() <= NAME_OCTETS);
@@ -248,8 +323,51 @@ fn wildcard_for(records: &[Rr], name: &Name, begin: usize) -> Option<Name>
         skip += 1;
         let above = name.ancestor_ref(skip);
         if exists_beside(records, begin, &above) {
-            return Some(above.to_name().wildcard());
+            return Some(above);
         }
     }
     None
+}
+
+/// Where the answer for a name comes from: the name itself, or else the wildcard below its closest encloser; none where
+/// neither exists (RFC 4592 section 3.3.1). Each of the two is looked at near the owner of a number in the index, and searched
+/// where it isn't there. Any number gives the same answer.
+pub fn source<L: Ledger>(
+    version: &Version,
+    name: &Name,
+    number: usize,
+    steps: &mut Steps<L>,
+) -> Option<Name>
+    ensures source { result ≡ source version.now.records name.now }
+    ensures cost { TakesSearches 2 (length version.now.records) (steps.new - steps.old) }
+    ensures counted { steps.old ≤ steps.new }
+{
+    let node = node_at_or_of(version, &name.as_ref(), number, steps);
+    if exists_beside(version.records(), node.place, &name.as_ref()) {
+        return Some(*name);
+    }
+    let wildcard = match encloser_for(version.records(), name, node.place) {
+        None => return None,
+        Some(above) => above.to_name().wildcard(),
+    };
+    let place = node_of_wildcard(version, &wildcard.as_ref(), number, steps).place;
+    if exists_at(version.records(), place, &wildcard.as_ref()) {
+        Some(wildcard)
+    } else {
+        None
+    }
+}
+
+/// The wildcard below the closest encloser of a name that doesn't exist, whether the wildcard exists or not (RFC 4592 section
+/// 3.3.1). So many records stand before those of the name. It takes no search.
+pub fn wildcard_of(version: &Version, name: &Name, place: usize) -> Option<Name>
+    requires missing { exists version.now.records name.now ≡ false }
+    requires room { place ≤ length version.now.records }
+    requires place { IsPlaceOf name.now version.now.records place }
+    ensures { result ≡ option_map wildcard_of (encloser version.now.records name.now) }
+{
+    match encloser_for(version.records(), name, place) {
+        None => None,
+        Some(above) => Some(above.to_name().wildcard()),
+    }
 }

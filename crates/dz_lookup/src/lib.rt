@@ -9,5 +9,5 @@ mod found;
 mod runs;
 
 pub use chain::{Chain, Last, chase};
-pub use found::{Found, find};
-pub use runs::{Addresses, addresses_of, records_of, rrset_of};
+pub use found::{Found, find, source, wildcard_of};
+pub use runs::{Addresses, addresses_of, place_near, records_of, rrset_near, rrset_of};

@@ -6,7 +6,7 @@ ghost use Rattle.std.specs.List.Sorted.{IsStrictlySortedBy, IsNonDecreasingBy};
 ghost use Rattle.dz_name.specs.Name.{is_within};
 ghost use Rattle.dz_record.specs.Record.{Record, record_order};
 ghost use Rattle.dz_lookup.specs.Counted.{TakesSearches};
-ghost use Rattle.dz_lookup.specs.Runs.{of_type, records_of, exists};
+ghost use Rattle.dz_lookup.specs.Runs.{of_type, records_of, exists, IsPlaceOf};
 ghost use Rattle.dz_index.specs.Index.{IsRun};
 ghost use Rattle.dz_zone.specs.Version.{owners_of};
 ghost use Rattle.dz_lookup.specs.inner.Places.{from_owner, IsBegin, IsNodeOf, IsPlaceWithin};
@@ -26,7 +26,13 @@ use std::sync::ledger::{Blank, Ledger};
 pub(crate) const NEAR: usize = 5;
 
 /// The number of the apex among the owners in the index.
-const APEX: usize = 0;
+pub(crate) const APEX: usize = 0;
+
+/// The number of the owner that follows the apex.
+const AFTER_APEX: usize = 1;
+
+/// The octets of the label `*` in a name's wire form.
+const ASTERISK: usize = 2;
 
 /// The records of an owner, in the order of type and RDATA.
 pub fn records_of<'a>(version: &'a Version, name: &Name) -> &'a [Rr]
@@ -40,6 +46,44 @@ pub fn rrset_of<'a>(version: &'a Version, name: &Name, kind: u16) -> &'a [Rr]
     ensures { result.now ≡ of_type kind (records_of version.now.records name.now) }
 {
     counted_rrset::<Brand>(Blank::new(1), version, name, kind)
+}
+
+/// The records of an owner and a type, in the order of RDATA (an RRset, RFC 2181 section 5). A few owners are looked at first:
+/// of an owner with as many octets as the apex the apex alone, else those from the one of a number in the index to the front.
+/// Any number gives the same records; where the owner isn't among those looked at, it is searched once.
+pub fn rrset_near<'a, L: Ledger>(
+    version: &'a Version,
+    owner: &NameRef,
+    kind: u16,
+    number: usize,
+    steps: &mut Steps<L>,
+) -> &'a [Rr]
+    ensures rrset { result.now ≡ of_type kind (records_of version.now.records owner.now) }
+    ensures cost { TakesSearches 1 (length version.now.records) (steps.new - steps.old) }
+    ensures counted { steps.old ≤ steps.new }
+{
+    let first = if owner.wire().len() == version.apex().wire().len() {
+        APEX
+    } else {
+        number
+    };
+    of_type(node_near(version, owner, first, NEAR, steps).records, kind)
+}
+
+/// How many records stand before those of a name, whether it owns any or not. Where the name would stand right before the
+/// owner of a number in the index, or is that owner, no search is made, else one. Any number gives the same place.
+pub fn place_near<L: Ledger>(
+    version: &Version,
+    name: &NameRef,
+    number: usize,
+    steps: &mut Steps<L>,
+) -> usize
+    ensures room { result ≤ length version.now.records }
+    ensures place { IsPlaceOf name.now version.now.records result }
+    ensures cost { TakesSearches 1 (length version.now.records) (steps.new - steps.old) }
+    ensures counted { steps.old ≤ steps.new }
+{
+    node_at_or_of(version, name, number, steps).place
 }
 
 /// The addresses of a name: its A records and its AAAA records, each in the order of RDATA.
@@ -220,13 +264,13 @@ pub(crate) fn node_near<'a, L: Ledger>(
     node_of(version, name, steps)
 }
 
-/// The node of a name, where it stands or would stand behind the records of the first owner, which is the apex; none
-/// where it doesn't. It takes no search.
-fn node_behind_apex<'a>(version: &'a Version, name: &NameRef) -> Option<Node<'a>>
+/// The node of a name, where it stands or would stand right before the records of the owner of a number, or is that owner;
+/// none where it doesn't, and none for the first owner. It takes no search.
+fn node_beside<'a>(version: &'a Version, name: &NameRef, number: usize) -> Option<Node<'a>>
     ensures { IfSome result
         (λ node. IsNodeOf version.now.records name.now node.place node.records.now) }
 {
-    let run = version.index().run_at(1)?;
+    let run = version.index().run_at(number)?;
     let records = version.records();
     if run.begin == 0
         || !records[run.begin - 1]
@@ -247,7 +291,26 @@ fn node_behind_apex<'a>(version: &'a Version, name: &NameRef) -> Option<Node<'a>
     }
 }
 
-/// The node of a wildcard. Where it is the apex's, what stands behind the apex's records is looked at first; then the owners
+/// The node of a name, by what stands beside the owner of a number, or else by one search.
+pub(crate) fn node_at_or_of<'a, L: Ledger>(
+    version: &'a Version,
+    name: &NameRef,
+    number: usize,
+    steps: &mut Steps<L>,
+) -> Node<'a>
+    ensures node { IsNodeOf version.now.records name.now result.place result.records.now }
+    ensures rises { IsStrictlySortedBy record_order version.now.records }
+    ensures cost { TakesSearches 1 (length version.now.records) (steps.new - steps.old) }
+    ensures counted { steps.old ≤ steps.new }
+{
+    version.records();
+    match node_beside(version, name, number) {
+        Some(node) => node,
+        None => node_of(version, name, steps),
+    }
+}
+
+/// The node of a wildcard. Where it is the apex's, what follows the apex's records is looked at first; then the owners
 /// up to a number.
 pub(crate) fn node_of_wildcard<'a, L: Ledger>(
     version: &'a Version,
@@ -261,9 +324,9 @@ pub(crate) fn node_of_wildcard<'a, L: Ledger>(
     ensures counted { steps.old ≤ steps.new }
 {
     version.records();
-    let above = wildcard.label_count().saturating_sub(1);
-    if above == version.apex().label_count() {
-        if let Some(node) = node_behind_apex(version, wildcard) {
+    let above = wildcard.wire().len().saturating_sub(ASTERISK);
+    if above == version.apex().wire().len() {
+        if let Some(node) = node_beside(version, wildcard, AFTER_APEX) {
             return node;
         }
     }

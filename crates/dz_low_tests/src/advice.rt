@@ -2,74 +2,55 @@
 
 use dz_advice::{Advice, Expected, Kept, Key, Place, advise};
 use dz_io::{MemorySource, Source};
-use std::alloc::AllocError;
+use std::alloc::{AllocError, Global};
+use std::process::Abort;
 use std::test::*;
-
-/// A configuration that can't be read, the line to mend, and what was expected there.
-#[derive(Drop)]
-struct Row {
-    text: &'static [u8],
-    line: usize,
-    expected: Expected,
-}
 
 const GOOD: &[u8] =
     b"listen = \"192.0.2.10:53\"\n[[catalog]]\nname = \"cat1.example.\"\npolicy = \"off\"\nprimaries = [\"192.0.2.1\"]\n";
 
+/// Configurations that can't be read, the line to mend of each, and what was expected there.
+const ROWS: &[(&[u8], usize, Expected)] = &[
+    (b"", 1, Expected::Present(Key::Listen)),
+    (
+        b"# a remark\nlisten = \"192.0.2.10:53\"\nx = 1\n",
+        3,
+        Expected::Known(Place::Document),
+    ),
+    (
+        b"listen = \"192.0.2.300:53\"\n[[catalog]]\nname = \"cat1.example.\"\npolicy = \"off\"\nprimaries = [\"192.0.2.1\"]\n",
+        1,
+        Expected::Value(Key::Listen),
+    ),
+    (
+        b"listen = \"192.0.2.10:53\"\n[[catalog]]\nname = \"cat1.example.\"\npolicy = \"maybe\"\nprimaries = [\"192.0.2.1\"]\n",
+        4,
+        Expected::Value(Key::Policy),
+    ),
+    (
+        b"listen = \"192.0.2.10:53\"\n[[catalog]]\nname = \"cat1.example.\"\npolicy = \"off\"\nprimaries = [\n  \"192.0.2.1\",\n  \"192.0.2\",\n]\n",
+        7,
+        Expected::Value(Key::Primaries),
+    ),
+    (
+        b"listen = \"192.0.2.10:53\"\n[[catalog]]\nname = \"cat1.example.\"\nprimaries = [\"192.0.2.1\"]\n",
+        2,
+        Expected::Present(Key::Policy),
+    ),
+    (b"listen = \"192.0.2.10:53\"\n", 1, Expected::Within),
+];
+
+fn expect_advice(rt: &impl Abort, alloc: Global, text: &[u8], line: usize, expected: Expected) {
+    let told = advise(alloc, text);
+    assert_eq!(rt; told, Some(Advice { line, expected }), "{text:?}");
+}
+
 #[test]
-fn a_line_to_mend_is_told_with_what_was_expected(rt: HostRuntime) -> Result<(), AllocError> {
-    let alloc = rt.alloc();
-    let rows = [
-        Row {
-            text: b"",
-            line: 1,
-            expected: Expected::Present(Key::Listen),
-        },
-        Row {
-            text: b"# a remark\nlisten = \"192.0.2.10:53\"\nx = 1\n",
-            line: 3,
-            expected: Expected::Known(Place::Document),
-        },
-        Row {
-            text: b"listen = \"192.0.2.300:53\"\n[[catalog]]\nname = \"cat1.example.\"\npolicy = \"off\"\nprimaries = [\"192.0.2.1\"]\n",
-            line: 1,
-            expected: Expected::Value(Key::Listen),
-        },
-        Row {
-            text: b"listen = \"192.0.2.10:53\"\n[[catalog]]\nname = \"cat1.example.\"\npolicy = \"maybe\"\nprimaries = [\"192.0.2.1\"]\n",
-            line: 4,
-            expected: Expected::Value(Key::Policy),
-        },
-        Row {
-            text: b"listen = \"192.0.2.10:53\"\n[[catalog]]\nname = \"cat1.example.\"\npolicy = \"off\"\nprimaries = [\n  \"192.0.2.1\",\n  \"192.0.2\",\n]\n",
-            line: 7,
-            expected: Expected::Value(Key::Primaries),
-        },
-        Row {
-            text: b"listen = \"192.0.2.10:53\"\n[[catalog]]\nname = \"cat1.example.\"\nprimaries = [\"192.0.2.1\"]\n",
-            line: 2,
-            expected: Expected::Present(Key::Policy),
-        },
-        Row {
-            text: b"listen = \"192.0.2.10:53\"\n",
-            line: 1,
-            expected: Expected::Within,
-        },
-    ];
-    'rows: for row in rows {
-        let told = advise(alloc, row.text);
-        assert_eq!(rt;
-            told,
-            Some(Advice {
-                line: row.line,
-                expected: row.expected
-            }),
-            "{:?}",
-            row.text
-        );
+fn a_line_to_mend_is_told_with_what_was_expected(rt: HostRuntime) {
+    for (text, line, expected) in ROWS {
+        expect_advice(&rt, rt.alloc(), text, *line, *expected);
     }
-    assert_eq!(rt; advise(alloc, GOOD), None);
-    Ok(())
+    assert_eq!(rt; advise(rt.alloc(), GOOD), None);
 }
 
 #[test]

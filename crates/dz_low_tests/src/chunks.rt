@@ -13,9 +13,6 @@ use std::process::Abort;
 use std::sync::ledger::{Blank, Ledger};
 use std::test::*;
 
-/// How many keys a map is given.
-const KEYS: u32 = 1_000;
-
 /// A key whose first octets tell no keys apart.
 #[derive(Clone, Copy, PartialEq, Eq, PartialOrd, Ord)]
 struct Key {
@@ -65,24 +62,6 @@ fn make_pair(number: u32, value: u64) -> Pair {
     }
 }
 
-/// The order in which keys are put and taken out.
-#[derive(Clone, Copy)]
-enum Turns {
-    Ascending,
-    Descending,
-    Mixed,
-}
-
-/// The key that comes at a turn, below 1,000.
-fn key_at(order: Turns, turn: u32) -> u32 {
-    let turn = turn % KEYS;
-    match order {
-        Turns::Ascending => turn,
-        Turns::Descending => KEYS - 1 - turn,
-        Turns::Mixed => (turn * 919 + 7) % KEYS,
-    }
-}
-
 fn expect_entries(rt: &impl Abort, map: &Chunks<Key, Pair>, plain: &[Pair]) {
     assert!(rt;
         map.len() == plain.len(),
@@ -97,56 +76,6 @@ fn expect_entries(rt: &impl Abort, map: &Chunks<Key, Pair>, plain: &[Pair]) {
         assert!(rt; walk.next() == Some(pair), "{} in its place", key.number);
     }
     assert!(rt; walk.next().is_none(), "no more than {} keys", plain.len());
-}
-
-/// Puts the keys one by one and takes them out again, beside a plain sorted list.
-fn put_and_take<L: Ledger>(
-    rt: &impl Abort,
-    alloc: Global,
-    blank: Blank,
-    order: Turns,
-) -> Result<(), AllocError>
-    requires name { blank.name ≡ L.name }
-    requires parts { blank.parts ≡ L.parts }
-    requires whole { blank.parts ≡ 1 }
-{
-    let mut steps = Steps::<L>::new(blank);
-    let mut map = Chunks::empty(alloc);
-    let mut plain: Vec<Pair> = Vec::new(alloc);
-    for turn in 0..KEYS {
-        let key = key_at(order, turn);
-        map = map.with(alloc, make_pair(key, u64::from(turn)), &mut steps)?;
-        let place = plain.partition_point(|entry| entry.key.number < key);
-        plain.insert(place, make_pair(key, u64::from(turn)))?;
-        expect_entries(rt, &map, plain.as_slice());
-    }
-    for turn in 0..KEYS {
-        let key = key_at(order, turn);
-        map = map.without(alloc, &make_key(key), &mut steps)?;
-        plain.retain(|entry| entry.key.number != key);
-        assert!(rt; map.get(&make_key(key)).is_none(), "{key} is gone");
-        expect_entries(rt, &map, plain.as_slice());
-    }
-    assert!(rt; map.len() == 0);
-    Ok(())
-}
-
-#[test]
-fn keys_in_ascending_order_are_put_and_taken_out(rt: HostRuntime) -> Result<(), Fail> {
-    put_and_take::<Brand>(&rt, rt.alloc(), Blank::new(1), Turns::Ascending)?;
-    Ok(())
-}
-
-#[test]
-fn keys_in_descending_order_are_put_and_taken_out(rt: HostRuntime) -> Result<(), Fail> {
-    put_and_take::<Brand>(&rt, rt.alloc(), Blank::new(1), Turns::Descending)?;
-    Ok(())
-}
-
-#[test]
-fn keys_in_mixed_order_are_put_and_taken_out(rt: HostRuntime) -> Result<(), Fail> {
-    put_and_take::<Brand>(&rt, rt.alloc(), Blank::new(1), Turns::Mixed)?;
-    Ok(())
 }
 
 /// A changed map beside the one that it was made from.

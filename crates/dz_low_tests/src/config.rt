@@ -3,7 +3,7 @@
 use crate::parts::{joined, name};
 use dz_config::{ConfigError, ConfigFault, TEXT_OCTETS, read_config};
 use dz_io::Peer;
-use dz_member::{CatalogSettings, Config, Policy};
+use dz_member::{CatalogSettings, Policy};
 use std::alloc::{AllocError, Global};
 use std::process::Abort;
 use std::test::*;
@@ -257,43 +257,33 @@ fn group(alloc: Global, primaries: usize, word: &[u8], more: usize) -> Result<Ve
     Ok(text)
 }
 
+/// A configuration with such a group so many times has this fault.
+fn fails_with(
+    rt: &impl Abort,
+    alloc: Global,
+    group: &[u8],
+    times: usize,
+    fault: ConfigFault,
+) -> Result<(), AllocError> {
+    assert!(rt; 0 < times && times <= 2);
+    let pieces: [&[u8]; 4] = [LISTEN, CATALOG, group, group];
+    fails(rt, alloc, &pieces[..2 + times], fault)
+}
+
 #[test]
 fn limits_are_those_of_configurations(rt: HostRuntime) -> Result<(), Fail> {
     let alloc = rt.alloc();
-    let largest = group(alloc, 8, b"", 255)?;
-    fails(
+    let limit = ConfigFault::OutOfLimits;
+    fails_with(
         &rt,
         alloc,
-        &[LISTEN, CATALOG, largest.as_slice(), largest.as_slice()],
+        &group(alloc, 8, b"", 255)?,
+        2,
         ConfigFault::Twice,
     )?;
-    let primaries = group(alloc, 9, b"", 255)?;
-    fails(
-        &rt,
-        alloc,
-        &[LISTEN, CATALOG, primaries.as_slice()],
-        ConfigFault::OutOfLimits,
-    )?;
-    let long = group(alloc, 8, b"", 256)?;
-    fails(
-        &rt,
-        alloc,
-        &[LISTEN, CATALOG, long.as_slice()],
-        ConfigFault::OutOfLimits,
-    )?;
-    let empty = group(alloc, 8, b"", 0)?;
-    fails(
-        &rt,
-        alloc,
-        &[LISTEN, CATALOG, empty.as_slice()],
-        ConfigFault::OutOfLimits,
-    )?;
-    let blank = group(alloc, 8, b"a b", 0)?;
-    fails(
-        &rt,
-        alloc,
-        &[LISTEN, CATALOG, blank.as_slice()],
-        ConfigFault::OutOfLimits,
-    )?;
+    fails_with(&rt, alloc, &group(alloc, 9, b"", 255)?, 1, limit)?;
+    fails_with(&rt, alloc, &group(alloc, 8, b"", 256)?, 1, limit)?;
+    fails_with(&rt, alloc, &group(alloc, 8, b"", 0)?, 1, limit)?;
+    fails_with(&rt, alloc, &group(alloc, 8, b"a b", 0)?, 1, limit)?;
     Ok(())
 }

@@ -3,10 +3,9 @@
 ghost use Rattle.std.specs.Prelude.{◌≡◌};
 
 use crate::parts::name;
-use dz_index::{Index, OWNERS, SortKey};
+use dz_index::{Index, OWNERS};
 use dz_steps::Steps;
 use std::alloc::{AllocError, Global};
-use std::cmp::Ordering;
 use std::marker::Brand;
 use std::process::Abort;
 use std::sync::ledger::{Blank, Ledger};
@@ -27,20 +26,6 @@ const NAMES: [&[u8]; 12] = [
     b"z.example.",
     b"\\200.z.example.",
 ];
-
-#[test]
-fn keys_stand_in_the_order_of_their_names(rt: HostRuntime) {
-    for (i, text) in NAMES.iter().enumerate() {
-        let key = SortKey::of(&name(&rt, text).as_ref());
-        for (j, other) in NAMES.iter().enumerate() {
-            let expected = i.cmp(&j);
-            let found = key
-                .octets()
-                .cmp(SortKey::of(&name(&rt, other).as_ref()).octets());
-            assert!(rt; found == expected, "{text:?} and {other:?}");
-        }
-    }
-}
 
 /// An index of the names, each of which stands so often.
 fn index(
@@ -86,12 +71,5 @@ fn a_name_is_placed_among_owners_that_repeat(rt: HostRuntime) -> Result<(), Fail
         (b"zz.a.example.", 12),
     ];
     expect_places::<Brand>(&rt, Blank::new(1), &index, &rows);
-    Ok(())
-}
-
-#[test]
-fn no_owner_comes_before_a_name_where_there_is_none(rt: HostRuntime) -> Result<(), Fail> {
-    let index = Index::empty(rt.alloc())?;
-    expect_places::<Brand>(&rt, Blank::new(1), &index, &[(b"example.", 0)]);
     Ok(())
 }

@@ -1,6 +1,5 @@
 //! What many tests make: names, records and pieces put together.
 
-use dz_header::Writer;
 use dz_name::{Name, Octets};
 use dz_record::Rr;
 use std::alloc::{AllocError, Global};
@@ -62,14 +61,3 @@ pub(crate) fn joined(alloc: Global, pieces: &[&[u8]]) -> Result<Vec<u8>, AllocEr
     }
     Ok(octets)
 }
-
-/// Whether a writer has these octets, and all of them had room.
-pub(crate) fn is_written(writer: &Writer, expected: &[u8]) -> bool {
-    !writer.is_over() && writer.written() == expected
-}
-
-/// A type that threads may take.
-pub(crate) fn is_send<T: Send>(_value: &T) {}
-
-/// A type that threads may share.
-pub(crate) fn is_sync<T: Sync>(_value: &T) {}

@@ -7,3 +7,4 @@ pub mod WritingLemmas
 pub mod PlaceLemmas
 pub mod QueryLemmas
 pub mod WrittenLemmas
+pub mod PieceLemmas

@@ -2,6 +2,7 @@ pub mod Examples
 pub mod Fault
 pub mod Frame
 pub mod Message
+pub mod Piece
 pub mod Query
 pub mod Reading
 pub mod Spelling

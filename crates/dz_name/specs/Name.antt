@@ -1,5 +1,5 @@
 -- Meaning: domain names as lists of labels (RFC 1034 section 3.1, RFC 1035 section 3.1).
-use Rattle.std.specs.Prelude.{◌≡◌, ℕ, zero, suc, ◌+◌, ◌<◌, ◌≤◌, nat_lt, Bool, Option, Some, None, List, [], ◌∷◌, ◌++◌, length, take, drop, reverse, map, Result, Ok, Err, if◌then◌else◌}
+use Rattle.std.specs.Prelude.{◌≡◌, ℕ, zero, suc, ◌+◌, ◌<◌, ◌≤◌, nat_lt, nat_le, Bool, Option, Some, None, List, [], ◌∷◌, ◌++◌, length, take, drop, reverse, map, Result, Ok, Err, if◌then◌else◌}
 use Rattle.std.specs.Char.{to_ascii_lowercase}
 use Rattle.std.specs.Cmp.Lexicographic.{slice_cmp}
 use Rattle.std.specs.Ordering.{nat_cmp}
@@ -79,6 +79,10 @@ upward (label ∷ labels) = (label ∷ labels) ∷ upward labels
 -- the wildcard below a name (RFC 4592 section 2.1.1)
 abbrev pub wildcard_of : Name → Name
 wildcard_of name = (42 ∷ []) ∷ name
+
+-- the name of these labels, where its wire form has at most 255 octets (RFC 1035 section 3.1)
+abbrev pub fitting : Name → Option Name
+fitting name = if nat_le (length (wire_of name)) 255 then Some name else None
 
 -- labels in order: as octet strings, where a missing octet sorts first
 abbrev pub label_order : Octets → Octets → Ordering

@@ -53,6 +53,8 @@ pub const TYPE_A6: u16 = 38;
 pub const TYPE_DNAME: u16 = 39;
 /// EDNS (RFC 6891), which is no record of a zone.
 pub const TYPE_OPT: u16 = 41;
+/// The digest of a key of a zone below (RFC 4034 section 5).
+pub const TYPE_DS: u16 = 43;
 /// A signature (RFC 4034 section 3).
 pub const TYPE_RRSIG: u16 = 46;
 /// The next name and the types of a name (RFC 4034 section 4).

@@ -1,7 +1,8 @@
 ghost use Rattle.std.specs.Prelude.{◌≡◌, ℕ, ◌+◌, ◌-◌, ◌<◌, ◌≤◌, ◌↔◌, List, [], ◌∷◌, ◌++◌, length, take, drop, IsTrue};
 ghost use Rattle.dz_name.specs.Name.{lower, wire_of, wildcard_of, IsLabel, IsName, labels_of, IsWire};
-ghost use Rattle.dz_name.specs.Name.{child_of};
+ghost use Rattle.dz_name.specs.Name.{child_of, fitting};
 
+use crate::dns::NAME_OCTETS;
 use crate::label::Label;
 use crate::name_ref::NameRef;
 use crate::text::NameError;
@@ -137,6 +138,27 @@ impl Name {
         } else {
             Err(NameError::NameTooLong)
         }
+    }
+
+    /// So many first labels of the name, followed by the labels of another one, as a DNAME renames (RFC 6672 section 2.2);
+    /// none where its wire form would have more than 255 octets.
+    pub fn in_front(&self, count: usize, above: &NameRef) -> Option<Name>
+        requires { count ≤ length self.now }
+        ensures { result ≡ fitting (take count self.now ++ above.now) }
+    {
+        let wire = self.wire();
+        let size = wire.len() - self.behind(count).len();
+        let rest = above.wire();
+        if NAME_OCTETS < size + rest.len() {
+            return None;
+        }
+        let mut octets = [0; 255];
+        write_at(&mut octets, 0, wire.split_at(size).0);
+        write_at(&mut octets, size, rest);
+        Some(Name {
+            octets,
+            len: (size + rest.len()) as u8,
+        })
     }
 
     /// The wildcard below the name (RFC 4592 section 2.1.1).

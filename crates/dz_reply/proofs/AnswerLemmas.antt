@@ -1,20 +1,20 @@
 -- The octets of a chain's records, piece by piece.
-use Rattle.std.proofs.Common.{◌≡◌, ℕ, ◌+◌, ◌%◌, ◌/◌, ◌<◌, ◌≤◌, List, [], ◌∷◌, ◌++◌, length, drop, get_or, refl, sym, ◌∙◌, ap, arith, append_assoc, Some, None, Bool, false}
+use Rattle.std.proofs.Common.{◌≡◌, ℕ, ◌+◌, ◌%◌, ◌/◌, List, [], ◌∷◌, ◌++◌, length, refl, sym, ◌∙◌, ap, arith, append_assoc, Some, None, Bool, false}
 use Rattle.std.specs.Prelude.{slice_get}
 use Rattle.std.proofs.lemmas.Grind.{flat_map-append}
-use Rattle.std.proofs.lemmas.List.{drop_more, drop_all, length-map, append-nil}
+use Rattle.std.proofs.lemmas.List.{length-map, append-nil}
 use Rattle.dz_name.specs.Numbers.{two}
 use Rattle.dz_record.specs.Record.{Record}
 use Rattle.dz_zone.specs.Version.{Zone, apex_soa}
 use Rattle.dz_lookup.specs.Found.{Found}
-use Rattle.dz_lookup.specs.Chain.{Aliases, ended, stopped, chain_of}
+use Rattle.dz_lookup.specs.Chain.{Trail, ended, stopped, too_long, chain_of}
 use Rattle.dz_header.specs.Edns.{opt_count, opt_octets}
 use Rattle.dz_header.specs.Header.{header_octets}
 use Rattle.dz_request.specs.Frame.{Query, limit_of, head_octets, within_limit, bare_octets}
 use Rattle.dz_reply.specs.Layout.{entry_octets, entries_octets}
 use Rattle.dz_reply.specs.Layout.{entries, entry}
 use Rattle.dz_header.specs.Writing.{writing_of}
-use Rattle.dz_reply.specs.Answer.{Sections, bare, whole_octets, octets_of, negative_ttl, alias_entries, own_entries, soa_under, soa_entries, only_aliases, at_end, of_ending, of_chain, sections_of}
+use Rattle.dz_reply.specs.Answer.{Sections, bare, whole_octets, octets_of, negative_ttl, own_entries, soa_under, soa_entries, only_trail, with_renamer, at_end, of_ending, of_chain, sections_of}
 use Rattle.dz_header.specs.Writing.{Writing, also, empty}
 use Rattle.dz_header.proofs.WriterLemmas.{also_append, also_nil}
 
@@ -32,28 +32,6 @@ none_written q w = sym (also_nil w)
 pub one_written : (q : List (List ℕ)) (r : Record) (w w1 : Writing) → w1 ≡ also w (entry_octets q r) → w1 ≡ also w (entries_octets q (r ∷ []))
 unfolding entries_octets
 one_written q r w w1 e = e ∙ ap (λ x. also w x) (sym (append-nil (entry_octets q r)))
-
--- aliases
-pub alias_written : (q : List (List ℕ)) (chain : Aliases) (k : ℕ) (start w w1 : Writing) (name : List (List ℕ)) (r : Record) → k < length chain
-    → ((d : List (List ℕ) × Record) → name ≡ (get_or chain k d).0) → ((d : List (List ℕ) × Record) → r ≡ (get_or chain k d).1) → w1 ≡ also w (entry_octets q (entry name r.ttl r))
-    → also w (entries_octets q (alias_entries (drop k chain))) ≡ also start (entries_octets q (alias_entries chain)) → also w1 (entries_octets q (alias_entries (drop (k + 1) chain))) ≡ also start (entries_octets q (alias_entries chain))
-unfolding entries_octets alias_entries
-alias_written q chain k start w w1 name r lt names records is so_far =
-    let d : List (List ℕ) × Record = (name, r) in
-    let e : drop k chain ≡ (name, r) ∷ drop (k + 1) chain =
-    drop_more chain k d lt ∙ ap (λ a. a ∷ drop (k + 1) chain) (λ i. (sym (names d) i, sym (records d) i)) in
-    let more = entries_octets q (alias_entries (drop (k + 1) chain)) in
-    let f : also w (entry_octets q (entry name r.ttl r) ++ more) ≡ also start (entries_octets q (alias_entries chain)) = rw e at so_far in
-    ap (λ x. also x more) is ∙ sym (also_append w (entry_octets q (entry name r.ttl r)) more) ∙ f
-
-pub aliases_written : (q : List (List ℕ)) (chain : Aliases) (k : ℕ) (start w : Writing) → length chain ≤ k
-    → also w (entries_octets q (alias_entries (drop k chain))) ≡ also start (entries_octets q (alias_entries chain)) → w ≡ also start (entries_octets q (alias_entries chain))
-unfolding entries_octets alias_entries
-aliases_written q chain k start w le so_far = sym (also_nil w) ∙ (rw (drop_all k chain le) at so_far)
-
-pub length-alias_entries : (chain : Aliases) → length (alias_entries chain) ≡ length chain
-unfolding alias_entries
-length-alias_entries chain = length-map chain (λ a. entry a.0 a.1.ttl a.1)
 
 pub length-entries : (name : List (List ℕ)) (rs : List Record) → length (entries name rs) ≡ length rs
 unfolding entries
@@ -146,12 +124,17 @@ bare_so tcp query code w is =
     is ∙ ap (λ n. writing_of (limit_of tcp query.edns) (within_limit tcp query code false (head_octets query code false false 0 0 n ++ opt_octets code query.edns))) (sym zero)
 
 -- what a chain ends with decides the sections
-pub zone_stopped : (zone : Zone) (name : List (List ℕ)) (kind : ℕ) (chain : Aliases) → chain ≡ (chain_of zone.apex zone.records name kind).aliases → stopped ≡ (chain_of zone.apex zone.records name kind).ending
-    → only_aliases chain ≡ sections_of zone name kind
+pub zone_stopped : (zone : Zone) (name : List (List ℕ)) (kind : ℕ) (chain : Trail) → chain ≡ (chain_of zone.apex zone.records name kind).trail → stopped ≡ (chain_of zone.apex zone.records name kind).ending
+    → only_trail chain ≡ sections_of zone name kind
 unfolding sections_of of_chain of_ending
-zone_stopped zone name kind chain e f = ap (λ a. of_ending zone a stopped) e ∙ ap (λ x. of_ending zone (chain_of zone.apex zone.records name kind).aliases x) f
+zone_stopped zone name kind chain e f = ap (λ a. of_ending zone a stopped) e ∙ ap (λ x. of_ending zone (chain_of zone.apex zone.records name kind).trail x) f
 
-pub zone_ended : (zone : Zone) (name : List (List ℕ)) (kind : ℕ) (chain : Aliases) (found : Found) (last : List (List ℕ)) → chain ≡ (chain_of zone.apex zone.records name kind).aliases
+pub zone_too_long : (zone : Zone) (name : List (List ℕ)) (kind : ℕ) (chain : Trail) (r : Record) → chain ≡ (chain_of zone.apex zone.records name kind).trail → too_long r ≡ (chain_of zone.apex zone.records name kind).ending
+    → with_renamer chain r ≡ sections_of zone name kind
+unfolding sections_of of_chain of_ending
+zone_too_long zone name kind chain r e f = ap (λ a. of_ending zone a (too_long r)) e ∙ ap (λ x. of_ending zone (chain_of zone.apex zone.records name kind).trail x) f
+
+pub zone_ended : (zone : Zone) (name : List (List ℕ)) (kind : ℕ) (chain : Trail) (found : Found) (last : List (List ℕ)) → chain ≡ (chain_of zone.apex zone.records name kind).trail
     → ended found last ≡ (chain_of zone.apex zone.records name kind).ending → at_end zone chain found last ≡ sections_of zone name kind
 unfolding sections_of of_chain of_ending
-zone_ended zone name kind chain found last e f = ap (λ a. of_ending zone a (ended found last)) e ∙ ap (λ x. of_ending zone (chain_of zone.apex zone.records name kind).aliases x) f
+zone_ended zone name kind chain found last e f = ap (λ a. of_ending zone a (ended found last)) e ∙ ap (λ x. of_ending zone (chain_of zone.apex zone.records name kind).trail x) f

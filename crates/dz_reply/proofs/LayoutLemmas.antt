@@ -1,9 +1,10 @@
 -- The pieces of a reply, one behind another.
-use Rattle.std.proofs.Common.{◌≡◌, ℕ, ◌+◌, ◌<◌, ◌≤◌, List, [], ◌∷◌, ◌++◌, length, drop, refl, sym, ◌∙◌, ap, arith, append_assoc, Option, Some, None, get_or}
+use Rattle.std.proofs.Common.{◌≡◌, ℕ, zero, suc, ◌+◌, ◌-◌, ◌<◌, ◌≤◌, List, [], ◌∷◌, ◌++◌, length, take, drop, refl, sym, ◌∙◌, ap, arith, length-append, append_assoc, Option, Some, None, get_or}
+use Rattle.std.specs.Option.{option_map_or}
 use Rattle.std.specs.Prelude.{true, false, ◌==◌, ◌≢◌, not, is_some}
 use Rattle.std.specs.List.{flat_map}
-use Rattle.std.proofs.lemmas.List.{drop_more, drop_all, length-drop}
-use Rattle.dz_name.specs.Name.{is_within}
+use Rattle.std.proofs.lemmas.List.{drop_more, drop_all, length-drop, append-nil, take-append-le, take_all}
+use Rattle.dz_name.specs.Name.{is_within, wire_of}
 use Rattle.dz_name.specs.Numbers.{two, four}
 use Rattle.dz_record.specs.Record.{Record}
 use Rattle.dz_reply.specs.Layout.{owner_octets, pointer_to, entry_octets, entries_octets}
@@ -11,6 +12,8 @@ use Rattle.std.proofs.lemmas.List.Folds.{flat_map-map}
 use Rattle.dz_reply.specs.Layout.{entries, entry, entry_ttl, least_ttl}
 use Rattle.std.proofs.lemmas.Bool.Decides.{nat_tests}
 use Rattle.dz_header.specs.Writing.{Writing, also}
+use Rattle.dz_reply.specs.declared.layout.Shown.{Shown}
+use Rattle.dz_reply.specs.inner.Owner.{owner_shown}
 use Rattle.dz_header.proofs.WriterLemmas.{also_append, also_nil, also_over}
 
 pointed : (question labels : List (List ℕ)) → 0 < length labels → is_within question labels ≡ true → owner_octets question labels ≡ pointer_to question labels
@@ -26,29 +29,67 @@ spelled question owner k some h =
     let f = rw e at h in
     rw (e, f) refl
 
-pub owner_pointer : (w w' w'' : Writing) (question owner : List (List ℕ)) (k : ℕ) → k < length owner → is_within question (drop k owner) ≡ true
-    → also w' (owner_octets question (drop k owner)) ≡ also w (owner_octets question owner) → w'' ≡ also w' (pointer_to question (drop k owner))
-    → w'' ≡ also w (owner_octets question owner)
-owner_pointer w w' w'' question owner k some h before is =
-    let e = pointed question (drop k owner) (omega (arith, length-drop {A = List ℕ})) h in
-    is ∙ (ap (also w') (sym e) ∙ before)
+-- the first labels in the wire form
+abbrev pub heads : ℕ → List (List ℕ) → List ℕ
+heads zero o = []
+heads (suc k) [] = []
+heads (suc k) (l ∷ ls) = length l ∷ (l ++ heads k ls)
 
-pub owner_label : (w w' w'' : Writing) (question owner : List (List ℕ)) (k : ℕ) → k < length owner → is_within question (drop k owner) ≡ false
-    → also w' (owner_octets question (drop k owner)) ≡ also w (owner_octets question owner)
-    → w'' ≡ also w' (length (get_or owner k []) ∷ get_or owner k [])
-    → also w'' (owner_octets question (drop (k + 1) owner)) ≡ also w (owner_octets question owner)
-owner_label w w' w'' question owner k some h before is =
-    let e = spelled question owner k some h in
-    let f = also_append w' (length (get_or owner k []) ∷ get_or owner k []) (owner_octets question (drop (k + 1) owner)) in
-    rw is (sym f ∙ (ap (also w') (sym e) ∙ before))
+heads_wire : (k : ℕ) (o : List (List ℕ)) → heads k o ++ wire_of (drop k o) ≡ wire_of o
+unfolding wire_of
+heads_wire zero o = refl
+heads_wire (suc k) [] = refl
+heads_wire (suc k) (l ∷ ls) = ap (λ xs. length l ∷ xs) (append_assoc l (heads k ls) (wire_of (drop k ls)) ∙ ap (λ xs. l ++ xs) (heads_wire k ls))
 
-pub owner_root : (w w' w'' : Writing) (question owner : List (List ℕ)) (k : ℕ) → length owner ≤ k
-    → also w' (owner_octets question (drop k owner)) ≡ also w (owner_octets question owner) → w'' ≡ also w' (0 ∷ [])
-    → w'' ≡ also w (owner_octets question owner)
-unfolding owner_octets
-owner_root w w' w'' question owner k all before is =
-    let e = drop_all k owner all in
-    is ∙ rw e at before
+heads_more : (k : ℕ) (o : List (List ℕ)) → k < length o → heads (suc k) o ≡ heads k o ++ (length (get_or o k []) ∷ get_or o k [])
+heads_more k [] few = absurd (omega arith)
+heads_more zero (l ∷ ls) few = ap (λ xs. length l ∷ xs) (append-nil l)
+heads_more (suc k) (l ∷ ls) few =
+    ap (λ xs. length l ∷ xs) (ap (λ xs. l ++ xs) (heads_more k ls (omega arith)) ∙ sym (append_assoc l (heads k ls) (length (get_or ls k []) ∷ get_or ls k [])))
+
+heads_taken : (k : ℕ) (o : List (List ℕ)) → take (length (wire_of o) - length (wire_of (drop k o))) (wire_of o) ≡ heads k o
+heads_taken k o =
+    let e : wire_of o ≡ heads k o ++ wire_of (drop k o) = sym (heads_wire k o) in
+    let f : length (wire_of o) - length (wire_of (drop k o)) ≡ length (heads k o) = omega (arith, ap length e, length-append (heads k o) (wire_of (drop k o))) in
+    (λ i. take (f i) (e i)) ∙ (take-append-le (length (heads k o)) (heads k o) (wire_of (drop k o)) (omega arith) ∙ take_all (length (heads k o)) (heads k o) (omega arith))
+
+pub owner_pointed : (question owner : List (List ℕ)) (k : ℕ) (wire behind : List ℕ) (size pointer : ℕ) → k < length owner → is_within question (drop k owner) ≡ true
+    → heads k owner ++ owner_octets question (drop k owner) ≡ owner_octets question owner → wire ≡ wire_of owner → behind ≡ wire_of (drop k owner)
+    → size ≡ length wire - length behind → two pointer ≡ pointer_to question (drop k owner) → take size wire ++ two pointer ≡ owner_octets question owner
+owner_pointed question owner k wire behind size pointer some h so_far wire_is behind_is size_is pointer_is =
+    let e : size ≡ length (wire_of owner) - length (wire_of (drop k owner)) = size_is ∙ (λ i. length (wire_is i) - length (behind_is i)) in
+    let f : take size wire ≡ heads k owner = (λ i. take (e i) (wire_is i)) ∙ heads_taken k owner in
+    (λ i. f i ++ pointer_is i) ∙ (ap (λ xs. heads k owner ++ xs) (sym (pointed question (drop k owner) (omega (arith, length-drop {A = List ℕ})) h)) ∙ so_far)
+
+pub owner_further : (question owner : List (List ℕ)) (k : ℕ) → k < length owner → is_within question (drop k owner) ≡ false
+    → heads k owner ++ owner_octets question (drop k owner) ≡ owner_octets question owner → heads (k + 1) owner ++ owner_octets question (drop (k + 1) owner) ≡ owner_octets question owner
+owner_further question owner k some h so_far =
+    let piece : List ℕ = length (get_or owner k []) ∷ get_or owner k [] in
+    let one : k + 1 ≡ suc k = omega arith in
+    ap (λ xs. xs ++ owner_octets question (drop (k + 1) owner)) (ap (λ n. heads n owner) one ∙ heads_more k owner some)
+    ∙ (append_assoc (heads k owner) piece (owner_octets question (drop (k + 1) owner)) ∙ (ap (λ xs. heads k owner ++ xs) (sym (spelled question owner k some h)) ∙ so_far))
+
+none_left_of : (question : List (List ℕ)) → owner_octets question [] ≡ wire_of []
+unfolding owner_octets wire_of
+none_left_of question = refl
+
+pub owner_whole : (question owner : List (List ℕ)) (k : ℕ) (wire : List ℕ) → length owner ≤ k
+    → heads k owner ++ owner_octets question (drop k owner) ≡ owner_octets question owner → wire ≡ wire_of owner → wire ++ [] ≡ owner_octets question owner
+owner_whole question owner k wire all so_far is =
+    let e : drop k owner ≡ [] = drop_all k owner all in
+    let f : owner_octets question (drop k owner) ≡ wire_of (drop k owner) = ap (owner_octets question) e ∙ (none_left_of question ∙ ap wire_of (sym e)) in
+    append-nil wire ∙ (is ∙ (sym (heads_wire k owner) ∙ (ap (λ xs. heads k owner ++ xs) (sym f) ∙ so_far)))
+
+pub front_none : (w : Writing) (xs : List ℕ) → length xs ≡ 0 → w ≡ also w xs
+front_none w [] e = sym (also_nil w)
+front_none w (x ∷ xs) e = absurd (omega (arith, e))
+
+pub shown_whole : (s : Shown) (w w1 : Writing) → s.pointer ≡ None → w1 ≡ also w s.front.now → w1 ≡ also w (owner_shown s)
+shown_whole s w w1 is e = e ∙ ap (also w) (sym (append-nil s.front.now) ∙ ap (λ p. s.front.now ++ option_map_or (λ n. two n) p []) (sym is))
+
+pub shown_pointed : (s : Shown) (pointer : ℕ) (w w1 w2 : Writing) → s.pointer ≡ Some pointer → w1 ≡ also w s.front.now → w2 ≡ also w1 (two pointer) → w2 ≡ also w (owner_shown s)
+shown_pointed s pointer w w1 w2 is e f =
+    f ∙ (ap (λ x. also x (two pointer)) e ∙ (sym (also_append w s.front.now (two pointer)) ∙ ap (λ p. also w (s.front.now ++ option_map_or (λ n. two n) p [])) (sym is)))
 
 -- records, of which the first are written
 pub also_more : (w w' w'' : Writing) (octets : Record → List ℕ) (rs : List Record) (i : ℕ) (r : Record) → i < length rs → r ≡ get_or rs i r

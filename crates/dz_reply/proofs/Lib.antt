@@ -5,5 +5,12 @@ pub mod ReadBackNames
 pub mod ReadBackRecords
 pub mod ReadBackReplies
 pub mod ReadBackSections
+pub mod ReadBackSecure
 pub mod ReadBack
 pub mod GlueLemmas
+pub mod TrailLemmas
+pub mod SecureLemmas
+pub mod SignedLemmas
+pub mod AuthorityLemmas
+pub mod EvidenceLemmas
+pub mod UnsignedLemmas

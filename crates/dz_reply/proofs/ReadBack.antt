@@ -10,7 +10,8 @@ use Rattle.dz_name.proofs.KeptLemmas.{lower_label}
 use Rattle.dz_header.specs.declared.question.Question.{Question}
 use Rattle.dz_zone.specs.Version.{Zone}
 use Rattle.dz_table.specs.Slot.{SlotOf, is_live}
-use Rattle.dz_table.specs.Table.{closest}
+use Rattle.dz_table.specs.Table.{closest_for}
+use Rattle.dz_reply.specs.Secure.{asks_dnssec}
 use Rattle.dz_header.specs.Code.{number_of}
 use Rattle.dz_header.specs.Header.{header_in}
 use Rattle.dz_header.specs.declared.header.Header.{Header}
@@ -30,7 +31,8 @@ use Rattle.dz_request.specs.declared.request.Request.TheVariants.{Silent, Curt, 
 use Rattle.dz_reply.specs.ReadsBack.{ReadsBack, ReadsBackFor, SpellsReply, SpellsCurt}
 use Rattle.dz_reply.specs.inner.AnswersHeld.{AnswersHeld, AnswersHeldFor}
 use Rattle.dz_reply.proofs.ReadBackReplies.{AreHeld, reply_spells, curt_spells}
-use Rattle.dz_reply.proofs.ReadBackSections.{each_held, sections_held}
+use Rattle.dz_reply.proofs.ReadBackSections.{each_held}
+use Rattle.dz_reply.proofs.ReadBackSecure.{for_held}
 
 -- a number of two octets has 16 bits
 number_small : (octets : List ℕ) → ((i : ℕ) → get_or octets i 0 < 256) → number_of_two octets < 2 ^ 16
@@ -51,15 +53,15 @@ none_held : (code : ℕ) → AreHeld (bare code)
 none_held code = record { answer = tt; authority = tt; additional = tt }
 
 -- what answers shows records that are records
-version_held : (version : Option Zone) (name : List (List ℕ)) (kind : ℕ) → ((v : Zone) → version ≡ Some v → All IsRecord v.records) → IsName name → AreHeld (at_version version name kind)
-version_held None name kind held is = none_held 2
-version_held (Some zone) name kind held is = sections_held zone name kind (each_held zone.records (held zone refl)) is
+version_held : (dnssec : Bool) (version : Option Zone) (name : List (List ℕ)) (kind : ℕ) → ((v : Zone) → version ≡ Some v → All IsRecord v.records) → IsName name → AreHeld (at_version dnssec version name kind)
+version_held dnssec None name kind held is = none_held 2
+version_held dnssec (Some zone) name kind held is = for_held dnssec zone name kind (each_held zone.records (held zone refl)) is
 
 -- the same of the zone that answers at a moment
-slot_held : (slot : Option SlotOf) (moment : ℕ) (name : List (List ℕ)) (kind : ℕ) → AnswersHeld slot moment → IsName name → AreHeld (at_slot slot moment name kind)
-slot_held None moment name kind held is = none_held 5
-slot_held (Some slot) moment name kind held is = elim (cases_Bool (is_live slot moment)) [
-  | inl t ↦ rw t (version_held slot.version name kind (held t) is)
+slot_held : (dnssec : Bool) (slot : Option SlotOf) (moment : ℕ) (name : List (List ℕ)) (kind : ℕ) → AnswersHeld slot moment → IsName name → AreHeld (at_slot dnssec slot moment name kind)
+slot_held dnssec None moment name kind held is = none_held 5
+slot_held dnssec (Some slot) moment name kind held is = elim (cases_Bool (is_live slot moment)) [
+  | inl t ↦ rw t (version_held dnssec slot.version name kind (held t) is)
   | inr f ↦ rw f (none_held 2)
 ]
 
@@ -88,8 +90,8 @@ reads_back_for slots octets moment tcp (NotImp asked) text small echo held is =
 reads_back_for slots octets moment tcp (Notify asked) text small echo held is = tt
 reads_back_for slots octets moment tcp (Asks asked) text small echo held is =
     let name : List (List ℕ) = asked.question.name in
-    let s : Sections = at_slot (closest slots name) moment name asked.question.kind in
-    let are : AreHeld s = slot_held (closest slots name) moment name asked.question.kind held (echo_name (take asked.size (drop 12 octets)) asked.question echo.echo) in
+    let s : Sections = at_slot (asks_dnssec asked.edns) (closest_for slots name asked.question.kind) moment name asked.question.kind in
+    let are : AreHeld s = slot_held (asks_dnssec asked.edns) (closest_for slots name asked.question.kind) moment name asked.question.kind held (echo_name (take asked.size (drop 12 octets)) asked.question echo.echo) in
     subst (λ m. SpellsReply tcp (query_of octets asked) asked.question s m) (text_is _ text is) (reply_spells tcp (query_of octets asked) asked.question s (id_small octets asked.header small echo.header) echo.echo refl are)
 
 -- what was written is the reply

@@ -1,22 +1,22 @@
--- Meaning: what a reply says of a question (RFC 1034 section 4.3.2, RFC 2308 sections 2 and 3, RFC 6604 section 3), and its
--- octets.
-use Rattle.std.specs.Prelude.{◌≡◌, ℕ, ◌+◌, Bool, true, false, ◌==◌, min, not, List, [], ◌∷◌, ◌++◌, map, length, Option, Some, None, if◌then◌else◌}
-use Rattle.std.specs.List.{flat_map}
+-- Meaning: what a reply says of a question (RFC 1034 section 4.3.2, RFC 2308 sections 2 and 3, RFC 6604 section 3, RFC 6672
+-- section 3), and its octets.
+use Rattle.std.specs.Prelude.{◌≡◌, ℕ, ◌+◌, Bool, true, false, ◌==◌, min, not, List, [], ◌∷◌, ◌++◌, length, Option, Some, None, if◌then◌else◌}
+use Rattle.std.specs.List.{flat_map, list_any}
 use Rattle.std.specs.Option.{option_map_or}
 use Rattle.dz_name.specs.Words.{Name, Octets, Kind}
-use Rattle.dz_name.specs.Name.{is_within}
-use Rattle.dz_name.specs.declared.dns.TheConstants.{TYPE_A, TYPE_AAAA}
+use Rattle.dz_name.specs.Name.{is_within, wire_of}
+use Rattle.dz_name.specs.declared.dns.TheConstants.{TYPE_A, TYPE_AAAA, TYPE_CNAME, TYPE_DNAME}
 use Rattle.dz_header.specs.Code.{number_of}
 use Rattle.dz_header.specs.Edns.{opt_count, opt_octets}
 use Rattle.dz_header.specs.Writing.{Writing, writing_of}
-use Rattle.dz_header.specs.declared.code.ResponseCode.TheVariants.{NoError, NxDomain}
-use Rattle.dz_record.specs.Record.{Record, soa_of, target_of}
+use Rattle.dz_header.specs.declared.code.ResponseCode.TheVariants.{NoError, NxDomain, YxDomain}
+use Rattle.dz_record.specs.Record.{Record, soa_of, target_of, same_record}
 use Rattle.dz_request.specs.Frame.{Query, is_tcp, query_of, limit_of, head_octets, within_limit}
 use Rattle.dz_request.specs.declared.frame.Frame.{Frame}
 use Rattle.dz_zone.specs.Version.{Zone, apex_soa}
 use Rattle.dz_lookup.specs.Runs.{of_type, records_of}
-use Rattle.dz_lookup.specs.Found.{Found, here, alias, no_data, no_name, referral}
-use Rattle.dz_lookup.specs.Chain.{Aliases, Chased, Ending, ended, stopped, chain_of}
+use Rattle.dz_lookup.specs.Found.{Found, here, alias, no_data, no_name, referral, rename}
+use Rattle.dz_lookup.specs.Chain.{Trail, Chased, Ending, ended, stopped, too_long, led_to, chain_of}
 use Rattle.dz_reply.specs.Layout.{entries_octets, entry, entries}
 
 -- what a reply says: response code, AA, and the records of its three sections
@@ -31,9 +31,29 @@ pub record Sections : Type 0 where
 abbrev pub bare : ℕ → Sections
 bare code = record { code = code; authoritative = false; answer = []; authority = []; additional = [] }
 
--- each CNAME record of a chain under the name that was looked up
-unfoldable pub alias_entries : Aliases → List Record
-alias_entries aliases = map (λ a. entry a.0 a.1.ttl a.1) aliases
+-- the CNAME that is made of a DNAME leads from a name to the name that the DNAME gives it, and has its TTL (RFC 6672
+-- section 3.1)
+abbrev pub cname_to : Name → ℕ → Option Name → Record
+cname_to name ttl target = record { owner = name; kind = TYPE_CNAME; ttl = ttl; rdata = wire_of (option_map_or (λ n. n) target []) }
+
+-- a DNAME stands in an answer once, under the name of its owner
+abbrev pub dname_entries : Trail → Record → List Record
+dname_entries before r = if list_any (λ a. same_record a.1 r) before then [] else entry r.owner r.ttl r ∷ []
+
+-- what a step of a chain shows behind those before it: a CNAME under the name that was looked up, or a DNAME and the CNAME
+-- that is made of it
+unfoldable pub step_entries : Trail → Name × Record → List Record
+step_entries before a =
+    if a.1.kind == TYPE_DNAME then dname_entries before a.1 ++ cname_to a.0 a.1.ttl (led_to a.0 a.1) ∷ []
+    else entry a.0 a.1.ttl a.1 ∷ []
+
+unfoldable pub entries_behind : Trail → Trail → List Record
+entries_behind before [] = []
+entries_behind before (a ∷ rest) = step_entries before a ++ entries_behind (before ++ a ∷ []) rest
+
+-- what a chain shows
+unfoldable pub trail_entries : Trail → List Record
+trail_entries trail = entries_behind [] trail
 
 -- an RRset under the name of its owner
 unfoldable pub own_entries : List Record → List Record
@@ -68,43 +88,50 @@ glue_of zone server = addresses_of zone (inner_target zone server)
 unfoldable pub glue : Zone → List Record → List Record
 glue zone servers = flat_map (glue_of zone) servers
 
--- a chain's aliases, and what its end adds
-abbrev pub only_aliases : Aliases → Sections
-only_aliases aliases =
-    record { code = number_of NoError; authoritative = true; answer = alias_entries aliases; authority = []; additional = [] }
+-- a chain's records, and what its end adds
+abbrev pub only_trail : Trail → Sections
+only_trail trail =
+    record { code = number_of NoError; authoritative = true; answer = trail_entries trail; authority = []; additional = [] }
 
-abbrev pub with_records : Aliases → Name → List Record → Sections
-with_records aliases name rs =
-    record { code = number_of NoError; authoritative = true; answer = alias_entries aliases ++ entries name rs; authority = []; additional = [] }
+-- a DNAME gives the last name one that has more than 255 octets: YXDOMAIN (RFC 6672 section 3.2)
+abbrev pub with_renamer : Trail → Record → Sections
+with_renamer trail r =
+    record { code = number_of YxDomain; authoritative = true; answer = trail_entries trail ++ dname_entries trail r; authority = []; additional = [] }
 
-abbrev pub with_soa : Zone → Aliases → ℕ → Sections
-with_soa zone aliases code =
-    record { code = code; authoritative = true; answer = alias_entries aliases; authority = soa_entries zone; additional = [] }
+abbrev pub with_records : Trail → Name → List Record → Sections
+with_records trail name rs =
+    record { code = number_of NoError; authoritative = true; answer = trail_entries trail ++ entries name rs; authority = []; additional = [] }
 
--- a referral is authoritative where an alias led to it, since its answer section isn't empty then
-abbrev pub with_servers : Zone → Aliases → List Record → Sections
-with_servers zone aliases servers = record {
+abbrev pub with_soa : Zone → Trail → ℕ → Sections
+with_soa zone trail code =
+    record { code = code; authoritative = true; answer = trail_entries trail; authority = soa_entries zone; additional = [] }
+
+-- a referral is authoritative where a chain led to it, since its answer section isn't empty then
+abbrev pub with_servers : Zone → Trail → List Record → Sections
+with_servers zone trail servers = record {
   code = number_of NoError;
-  authoritative = not (length aliases == 0);
-  answer = alias_entries aliases;
+  authoritative = not (length trail == 0);
+  answer = trail_entries trail;
   authority = own_entries servers;
   additional = glue zone servers;
 }
 
 -- the code is that of the last name
-unfoldable pub at_end : Zone → Aliases → Found → Name → Sections
-at_end zone aliases (here rs) name = with_records aliases name rs
-at_end zone aliases no_data name = with_soa zone aliases (number_of NoError)
-at_end zone aliases no_name name = with_soa zone aliases (number_of NxDomain)
-at_end zone aliases (referral servers) name = with_servers zone aliases servers
-at_end zone aliases (alias r) name = only_aliases aliases
+unfoldable pub at_end : Zone → Trail → Found → Name → Sections
+at_end zone trail (here rs) name = with_records trail name rs
+at_end zone trail no_data name = with_soa zone trail (number_of NoError)
+at_end zone trail no_name name = with_soa zone trail (number_of NxDomain)
+at_end zone trail (referral servers) name = with_servers zone trail servers
+at_end zone trail (alias r) name = only_trail trail
+at_end zone trail (rename r) name = only_trail trail
 
-unfoldable pub of_ending : Zone → Aliases → Ending → Sections
-of_ending zone aliases (ended found name) = at_end zone aliases found name
-of_ending zone aliases stopped = only_aliases aliases
+unfoldable pub of_ending : Zone → Trail → Ending → Sections
+of_ending zone trail (ended found name) = at_end zone trail found name
+of_ending zone trail stopped = only_trail trail
+of_ending zone trail (too_long r) = with_renamer trail r
 
 unfoldable pub of_chain : Zone → Chased → Sections
-of_chain zone chased = of_ending zone chased.aliases chased.ending
+of_chain zone chased = of_ending zone chased.trail chased.ending
 
 -- the answer of a zone to a name and a type
 unfoldable pub sections_of : Zone → Name → Kind → Sections

@@ -7,7 +7,7 @@ use Rattle.dz_name.specs.Words.{Name, Octets, Kind}
 use Rattle.dz_name.specs.Name.{wire_of, upward, labels_in}
 use Rattle.dz_name.specs.Numbers.{two, four, number_of_two, number_of_four}
 use Rattle.dz_name.specs.Reading.{name_at, name_from, element_at}
-use Rattle.dz_name.specs.declared.dns.TheConstants.{TYPE_A, TYPE_AAAA, TYPE_CNAME, TYPE_NS, TYPE_SOA}
+use Rattle.dz_name.specs.declared.dns.TheConstants.{TYPE_A, TYPE_AAAA, TYPE_CNAME, TYPE_DNAME, TYPE_NS, TYPE_SOA}
 use Rattle.dz_record.specs.Record.{Record}
 use Rattle.dz_record.specs.Records.{in_order, insertion}
 use Rattle.dz_header.specs.Edns.{edns_of, opt_octets}
@@ -17,13 +17,14 @@ use Rattle.dz_header.specs.Question.{question_at}
 use Rattle.dz_header.specs.RecordHead.{head_in}
 use Rattle.dz_header.specs.Shape.{behind_owner, behind_head, shape_of, behind_records}
 use Rattle.dz_table.specs.Slot.{SlotOf}
-use Rattle.dz_table.specs.Table.{first_held, closest}
+use Rattle.dz_table.specs.Table.{first_held, closest, closest_for}
+use Rattle.dz_reply.specs.Secure.{sections_for}
 use Rattle.dz_lookup.specs.Found.{found, topmost}
 use Rattle.dz_lookup.specs.Chain.{chain_of, chain_from}
 use Rattle.dz_request.specs.Frame.{head_octets, cut_octets, within_limit, curt_octets}
 use Rattle.dz_request.specs.Request.{add_shape, opt_in, asked_in, asked_for, question_in, with_header, request}
 use Rattle.dz_reply.specs.Layout.{owner_octets, entry_octets, entries_octets, entries, entry}
-use Rattle.dz_reply.specs.Answer.{whole_octets, octets_of, alias_entries, own_entries, soa_entries, addresses_of, glue_of, glue, at_end, of_ending, of_chain, sections_of}
+use Rattle.dz_reply.specs.Answer.{whole_octets, octets_of, step_entries, entries_behind, trail_entries, own_entries, soa_entries, addresses_of, glue_of, glue, at_end, of_ending, of_chain, sections_of}
 use Rattle.dz_reply.specs.Reply.{Reply, nothing, written, reply_for, reply_of}
 
 -- the number of a hexadecimal digit, whose letters are in lower case
@@ -140,7 +141,7 @@ served =
 
 -- the reply at a moment, and under this one name all that computes it: whoever unfolds `computed` unfolds its whole list
 computed : Octets → ℕ → Bool → Reply
-unfolding reply_of reply_for request with_header asked_for asked_in question_in question_at name_at name_from element_at wire_of labels_in opt_in add_shape edns_of header_in behind_records shape_of behind_owner behind_head head_in number_of_two number_of_four two four closest first_held upward sections_of of_chain of_ending at_end alias_entries own_entries soa_entries addresses_of glue_of glue entries entry chain_of chain_from found topmost in_order insertion owner_octets entry_octets entries_octets opt_octets head_octets header_octets flags_number curt_octets whole_octets cut_octets octets_of within_limit
+unfolding reply_of reply_for sections_for closest_for request with_header asked_for asked_in question_in question_at name_at name_from element_at wire_of labels_in opt_in add_shape edns_of header_in behind_records shape_of behind_owner behind_head head_in number_of_two number_of_four two four closest first_held upward sections_of of_chain of_ending at_end step_entries entries_behind trail_entries own_entries soa_entries addresses_of glue_of glue entries entry chain_of chain_from found topmost in_order insertion owner_octets entry_octets entries_octets opt_octets head_octets header_octets flags_number curt_octets whole_octets cut_octets octets_of within_limit
 computed octets moment transport = reply_of served octets moment transport
 
 -- the transports, as a script names them
@@ -310,3 +311,50 @@ pub expired : Replied 1600 udp "001a0000000100000000000001630477696c64076578616d
     "001a8002000100000000000001630477696c64076578616d706c650000010001"
 unfolding computed
 expired = refl
+
+-- d.example. is renamed to t.example., below which w has an address
+abbrev renaming : List SlotOf
+renaming =
+    holding "example." (ordinary "example."
+    (rr TYPE_DNAME "d.example." 3600 (wire_of (name "t.example."))
+    ∷ a "w.t.example." 3600 "c0000209"
+    ∷ []))
+    ∷ []
+
+computed_there : Octets → ℕ → Bool → Reply
+unfolding reply_of reply_for sections_for closest_for request with_header asked_for asked_in question_in question_at name_at name_from element_at wire_of labels_in opt_in add_shape edns_of header_in behind_records shape_of behind_owner behind_head head_in number_of_two number_of_four two four closest first_held upward sections_of of_chain of_ending at_end step_entries entries_behind trail_entries own_entries soa_entries addresses_of glue_of glue entries entry chain_of chain_from found topmost in_order insertion owner_octets entry_octets entries_octets opt_octets head_octets header_octets flags_number curt_octets whole_octets cut_octets octets_of within_limit
+computed_there octets moment transport = reply_of renaming octets moment transport
+
+-- the DNAME, the CNAME that is made of it, and the records of the name that it leads to (RFC 6672 section 3.2)
+pub renamed_address : reply_of renaming (hex "00800000000100000000000001770164076578616d706c650000010001") 1000 udp
+    ≡ written (hex "00808400000100030000000001770164076578616d706c650000010001c00e0027000100000e10000b0174076578616d706c6500c00c0005000100000e10000d01770174076578616d706c650001770174c0100001000100000e100004c0000209")
+unfolding computed_there
+renamed_address = refl
+
+-- a chain comes by the DNAME of d.example. again: it is shown once
+abbrev renaming_again : List SlotOf
+renaming_again =
+    holding "example." (ordinary "example."
+    (rr TYPE_DNAME "d.example." 3600 (wire_of (name "e.example."))
+    ∷ rr TYPE_CNAME "w.e.example." 3600 (wire_of (name "x.d.example."))
+    ∷ a "x.e.example." 3600 "c0000209"
+    ∷ []))
+    ∷ []
+
+pub renamed_twice : reply_of renaming_again (hex "00810000000100000000000001770164076578616d706c650000010001") 1000 udp
+    ≡ written (hex "00818400000100050000000001770164076578616d706c650000010001c00e0027000100000e10000b0165076578616d706c6500c00c0005000100000e10000d01770165076578616d706c650001770165c0100005000100000e10000d01780164076578616d706c65000178c00e0005000100000e10000d01780165076578616d706c650001780165c0100001000100000e100004c0000209")
+unfolding computed_there
+renamed_twice = refl
+
+-- the new name would have 262 octets: YXDOMAIN, with the DNAME alone
+abbrev renaming_far : List SlotOf
+renaming_far =
+    holding "example." (ordinary "example."
+    (rr TYPE_DNAME "d.example." 3600 (wire_of (name "bbbbbbbbbbbbbbbbbbbbbbbbbbbbbbbbbbbbbbbbbbbbbbbbbbbbbbbbbbbbbbb.ccccccccccccccccccccccccccccccccccccccccccccccccccccccccccccccc.ddddddddddddddddddddddddddddddddddddddddddddddddddddddddddddddd.example."))
+    ∷ []))
+    ∷ []
+
+pub renamed_too_long : reply_of renaming_far (hex "0082000000010000000000003c6161616161616161616161616161616161616161616161616161616161616161616161616161616161616161616161616161616161616161616161610164076578616d706c650000010001") 1000 udp
+    ≡ written (hex "0082840600010001000000003c6161616161616161616161616161616161616161616161616161616161616161616161616161616161616161616161616161616161616161616161610164076578616d706c650000010001c0490027000100000e1000c93f6262626262626262626262626262626262626262626262626262626262626262626262626262626262626262626262626262626262626262626262626262623f6363636363636363636363636363636363636363636363636363636363636363636363636363636363636363636363636363636363636363636363636363633f646464646464646464646464646464646464646464646464646464646464646464646464646464646464646464646464646464646464646464646464646464076578616d706c6500")
+unfolding computed_there
+renamed_too_long = refl

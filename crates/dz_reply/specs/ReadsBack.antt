@@ -6,7 +6,8 @@ use Rattle.dz_header.specs.declared.edns.Edns.{Edns}
 use Rattle.dz_header.specs.declared.question.Question.{Question}
 use Rattle.dz_message.specs.Spelling.{IsQuestion, IsRecordAt, Each}
 use Rattle.dz_table.specs.Slot.{SlotOf}
-use Rattle.dz_table.specs.Table.{closest}
+use Rattle.dz_table.specs.Table.{closest_for}
+use Rattle.dz_reply.specs.Secure.{asks_dnssec}
 use Rattle.dz_header.specs.Code.{number_of}
 use Rattle.dz_header.specs.Edns.{opt_count, opt_octets}
 use Rattle.dz_header.specs.declared.header.Header.{Header}
@@ -73,7 +74,7 @@ ReadsBackFor slots request moment tcp (NewerEdns asked) octets = SpellsReply tcp
 ReadsBackFor slots request moment tcp (NotImp asked) octets = SpellsReply tcp (query_of request asked) asked.question (bare (number_of codes.NotImp)) octets
 ReadsBackFor slots request moment tcp (Notify asked) octets = Unit {0}
 ReadsBackFor slots request moment tcp (Asks asked) octets =
-    SpellsReply tcp (query_of request asked) asked.question (at_slot (closest slots asked.question.name) moment asked.question.name asked.question.kind) octets
+    SpellsReply tcp (query_of request asked) asked.question (at_slot (asks_dnssec asked.edns) (closest_for slots asked.question.name asked.question.kind) moment asked.question.name asked.question.kind) octets
 
 -- these octets, as a reply of these slots to a request at a moment, over TCP or UDP, read as the reply
 unfoldable pub ReadsBack : List SlotOf → Octets → ℕ → Bool → Octets → Type 0

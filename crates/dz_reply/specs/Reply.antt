@@ -12,8 +12,9 @@ use Rattle.dz_request.specs.declared.request.Request.{Request}
 use Rattle.dz_request.specs.declared.request.Request.TheVariants.{Silent, Curt, NewerEdns, NotImp, Notify, Asks}
 use Rattle.dz_zone.specs.Version.{Zone}
 use Rattle.dz_table.specs.Slot.{SlotOf, is_live}
-use Rattle.dz_table.specs.Table.{closest}
-use Rattle.dz_reply.specs.Answer.{Sections, bare, octets_of, sections_of}
+use Rattle.dz_table.specs.Table.{closest_for}
+use Rattle.dz_reply.specs.Answer.{Sections, bare, octets_of}
+use Rattle.dz_reply.specs.Secure.{asks_dnssec, sections_for}
 use Rattle.dz_reply.specs.declared.reply.Turn.{Turn}
 use Rattle.dz_reply.specs.declared.reply.Turn.TheVariants as turns
 
@@ -24,15 +25,15 @@ pub data Reply : Type 0 where
   notify : Name → Reply
 
 -- the answer of a version: SERVFAIL where none is held
-abbrev pub at_version : Option Zone → Name → Kind → Sections
-at_version None name kind = bare (number_of ServFail)
-at_version (Some zone) name kind = sections_of zone name kind
+abbrev pub at_version : Bool → Option Zone → Name → Kind → Sections
+at_version dnssec None name kind = bare (number_of ServFail)
+at_version dnssec (Some zone) name kind = sections_for dnssec zone name kind
 
 -- the answer of the closest enclosing zone: REFUSED without one, SERVFAIL where it isn't live at the moment
-abbrev pub at_slot : Option SlotOf → ℕ → Name → Kind → Sections
-at_slot None moment name kind = bare (number_of Refused)
-at_slot (Some slot) moment name kind =
-    if is_live slot moment then at_version slot.version name kind else bare (number_of ServFail)
+abbrev pub at_slot : Bool → Option SlotOf → ℕ → Name → Kind → Sections
+at_slot dnssec None moment name kind = bare (number_of Refused)
+at_slot dnssec (Some slot) moment name kind =
+    if is_live slot moment then at_version dnssec slot.version name kind else bare (number_of ServFail)
 
 unfoldable pub reply_for : List SlotOf → Octets → ℕ → Bool → Request → Reply
 reply_for slots octets moment tcp Silent = nothing
@@ -41,7 +42,7 @@ reply_for slots octets moment tcp (NewerEdns asked) = written (octets_of tcp (qu
 reply_for slots octets moment tcp (NotImp asked) = written (octets_of tcp (query_of octets asked) (bare (number_of codes.NotImp)))
 reply_for slots octets moment tcp (Notify asked) = notify asked.question.name
 reply_for slots octets moment tcp (Asks asked) =
-    written (octets_of tcp (query_of octets asked) (at_slot (closest slots asked.question.name) moment asked.question.name asked.question.kind))
+    written (octets_of tcp (query_of octets asked) (at_slot (asks_dnssec asked.edns) (closest_for slots asked.question.name asked.question.kind) moment asked.question.name asked.question.kind))
 
 -- the reply of these slots at a moment, over TCP or UDP
 unfoldable pub reply_of : List SlotOf → Octets → ℕ → Bool → Reply

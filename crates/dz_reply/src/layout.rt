@@ -1,12 +1,16 @@
 //! The records of a reply, one behind the other.
 
-ghost use Rattle.std.specs.Prelude.{◌≡◌, ◌≢◌, ◌≤◌, length, drop};
+ghost use Rattle.std.specs.Prelude.{◌≡◌, ◌≢◌, ◌≤◌, ◌∷◌, ◌++◌, [], length, drop};
 ghost use Rattle.dz_header.specs.Writing.{also};
+ghost use Rattle.dz_name.specs.Words.{Name};
+ghost use Rattle.dz_name.specs.Numbers.{two};
+ghost use Rattle.dz_reply.specs.inner.Owner.{owner_shown};
+ghost use Rattle.dz_name.specs.Name.{wire_of};
 ghost use Rattle.dz_reply.specs.Answer.{own_entries};
 ghost use Rattle.dz_reply.specs.Layout.{pointer_to, owner_octets, entry_octets, entries_octets, least_ttl, entry_ttl, entry, entries};
 
 use dz_header::Writer;
-use dz_name::dns::{HEADER_OCTETS, TYPE_RRSIG};
+use dz_name::dns::{CLASS_IN, HEADER_OCTETS, TYPE_CNAME, TYPE_RRSIG};
 use dz_name::numbers::{four, two};
 use dz_name::{Name, NameRef};
 use dz_record::Rr;
@@ -17,34 +21,75 @@ pub(crate) const POINTER: u16 = 0xc000;
 /// The longest TTL in seconds (RFC 2181 section 8).
 pub(crate) const LONGEST_TTL: u32 = 0x7fff_ffff;
 
-/// Writes an owner: its labels up to the longest suffix that it shares with the question's name, other than the
-/// root, and then a pointer to that suffix, which stands in the question (RFC 1035 section 4.1.4).
-pub fn put_owner(writer: &mut Writer, question: &Name, owner: &NameRef)
-    ensures { writer.new.writing ≡ also writer.old.writing (owner_octets question.now owner.now) }
-{
-    let mut number = 0;
-    'labels: while number < owner.label_count() {
-        if question.as_ref().is_within_part(owner, number) {
-            put_pointer(writer, question, owner, number);
-            return;
-        }
-        writer.put(owner.piece(number));
-        number += 1;
-    }
-    writer.put(&[0]);
+/// An owner as a reply has it: octets of its wire form, and the pointer behind them, unless they are all of it.
+#[derive(Clone, Copy)]
+pub struct Shown<'a> {
+    pub front: &'a [u8],
+    pub pointer: Option<u16>,
 }
 
-/// Writes a pointer to what stands behind the first labels of an owner, which ends the question's name.
-fn put_pointer(writer: &mut Writer, question: &Name, owner: &NameRef, skip: usize)
+/// How a reply has an owner: its labels up to the longest suffix that it shares with the question's name, other than the
+/// root, and then a pointer to that suffix, which stands in the question (RFC 1035 section 4.1.4).
+pub fn shown_owner<'a>(question: &Name, owner: &NameRef<'a>) -> Shown<'a>
+    ensures { owner_shown result ≡ owner_octets question.now owner.now }
+{
+    let wire = owner.wire();
+    let count = owner.label_count();
+    let mut number = 0;
+    'labels: while number < count {
+        if question.as_ref().is_within_part(owner, number) {
+            let front = wire.len().saturating_sub(owner.behind(number).len());
+            return Shown {
+                front: &wire[..front],
+                pointer: Some(pointer_to(question, owner, number)),
+            };
+        }
+        number += 1;
+    }
+    Shown {
+        front: wire,
+        pointer: None,
+    }
+}
+
+/// The pointer to what stands behind the first labels of an owner, which ends the question's name.
+fn pointer_to(question: &Name, owner: &NameRef, skip: usize) -> u16
     requires { skip ≤ length owner.now }
-    ensures { writer.new.writing
-        ≡ also writer.old.writing (pointer_to question.now (drop skip owner.now)) }
+    ensures { two result ≡ pointer_to question.now (drop skip owner.now) }
 {
     let front = question
         .wire()
         .len()
         .saturating_sub(owner.behind(skip).len());
-    writer.put(&two(POINTER + (HEADER_OCTETS as u16 + front as u16)));
+    POINTER + (HEADER_OCTETS as u16 + front as u16)
+}
+
+/// Writes octets, often none.
+fn put_front(writer: &mut Writer, front: &[u8])
+    ensures { writer.new.writing ≡ also writer.old.writing front.now }
+{
+    if front.len() == 0 {
+        return;
+    }
+    writer.put(front);
+}
+
+/// Writes an owner that is at hand.
+fn put_shown(writer: &mut Writer, shown: &Shown<'_>)
+    ensures { writer.new.writing ≡ also writer.old.writing (owner_shown shown.now) }
+{
+    put_front(writer, shown.front);
+    match shown.pointer {
+        None => {}
+        Some(pointer) => writer.put(&two(pointer)),
+    }
+}
+
+/// Writes an owner.
+pub fn put_owner(writer: &mut Writer, question: &Name, owner: &NameRef)
+    ensures { writer.new.writing ≡ also writer.old.writing (owner_octets question.now owner.now) }
+{
+    put_shown(writer, &shown_owner(question, owner));
 }
 
 /// Writes a record of class IN under an owner and with a TTL in seconds that may differ from its own. The RDATA
@@ -53,10 +98,37 @@ pub fn put_entry(writer: &mut Writer, question: &Name, owner: &NameRef, ttl: u32
     ensures { writer.new.writing
         ≡ also writer.old.writing (entry_octets question.now (entry owner.now ttl rr.now)) }
 {
-    put_owner(writer, question, owner);
+    put_entry_under(writer, &shown_owner(question, owner), ttl, rr);
+}
+
+/// Writes a record of class IN under an owner that is at hand and with a TTL in seconds.
+fn put_entry_under(writer: &mut Writer, shown: &Shown<'_>, ttl: u32, rr: &Rr)
+    ensures { (question owner : Name) → owner_shown shown.now ≡ owner_octets question owner
+        → writer.new.writing
+        ≡ also writer.old.writing (entry_octets question (entry owner ttl rr.now)) }
+{
+    put_shown(writer, shown);
     writer.put(rr.kind_and_class());
     writer.put(&four(ttl));
     writer.put(rr.sized_rdata());
+}
+
+/// Writes a CNAME that is in no zone: from a name to another, with a TTL in seconds (RFC 6672 section 3.1).
+pub fn put_cname(writer: &mut Writer, question: &Name, owner: &NameRef, ttl: u32, target: &NameRef)
+    ensures { writer.new.writing
+        ≡ also writer.old.writing (entry_octets question.now (record {
+          owner = owner.now;
+          kind = TYPE_CNAME;
+          ttl = ttl;
+          rdata = wire_of target.now;
+        })) }
+{
+    put_owner(writer, question, owner);
+    writer.put(&two(TYPE_CNAME));
+    writer.put(&two(CLASS_IN));
+    writer.put(&four(ttl));
+    writer.put(&two(target.wire().len() as u16));
+    writer.put(target.wire());
 }
 
 /// Writes records under one owner. Those of a type have their least TTL, and an RRSIG has its own (RFC 2181
@@ -64,6 +136,32 @@ pub fn put_entry(writer: &mut Writer, question: &Name, owner: &NameRef, ttl: u32
 pub fn put_entries(writer: &mut Writer, question: &Name, owner: &NameRef, records: &[Rr])
     ensures { writer.new.writing
         ≡ also writer.old.writing (entries_octets question.now (entries owner.now records.now)) }
+{
+    put_entries_under(writer, &shown_owner(question, owner), records);
+}
+
+/// Writes records and what signs them under one owner.
+pub fn put_both(
+    writer: &mut Writer,
+    question: &Name,
+    owner: &NameRef,
+    records: &[Rr],
+    signed: &[Rr],
+)
+    ensures { writer.new.writing
+        ≡ also writer.old.writing (entries_octets question.now
+        (entries owner.now records.now ++ entries owner.now signed.now)) }
+{
+    let shown = shown_owner(question, owner);
+    put_entries_under(writer, &shown, records);
+    put_entries_under(writer, &shown, signed);
+}
+
+/// Writes records under an owner that is at hand.
+fn put_entries_under(writer: &mut Writer, shown: &Shown<'_>, records: &[Rr])
+    ensures { (question owner : Name) → owner_shown shown.now ≡ owner_octets question owner
+        → writer.new.writing
+        ≡ also writer.old.writing (entries_octets question (entries owner records.now)) }
 {
     let mut kind = TYPE_RRSIG;
     let mut ttl = 0;
@@ -73,7 +171,7 @@ pub fn put_entries(writer: &mut Writer, question: &Name, owner: &NameRef, record
         }
         ttl = ttl_of(records, kind, ttl, rr);
         kind = rr.kind();
-        put_entry(writer, question, owner, ttl, rr);
+        put_entry_under(writer, shown, ttl, rr);
     }
 }
 

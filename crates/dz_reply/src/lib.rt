@@ -3,11 +3,14 @@
 #![tactic(auto)]
 
 mod answer;
+mod authority;
+mod counted;
+mod evidence;
 mod glue;
 mod layout;
 mod reply;
-#[cfg(test)]
-mod tests;
+mod secure;
+mod signed;
 
 pub use dz_request::Transport;
 pub use reply::{Turn, reply_into, reply_to};

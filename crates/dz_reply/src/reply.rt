@@ -6,7 +6,8 @@ ghost use Rattle.dz_name.specs.Words.{Octets};
 ghost use Rattle.dz_header.specs.Code.{number_of};
 ghost use Rattle.dz_request.specs.Frame.{is_tcp, query_of, curt_octets};
 ghost use Rattle.dz_request.specs.Request.{FitsIn, IsWhole};
-ghost use Rattle.dz_table.specs.Table.{closest};
+ghost use Rattle.dz_table.specs.Table.{closest_for};
+ghost use Rattle.dz_reply.specs.Secure.{asks_dnssec};
 ghost use Rattle.dz_reply.specs.Answer.{bare, octets_of};
 ghost use Rattle.dz_reply.specs.Reply.{written, at_slot, reply_for, reply_of, IsReply, FitsBuffer, IsNotifyAnyhow};
 ghost use Rattle.dz_reply.specs.ReadsBack.{ReadsBack};
@@ -110,13 +111,18 @@ fn reply_question(exchange: &Exchange<'_>, asked: &Asked, writer: &mut Writer) -
     ensures reply { IsReply result writer.new.writing
         (written (octets_of (is_tcp exchange.now.transport)
         (query_of exchange.now.octets.now asked.now)
-        (at_slot (closest exchange.now.table.now asked.now.question.name) exchange.now.moment
-        asked.now.question.name asked.now.question.kind))) }
+        (at_slot (asks_dnssec asked.now.edns)
+        (closest_for exchange.now.table.now asked.now.question.name asked.now.question.kind)
+        exchange.now.moment asked.now.question.name asked.now.question.kind))) }
     ensures held { AnswersHeld
-        (closest exchange.now.table.now asked.now.question.name) exchange.now.moment }
+        (closest_for exchange.now.table.now asked.now.question.name asked.now.question.kind)
+        exchange.now.moment }
     ensures size { FitsBuffer result }
 {
-    match exchange.table.closest(&asked.question.name) {
+    match exchange
+        .table
+        .closest(&asked.question.name, asked.question.kind)
+    {
         None => reply_code(exchange, asked, ResponseCode::Refused, writer),
         Some(slot) => reply_slot(exchange, slot, asked, writer),
     }
@@ -129,7 +135,7 @@ fn reply_slot(exchange: &Exchange<'_>, slot: &Slot, asked: &Asked, writer: &mut 
     ensures reply { IsReply result writer.new.writing
         (written (octets_of (is_tcp exchange.now.transport)
         (query_of exchange.now.octets.now asked.now)
-        (at_slot (Some slot.now) exchange.now.moment asked.now.question.name
+        (at_slot (asks_dnssec asked.now.edns) (Some slot.now) exchange.now.moment asked.now.question.name
         asked.now.question.kind))) }
     ensures held { AnswersHeld (Some slot.now) exchange.now.moment }
     ensures size { FitsBuffer result }

@@ -6,3 +6,4 @@ pub mod LastLemmas
 pub mod SharedLemmas
 pub mod LeadLemmas
 pub mod AheadLemmas
+pub mod AboveLemmas

@@ -1,13 +1,14 @@
 -- Meaning: slots of zones, and which one answers for a name (RFC 1034 section 4.3.2). A list of slots may stand in any
 -- order, unless it is said.
-use Rattle.std.specs.Prelude.{◌≤◌, Bool, not, List, [], ◌∷◌, ◌++◌, length, filter, Option, Some, None}
+use Rattle.std.specs.Prelude.{◌≤◌, Bool, not, ◌==◌, if◌then◌else◌, List, [], ◌∷◌, ◌++◌, length, filter, Option, Some, None}
 use Rattle.std.specs.Option.{option_or}
 use Rattle.std.specs.List.{find, All, Contains}
 use Rattle.std.specs.List.Sorted.{IsStrictlySortedBy}
 use Rattle.std.specs.Ordering.{on, is_lt}
 use Rattle.std.specs.declared.cmp.Ordering.{Ordering}
-use Rattle.dz_name.specs.Words.{Name}
+use Rattle.dz_name.specs.Words.{Name, Kind}
 use Rattle.dz_name.specs.Name.{canonical_order, same_name, upward, IsWithin}
+use Rattle.dz_name.specs.declared.dns.TheConstants.{TYPE_DS}
 use Rattle.dz_table.specs.Slot.{SlotOf}
 
 -- the canonical order of zones (RFC 4034 section 6.1)
@@ -43,6 +44,15 @@ first_held slots (name ∷ names) = option_or (slot_of name slots) (first_held s
 -- the slot of the name itself, or else of the longest name above it that has one
 unfoldable pub closest : List SlotOf → Name → Option SlotOf
 closest slots name = first_held slots (upward name)
+
+-- the slot that answers for a name and a type: for a DS that of a zone above the name, if there is one (RFC 4035 section
+-- 3.1.4.1)
+abbrev pub closest_above : List SlotOf → Name → Option SlotOf
+closest_above slots [] = None
+closest_above slots (label ∷ labels) = closest slots labels
+
+unfoldable pub closest_for : List SlotOf → Name → Kind → Option SlotOf
+closest_for slots name kind = if kind == TYPE_DS then option_or (closest_above slots name) (closest slots name) else closest slots name
 
 -- the same in other words: a slot whose zone encloses the name, where no other such zone has more labels (RFC 1034
 -- section 4.3.2, step 2)

@@ -1,8 +1,9 @@
 //! The table of zones.
 
-ghost use Rattle.std.specs.Prelude.{◌≡◌, ◌≢◌, ◌≤◌, ◌+◌, ◌/◌, [], Some, None, IfOk, length, option_map};
+ghost use Rattle.std.specs.Prelude.{◌≡◌, ◌≢◌, ◌≤◌, ◌+◌, ◌/◌, [], Some, None, IfOk, IfSome, length, option_map};
+ghost use Rattle.dz_name.specs.Name.{IsWithin};
 ghost use Rattle.dz_name.specs.Words.{Name};
-ghost use Rattle.dz_table.specs.Table.{IsTable, IsClosest, put, without, slot_of, closest};
+ghost use Rattle.dz_table.specs.Table.{closest_for, closest_above, IsTable, IsClosest, put, without, slot_of, closest};
 
 use crate::ahead::Ahead;
 use crate::shared::labels_apart;
@@ -12,6 +13,7 @@ use crate::slots::Slots;
 use crate::zone_key::ZoneKey;
 use dz_chunks::Chunks;
 use dz_name::Name;
+use dz_name::dns::TYPE_DS;
 use dz_steps::Steps;
 use std::alloc::{AllocError, Global};
 use std::marker::Model;
@@ -115,9 +117,39 @@ impl Table {
         self.slots.get(&ZoneKey::of(zone))
     }
 
+    /// The slot that answers for a name and a type: that of the closest enclosing zone, but for a DS that of the closest zone
+    /// above the name, if there is one (RFC 4035 section 3.1.4.1).
+    #[tactic(auto, unfolding(crate::specs::Table::closest_for))]
+    pub fn closest(&self, name: &Name, kind: u16) -> Option<&Slot>
+        ensures value { option_map (λ r. r.now) result ≡ closest_for self.now name.now kind }
+        ensures encloses { IfSome result (λ slot. IsWithin name.now slot.now.zone) }
+    {
+        if kind != TYPE_DS {
+            return self.enclosing(name);
+        }
+        match self.above(name) {
+            Some(slot) => Some(slot),
+            None => self.enclosing(name),
+        }
+    }
+
+    /// The slot whose zone encloses the name one label up and has most labels; none for the root.
+    fn above(&self, name: &Name) -> Option<&Slot>
+        ensures value { option_map (λ r. r.now) result ≡ closest_above self.now name.now }
+        ensures encloses { IfSome result (λ slot. IsWithin name.now slot.now.zone) }
+    {
+        if name.label_count() == 0 {
+            return None;
+        }
+        match self.enclosing(&name.ancestor(1)) {
+            Some(slot) => Some(slot),
+            None => None,
+        }
+    }
+
     /// The slot whose zone encloses the name and has most labels (RFC 1034 section 4.3.2, step 2); none where no zone
     /// encloses it.
-    pub fn closest(&self, name: &Name) -> Option<&Slot>
+    pub fn enclosing(&self, name: &Name) -> Option<&Slot>
         ensures value { option_map (λ r. r.now) result ≡ closest self.now name.now }
         ensures nearest { IsClosest self.now name.now (option_map (λ r. r.now) result) }
     {

@@ -7,7 +7,6 @@ ghost use Rattle.dz_history.specs.Legal.{IsLegal};
 
 use crate::configs::config;
 use crate::desks::{last_of, open, open_one};
-use crate::sharing::{is_send, is_sync};
 use crate::transfers::CATALOG;
 use dz_desk::{Desk, Publisher, Reading, Sight, Told};
 use dz_history::{Entry, Step};
@@ -114,18 +113,4 @@ fn looks_are_refused_after_the_end(rt: HostRuntime) {
         Some(_) => panic!(rt; "a sight"),
         None => assert_eq!(rt; (reading.sights(), reading.refusals()), (0, 1)),
     }
-}
-
-#[test]
-fn ends_may_go_to_threads(rt: HostRuntime) {
-    let (publisher, mut reading) = open_one(&rt, rt.alloc());
-    let told = publisher.tell();
-    let sight = look(&rt, &mut reading);
-    is_send(&publisher);
-    is_send(&reading);
-    is_send(&told);
-    is_send(&sight);
-    is_sync(&told);
-    reading.leave(sight);
-    publisher.close(&rt);
 }

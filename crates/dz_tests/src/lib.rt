@@ -15,11 +15,7 @@ mod desks;
 #[cfg(test)]
 mod fetch;
 #[cfg(test)]
-mod fleet;
-#[cfg(test)]
 mod generated;
-#[cfg(test)]
-mod history;
 #[cfg(test)]
 mod links;
 #[cfg(test)]
@@ -34,6 +30,8 @@ mod provision;
 mod query;
 #[cfg(test)]
 mod records;
+#[cfg(test)]
+mod reply;
 #[cfg(test)]
 mod report;
 #[cfg(test)]

@@ -15,8 +15,6 @@ pub const MEMBER: &str = "example.";
 
 const CATALOG_NS: Row = (CATALOG, TYPE_NS, 3600, Target("invalid."));
 
-const MEMBER_NS: Row = (MEMBER, TYPE_NS, 3600, Target("ns.invalid."));
-
 const WWW: Row = ("www.example.", TYPE_A, 3600, Octets(b"\xc0\0\x02\x50"));
 
 /// The version record of the catalog (RFC 9432 section 4.2.1).
@@ -24,9 +22,6 @@ const VERSION_2: Row = ("version.cat1.example.", TYPE_TXT, 0, Octets(b"\x012"));
 
 /// The member record of its member at the label `m1`.
 const NODE_M1: Row = ("m1.zones.cat1.example.", TYPE_PTR, 3600, Target(MEMBER));
-
-/// The same at the label `m2`.
-pub const NODE_M2: Row = ("m2.zones.cat1.example.", TYPE_PTR, 3600, Target(MEMBER));
 
 /// The message with this ID that gives this serial of the catalog, which lists its member by this record.
 pub fn catalog_message(
@@ -45,20 +40,4 @@ pub fn catalog_message(
 /// The message with this ID that gives serial 1 of the catalog, which lists its member at `m1`.
 pub fn listing_message(rt: &impl Abort, alloc: Global, id: u16) -> Result<Vec<u8>, AllocError> {
     catalog_message(rt, alloc, id, 1, NODE_M1)
-}
-
-/// The message with this ID that gives serial 3 of the catalog, which is broken: it has no version record.
-pub fn broken_message(rt: &impl Abort, alloc: Global, id: u16) -> Result<Vec<u8>, AllocError> {
-    let ends = soa(CATALOG, 3);
-    let rows = [ends, CATALOG_NS, NODE_M1, ends];
-    let asked = [(CATALOG, TYPE_AXFR, CLASS_IN)];
-    message(rt, alloc, (id, GOOD), &asked, &rows)
-}
-
-/// The message with this ID that gives serial 5 of its member, with the address of `www.example.`.
-pub fn member_message(rt: &impl Abort, alloc: Global, id: u16) -> Result<Vec<u8>, AllocError> {
-    let ends = soa(MEMBER, 5);
-    let rows = [ends, MEMBER_NS, WWW, ends];
-    let asked = [(MEMBER, TYPE_AXFR, CLASS_IN)];
-    message(rt, alloc, (id, GOOD), &asked, &rows)
 }

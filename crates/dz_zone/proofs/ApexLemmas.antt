@@ -14,8 +14,8 @@ use Rattle.dz_record.specs.Record.{Record, IsRecord, record_order}
 use Rattle.dz_record.specs.Records.{distinct, in_order}
 use Rattle.dz_index.specs.inner.Rows.{Rows, IsIndex}
 use Rattle.dz_zone.specs.Valid.{at_apex, fault_of}
-use Rattle.dz_zone.specs.Version.{zone_of, owners_of}
-use Rattle.dz_zone.specs.inner.Kept.{apex_in, zone_in, IsKept}
+use Rattle.dz_zone.specs.Version.{zone_of, owners_of, is_of_dnssec}
+use Rattle.dz_zone.specs.inner.Kept.{apex_in, zone_in, IsKept, Secure, AreNsecs}
 use Rattle.dz_zone.proofs.CanonicalLemmas.{within_not_less}
 use Rattle.dz_zone.specs.declared.fault.ZoneFault.{ZoneFault}
 use Rattle.dz_zone.proofs.FaultLemmas.{has_soa, fault_in_order}
@@ -70,14 +70,18 @@ pub zone_made : (apex : List (List ℕ)) (tidied records : List Record) → IsSt
     → zone_in tidied ≡ zone_of apex records
 zone_made apex tidied records up none e = rw (apex_first apex tidied up none, e) refl
 
-pub kept_made : (apex : List (List ℕ)) (rs : List Record) (index : Rows) (cuts : Bool) → IsStrictlySortedBy record_order rs → fault_of apex rs ≡ None → All IsRecord rs
-    → IsIndex (owners_of rs) index → cuts ≡ list_any (λ r. r.kind == 2 && not (same_name r.owner apex)) rs → IsKept (zone_in rs) index cuts
-kept_made apex rs index cuts up none held is has =
+pub kept_made : (apex : List (List ℕ)) (rs : List Record) (index : Rows) (cuts dnames : Bool) (secure : Secure) → IsStrictlySortedBy record_order rs → fault_of apex rs ≡ None → All IsRecord rs
+    → IsIndex (owners_of rs) index → cuts ≡ list_any (λ r. r.kind == 2 && not (same_name r.owner apex)) rs → dnames ≡ list_any (λ r. r.kind == 39) rs
+    → secure.is_secure ≡ list_any (λ r. is_of_dnssec r.kind) rs → AreNsecs rs secure.nsecs → IsKept (zone_in rs) index cuts dnames secure
+kept_made apex rs index cuts dnames secure up none held is has renames secured places =
     let e = sym (apex_first apex rs up none) in
     record {
       version = record { valid = record { rises = up; faultless = subst (λ a. fault_of a rs ≡ None) e none }; held = held };
       indexed = is;
       cuts_are = subst (λ a. cuts ≡ list_any (λ r. r.kind == 2 && not (same_name r.owner a)) rs) e has;
+      dnames_are = renames;
+      secure_is = secured;
+      nsecs_are = places;
     }
 
 -- what the faults of records in order say of the records that were given

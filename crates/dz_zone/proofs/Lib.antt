@@ -9,3 +9,4 @@ pub mod CanonicalLemmas
 pub mod ApexLemmas
 pub mod EndLemmas
 pub mod RisingLemmas
+pub mod NsecLemmas

@@ -8,13 +8,13 @@ ghost use Rattle.dz_name.specs.Name.{same_name};
 ghost use Rattle.dz_record.specs.Record.{record_order};
 ghost use Rattle.dz_index.specs.Index.{order_behind};
 ghost use Rattle.dz_index.specs.inner.Rows.{IsIndex};
-ghost use Rattle.dz_zone.specs.Version.{owners_of};
-ghost use Rattle.dz_zone.specs.inner.Kept.{IsRisen, RisesAt};
+ghost use Rattle.dz_zone.specs.Version.{owners_of, is_of_dnssec};
+ghost use Rattle.dz_zone.specs.inner.Kept.{IsRisen, RisesAt, AreNsecs};
 
 use crate::order::comes_before;
 use dz_index::{Index, OwnerKey, SortKey};
 use dz_name::Name;
-use dz_name::dns::{TYPE_NS, ZONE_RECORDS};
+use dz_name::dns::{TYPE_DNAME, TYPE_DS, TYPE_NS, TYPE_NSEC, TYPE_RRSIG, ZONE_RECORDS};
 use dz_record::Rr;
 use std::alloc::{AllocError, Global};
 use std::cmp::Ordering;
@@ -72,4 +72,39 @@ pub(crate) fn has_cuts(apex: &Name, records: &[Rr]) -> bool
         (λ r. r.kind == TYPE_NS && not (same_name r.owner apex.now)) records.now }
 {
     records.iter().any(|record| record.kind() == TYPE_NS && !record.is_owned_by(apex))
+}
+
+/// Whether a name owns a DNAME.
+pub(crate) fn has_dnames(records: &[Rr]) -> bool
+    ensures { result ≡ list_any (λ r. r.kind == TYPE_DNAME) records.now }
+{
+    records.iter().any(|record| record.kind() == TYPE_DNAME)
+}
+
+/// Whether there is a record of DNSSEC.
+pub(crate) fn is_secure(records: &[Rr]) -> bool
+    ensures { result ≡ list_any (λ r. is_of_dnssec r.kind) records.now }
+{
+    records.iter().any(|record| is_of_dnssec(record.kind()))
+}
+
+/// Whether it is a type of DNSSEC.
+fn is_of_dnssec(kind: u16) -> bool
+    ensures { result ≡ is_of_dnssec kind }
+{
+    matches!(kind, TYPE_DS | TYPE_RRSIG | TYPE_NSEC)
+}
+
+/// The places of the NSEC records, in order.
+pub(crate) fn nsecs_of(alloc: Global, records: &[Rr]) -> Result<Vec<u32>, AllocError>
+    requires { length records.now ≤ ZONE_RECORDS }
+    ensures { IfOk result (λ nsecs. AreNsecs records.now nsecs.items) }
+{
+    let mut nsecs = Vec::new(alloc);
+    'records: for place in 0..records.len() {
+        if records[place].kind() == TYPE_NSEC {
+            nsecs.push(place as u32)?;
+        }
+    }
+    Ok(nsecs)
 }

@@ -7,12 +7,12 @@ ghost use Rattle.std.specs.List.Sorted.{IsStrictlySortedBy};
 ghost use Rattle.std.specs.Option.{option_and_then};
 ghost use Rattle.dz_record.specs.Record.{soa_of, IsRecord, record_order};
 ghost use Rattle.dz_index.specs.inner.Rows.{IsIndex};
-ghost use Rattle.dz_zone.specs.Version.{IsValid, IsChecked, apex_soa, owners_of, has_cuts};
+ghost use Rattle.dz_zone.specs.Version.{IsValid, IsChecked, apex_soa, owners_of, has_cuts, has_dnames, is_secure, IsLastNsec};
 ghost use Rattle.dz_zone.specs.Valid.{at_apex, fault_of};
-ghost use Rattle.dz_zone.specs.inner.Kept.{zone_in, IsRisen};
+ghost use Rattle.dz_zone.specs.inner.Kept.{zone_in, IsRisen, AreNsecs};
 
 use crate::fault::ZoneError;
-use crate::indexing::{has_cuts, index_of, index_rising};
+use crate::indexing::{has_cuts, has_dnames, index_of, index_rising, is_secure, nsecs_of};
 use crate::order::tidy;
 use crate::valid::fault_of;
 use dz_index::Index;
@@ -23,12 +23,15 @@ use std::alloc::Global;
 use std::marker::Model;
 
 /// A version of a zone: its distinct records in canonical order, which have no fault, so that the apex owns the first.
-/// Beside them stand an index of the owners, and whether there is a zone cut.
+/// Beside them stand an index of the owners, and whether there is a zone cut, and a DNAME.
 #[derive(Debug, Drop)]
 pub struct Version {
     records: Vec<Rr>,
     index: Index,
     has_cuts: bool,
+    has_dnames: bool,
+    is_secure: bool,
+    nsecs: Vec<u32>,
 }
 
 impl Model for Version {
@@ -39,7 +42,8 @@ impl Model for Version {
 
     ghost view = { λ v. zone_in v.records.items };
 
-    ghost invariant = { λ v. IsKept (zone_in v.records.items) v.index v.has_cuts };
+    ghost invariant = { λ v. IsKept (zone_in v.records.items) v.index v.has_cuts v.has_dnames
+        (record { is_secure = v.is_secure; nsecs = v.nsecs.items }) };
 }
 
 impl Version {
@@ -77,6 +81,34 @@ impl Version {
         self.has_cuts
     }
 
+    /// Whether a name owns a DNAME (RFC 6672).
+    pub fn has_dnames(&self) -> bool
+        ensures { result ≡ has_dnames self.now }
+    {
+        self.has_dnames
+    }
+
+    /// Whether there is a record of DNSSEC: a DS, an RRSIG or an NSEC (RFC 4034).
+    pub fn is_secure(&self) -> bool
+        ensures { result ≡ is_secure self.now }
+    {
+        self.is_secure
+    }
+
+    /// The last place before this one at which an NSEC stands.
+    pub fn nsec_before(&self, place: usize) -> Option<usize>
+        ensures { IsLastNsec self.now.records place result }
+    {
+        let before = self
+            .nsecs
+            .as_slice()
+            .partition_point(|nsec| (*nsec as usize) < place);
+        if before == 0 {
+            return None;
+        }
+        Some(self.nsecs[before - 1] as usize)
+    }
+
     /// The SOA record of the apex. It stands among the first of the records, since the apex comes first.
     pub fn apex_soa(&self) -> &Rr
         ensures { Some result.now ≡ apex_soa self.now }
@@ -105,18 +137,26 @@ pub fn check(alloc: Global, apex: &Name, records: Vec<Rr>) -> Result<Version, Zo
 {
     match index_rising(alloc, records.as_slice())? {
         None => check_tidied(alloc, apex, records),
-        Some(index) => check_risen(apex, records, index),
+        Some(index) => check_risen(alloc, apex, records, index),
     }
 }
 
 /// The same of records that rise, with the index of their owners.
-fn check_risen(apex: &Name, records: Vec<Rr>, index: Index) -> Result<Version, ZoneError>
+fn check_risen(
+    alloc: Global,
+    apex: &Name,
+    records: Vec<Rr>,
+    index: Index,
+) -> Result<Version, ZoneError>
     requires { IsRisen records.items index }
     ensures { IsChecked apex.now records.items result }
 {
     match fault_of(apex, records.as_slice()) {
         Some(fault) => Err(ZoneError::Fault(fault)),
-        None => Ok(version_of(apex, records, index)),
+        None => {
+            let nsecs = nsecs_of(alloc, records.as_slice())?;
+            Ok(version_of(apex, records, index, nsecs))
+        }
     }
 }
 
@@ -129,24 +169,31 @@ fn check_tidied(alloc: Global, apex: &Name, mut records: Vec<Rr>) -> Result<Vers
         Some(fault) => Err(ZoneError::Fault(fault)),
         None => {
             let index = index_of(alloc, records.as_slice())?;
-            Ok(version_of(apex, records, index))
+            let nsecs = nsecs_of(alloc, records.as_slice())?;
+            Ok(version_of(apex, records, index, nsecs))
         }
     }
 }
 
 /// The version of records in canonical order that have no fault.
-fn version_of(apex: &Name, records: Vec<Rr>, index: Index) -> Version
+fn version_of(apex: &Name, records: Vec<Rr>, index: Index, nsecs: Vec<u32>) -> Version
     requires rises { IsStrictlySortedBy record_order records.items }
     requires faultless { fault_of apex.now records.items ≡ None }
     requires indexed { IsIndex (owners_of records.items) index }
+    requires nsecs { AreNsecs records.items nsecs.items }
     ensures { result ≡ zone_in records.items }
 {
     prove!(are_records(records.as_slice()));
     let has_cuts = has_cuts(apex, records.as_slice());
+    let has_dnames = has_dnames(records.as_slice());
+    let is_secure = is_secure(records.as_slice());
     Version {
         records,
         index,
         has_cuts,
+        has_dnames,
+        is_secure,
+        nsecs,
     }
 }
 

@@ -1,7 +1,7 @@
 -- Inner: where records stand in a zone that is kept in order.
-use Rattle.std.specs.Prelude.{◌≡◌, ℕ, ◌≤◌, List, true, false, length, Option, Some, None, option_map, if◌then◌else◌}
+use Rattle.std.specs.Prelude.{◌≡◌, ℕ, ◌≤◌, List, true, false, length, Option, Some, None, slice_get, if◌then◌else◌}
 use Rattle.std.specs.List.Sorted.{IsNonDecreasingBy}
-use Rattle.dz_name.specs.declared.dns.TheConstants.{TYPE_NS}
+use Rattle.dz_name.specs.declared.dns.TheConstants.{TYPE_DNAME}
 use Rattle.dz_lookup.specs.Runs.{of_type, records_of, exists}
 use Rattle.std.specs.Ordering.{nat_cmp, ordering_then, is_lt, is_le}
 use Rattle.std.specs.List.Sorted.{IsPartitionPoint}
@@ -42,6 +42,6 @@ pub record IsNodeOf (zone : List Record) (name : Name) (place : ℕ) (records : 
 abbrev pub if_exists : List Record → Name → Option Name
 if_exists zone name = if exists zone name then Some name else None
 
--- the NS records of a cut, if there is one
-abbrev pub servers_at : List Record → Option Name → Option (List Record)
-servers_at zone above = option_map (λ name. of_type TYPE_NS (records_of zone name)) above
+-- the DNAME of a name, if it owns one
+abbrev pub renamer_at : List Record → Name → Option Record
+renamer_at zone name = slice_get (of_type TYPE_DNAME (records_of zone name)) 0

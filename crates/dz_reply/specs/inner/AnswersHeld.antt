@@ -4,7 +4,7 @@ use Rattle.std.specs.Option.{ForSome}
 use Rattle.std.specs.List.{All}
 use Rattle.dz_record.specs.Record.{IsRecord}
 use Rattle.dz_table.specs.Slot.{SlotOf, is_live}
-use Rattle.dz_table.specs.Table.{closest}
+use Rattle.dz_table.specs.Table.{closest_for}
 use Rattle.dz_request.specs.declared.request.Request.{Request}
 use Rattle.dz_request.specs.declared.request.Request.TheVariants.{Silent, Curt, NewerEdns, NotImp, Notify, Asks}
 
@@ -21,4 +21,4 @@ AnswersHeldFor slots moment (Curt header code) = Unit {0}
 AnswersHeldFor slots moment (NewerEdns asked) = Unit {0}
 AnswersHeldFor slots moment (NotImp asked) = Unit {0}
 AnswersHeldFor slots moment (Notify asked) = Unit {0}
-AnswersHeldFor slots moment (Asks asked) = AnswersHeld (closest slots asked.question.name) moment
+AnswersHeldFor slots moment (Asks asked) = AnswersHeld (closest_for slots asked.question.name asked.question.kind) moment

@@ -1,11 +1,12 @@
--- Inner: a version as its fields: the records of a zone, the index of their owners, and whether there are cuts.
-use Rattle.std.specs.Prelude.{◌≡◌, ℕ, ◌-◌, ◌<◌, Bool, true, List, [], ◌∷◌, slice_index_or}
+-- Inner: a version as its fields: the records of a zone, the index of their owners, and whether there are cuts and DNAMEs.
+use Rattle.std.specs.Prelude.{◌≡◌, ℕ, ◌-◌, ◌<◌, Bool, true, List, [], ◌∷◌, length, slice_index, slice_index_or}
+use Rattle.dz_name.specs.declared.dns.TheConstants.{TYPE_NSEC}
 use Rattle.std.specs.Ordering.{is_lt}
 use Rattle.dz_name.specs.Words.{Name}
 use Rattle.std.specs.List.Sorted.{IsStrictlySortedBy}
 use Rattle.dz_record.specs.Record.{Record, record_order}
 use Rattle.dz_index.specs.inner.Rows.{Rows, IsIndex}
-use Rattle.dz_zone.specs.Version.{Zone, IsVersion, owners_of, has_cuts}
+use Rattle.dz_zone.specs.Version.{Zone, IsVersion, owners_of, has_cuts, has_dnames, is_secure}
 
 -- the apex owns the first of the records
 abbrev pub apex_in : List Record → Name
@@ -24,7 +25,21 @@ pub record IsRisen (records : List Record) (index : Rows) : Type 0 where
   pub rises : IsStrictlySortedBy record_order records
   pub indexed : IsIndex (owners_of records) index
 
-pub record IsKept (zone : Zone) (index : Rows) (cuts : Bool) : Type 0 where
+-- the places of NSEC records: each is one, each stands there, and they rise
+pub record AreNsecs (records : List Record) (nsecs : List ℕ) : Type 0 where
+  pub sound : (i : ℕ) (d : Record) → i < length nsecs → (slice_index nsecs i < length records) × ((slice_index_or records (slice_index nsecs i) d).kind ≡ TYPE_NSEC)
+  pub complete : (k : ℕ) (d : Record) → k < length records → (slice_index_or records k d).kind ≡ TYPE_NSEC → (i : ℕ) × (i < length nsecs) × (slice_index nsecs i ≡ k)
+  pub rise : (i j : ℕ) → i < j → j < length nsecs → slice_index nsecs i < slice_index nsecs j
+
+-- whether there are records of DNSSEC, and the places of NSEC records
+pub record Secure : Type 0 where
+  pub is_secure : Bool
+  pub nsecs : List ℕ
+
+pub record IsKept (zone : Zone) (index : Rows) (cuts dnames : Bool) (secure : Secure) : Type 0 where
   pub version : IsVersion zone
   pub indexed : IsIndex (owners_of zone.records) index
   pub cuts_are : cuts ≡ has_cuts zone
+  pub dnames_are : dnames ≡ has_dnames zone
+  pub secure_is : secure.is_secure ≡ is_secure zone
+  pub nsecs_are : AreNsecs zone.records secure.nsecs

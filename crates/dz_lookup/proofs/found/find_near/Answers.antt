@@ -5,7 +5,7 @@ use Rattle.dz_lookup.proofs.found.find_near.Goals as goal
 
 pub returns-in-Some-clause-found : goal.returns-in-Some-clause-found
 returns-in-Some-clause-found g c =
-    c.at_cut.ensures ∙ found_below c.args.version.now.apex c.args.version.now.records c.args.name.now c.args.kind c.in-Some.cut.servers.now c.in-Some.ensures.cut
+    found_below c.args.version.now.apex c.args.version.now.records c.args.name.now c.args.kind _ c.in-Some.ensures.barrier
 
 pub returns-in-Some-clause-some : goal.returns-in-Some-clause-some
 returns-in-Some-clause-some g c =
@@ -13,20 +13,20 @@ returns-in-Some-clause-some g c =
 
 pub returns-in-Some-clause-cost : goal.returns-in-Some-clause-cost
 returns-in-Some-clause-cost g c =
-    is_lookup (length c.args.name.now) (length c.args.version.now.records) (c.cut.new.steps - c.args.steps.now)
+    is_lookup (length c.args.name.now) (length c.args.version.now.records) (c.barrier.new.steps - c.args.steps.now)
     (searches_more (1 + length c.args.name.now) (length c.args.name.now + 2) _ _ (omega arith)
-    (searches_add 1 (length c.args.name.now) _ (c.node_of-node.new.steps - c.args.steps.now) (c.cut.new.steps - c.node_of-node.new.steps) _
+    (searches_add 1 (length c.args.name.now) _ (c.node_of-node.new.steps - c.args.steps.now) (c.barrier.new.steps - c.node_of-node.new.steps) _
     c.node_of-node.ensures.cost c.in-Some.ensures.cost (omega (arith, c.node_of-node.ensures.counted, c.in-Some.ensures.counted))))
 
 pub returns-in-None-clause-found : goal.returns-in-None-clause-found
 returns-in-None-clause-found g c =
-    c.without_cut.ensures ∙ found_elsewhere c.args.version.now.apex c.args.version.now.records c.args.name.now c.args.kind _ c.in-None.ensures.cut c.at_source.ensures.found
+    c.beside.ensures ∙ found_elsewhere c.args.version.now.apex c.args.version.now.records c.args.name.now c.args.kind _ c.in-None.ensures.barrier c.at_source.ensures.found
 
 pub returns-in-None-clause-cost : goal.returns-in-None-clause-cost
 returns-in-None-clause-cost g c =
     is_lookup (length c.args.name.now) (length c.args.version.now.records) (c.at_source.new.steps - c.args.steps.now)
     (searches_more (1 + length c.args.name.now + 1) (length c.args.name.now + 2) _ _ (omega arith)
-    (searches_add (1 + length c.args.name.now) 1 _ (c.cut.new.steps - c.args.steps.now) (c.at_source.new.steps - c.cut.new.steps) _
-    (searches_add 1 (length c.args.name.now) _ (c.node_of-node.new.steps - c.args.steps.now) (c.cut.new.steps - c.node_of-node.new.steps) _
+    (searches_add (1 + length c.args.name.now) 1 _ (c.barrier.new.steps - c.args.steps.now) (c.at_source.new.steps - c.barrier.new.steps) _
+    (searches_add 1 (length c.args.name.now) _ (c.node_of-node.new.steps - c.args.steps.now) (c.barrier.new.steps - c.node_of-node.new.steps) _
     c.node_of-node.ensures.cost c.in-None.ensures.cost (omega (arith, c.node_of-node.ensures.counted, c.in-None.ensures.counted)))
     c.at_source.ensures.cost (omega (arith, c.node_of-node.ensures.counted, c.in-None.ensures.counted, c.at_source.ensures.counted))))

@@ -10,8 +10,8 @@ pub index_of-requires-clause-few : goal.index_of-requires-clause-few
 index_of-requires-clause-few c =
     rw c.as_slice-in-None.ensures.value (few_records c.args.apex.now c.tidy.new.records.items (rw c.as_slice.ensures.value at (sym c.in-None.ensures)))
 
-pub returns-in_ok-index-in-None : goal.returns-in_ok-index-in-None
-returns-in_ok-index-in-None c =
+pub returns-in_ok-nsecs-in-None : goal.returns-in_ok-nsecs-in-None
+returns-in_ok-nsecs-in-None c =
     let none = rw c.as_slice.ensures.value at (sym c.in-None.ensures) in (
       judged _ _ _ _ _ c.in_ok-tidy.ensures.value c.as_slice.ensures.value c.in-None.ensures,
       c.version_of.ensures ∙ zone_made c.args.apex.now c.tidy.new.records.items c.args.records.items c.in_ok-tidy.ensures.rises none c.in_ok-tidy.ensures.value,
@@ -22,3 +22,10 @@ version_of-requires-clause-faultless c = rw c.as_slice.ensures.value at (sym c.i
 
 pub version_of-requires-clause-indexed : goal.version_of-requires-clause-indexed
 version_of-requires-clause-indexed c = rw c.as_slice-in-None.ensures.value at c.in_ok-index-in-None.ensures
+
+pub nsecs_of-requires : goal.nsecs_of-requires
+nsecs_of-requires c =
+    rw c.as_slice-in-None-2.ensures.value (few_records c.args.apex.now c.tidy.new.records.items (rw c.as_slice.ensures.value at (sym c.in-None.ensures)))
+
+pub version_of-requires-clause-nsecs : goal.version_of-requires-clause-nsecs
+version_of-requires-clause-nsecs c = rw c.as_slice-in-None-2.ensures.value at c.in_ok-nsecs-in-None.ensures

@@ -1,0 +1,4 @@
+pub mod OutgoingLemmas
+pub mod SizingLemmas
+pub mod ZoneLemmas
+pub mod RoundLemmas

@@ -1,0 +1,2 @@
+-- Inner: how far a stream was written.
+pub mod Filled

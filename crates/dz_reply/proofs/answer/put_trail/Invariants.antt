@@ -1,0 +1,13 @@
+use Rattle.std.proofs.Common.{◌≡◌, ◌<◌, length, take, drop, get_or}
+use Rattle.dz_name.specs.Words.{Name}
+use Rattle.dz_record.specs.Record.{Record}
+use Rattle.dz_header.specs.Writing.{also}
+use Rattle.dz_reply.specs.Layout.{entries_octets}
+use Rattle.dz_reply.specs.Answer.{entries_behind, trail_entries}
+use Rattle.dz_reply.proofs.answer.put_trail.Given as goal
+
+abbrev pub invariant-trail : goal.invariant-trail
+invariant-trail l = record {
+  name : (d : Name × Record) → l.number < length l.chain → l.name ≡ (get_or l.chain l.number d).0;
+  octets : also l.writer.writing (entries_octets l.question (entries_behind (take l.number l.chain) (drop l.number l.chain))) ≡ also l.fn.writer.writing (entries_octets l.question (trail_entries l.chain));
+}

@@ -1,0 +1,19 @@
+-- Inner: records beside what signs them.
+use Rattle.std.specs.Prelude.{Bool, List, [], ◌∷◌, ◌++◌, if◌then◌else◌}
+use Rattle.dz_record.specs.Record.{Record}
+use Rattle.dz_secure.specs.Secure.{signatures}
+use Rattle.dz_reply.specs.Layout.{entries}
+use Rattle.dz_reply.specs.declared.authority.SignedSet.{SignedSet}
+
+-- the records of the last name have signatures behind them
+abbrev pub answer_signatures : List Record → Bool → List Record → List Record
+answer_signatures zone bare [] = []
+answer_signatures zone bare (r ∷ rs) = if bare then [] else signatures zone r.owner r.kind
+
+-- an RRset of the authority section, and what signs it
+unfoldable pub own_with : List Record → List Record → List Record
+own_with [] signed = []
+own_with (r ∷ rs) signed = entries r.owner (r ∷ rs) ++ entries r.owner signed
+
+abbrev pub set_shown : SignedSet → List Record
+set_shown s = own_with s.records.now s.signed.now

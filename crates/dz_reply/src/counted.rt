@@ -1,0 +1,99 @@
+//! The calls of dz_secure, each counted in a ledger of its own. A number in the index says where they look first.
+
+ghost use Rattle.std.specs.Prelude.{◌≡◌};
+ghost use Rattle.dz_lookup.specs.Found.{meaning, found};
+ghost use Rattle.dz_secure.specs.Secure.{signatures, covering, proof};
+
+use dz_lookup::Found;
+use dz_name::{Name, NameRef};
+use dz_record::Rr;
+use dz_secure::Evidence;
+use dz_steps::Steps;
+use dz_zone::Version;
+use std::marker::Brand;
+use std::sync::ledger::{Blank, Ledger};
+
+/// The RRSIG records of an owner that cover a type.
+pub fn signatures<'a>(version: &'a Version, owner: &NameRef, kind: u16, near: usize) -> &'a [Rr]
+    ensures { result.now ≡ signatures version.now.records owner.now kind }
+{
+    count_signatures::<Brand>(Blank::new(1), version, owner, kind, near)
+}
+
+fn count_signatures<'a, L: Ledger>(
+    blank: Blank,
+    version: &'a Version,
+    owner: &NameRef,
+    kind: u16,
+    near: usize,
+) -> &'a [Rr]
+    requires name { blank.name ≡ L.name }
+    requires parts { blank.parts ≡ L.parts }
+    requires whole { blank.parts ≡ 1 }
+    ensures { result.now ≡ signatures version.now.records owner.now kind }
+{
+    let mut steps = Steps::<L>::new(blank);
+    dz_secure::signatures(version, owner, kind, near, &mut steps)
+}
+
+/// The NSEC RRset that covers a name.
+pub fn covering<'a>(version: &'a Version, name: &Name, near: usize) -> &'a [Rr]
+    ensures { result.now ≡ covering version.now.records name.now }
+{
+    count_covering::<Brand>(Blank::new(1), version, name, near)
+}
+
+fn count_covering<'a, L: Ledger>(
+    blank: Blank,
+    version: &'a Version,
+    name: &Name,
+    near: usize,
+) -> &'a [Rr]
+    requires name { blank.name ≡ L.name }
+    requires parts { blank.parts ≡ L.parts }
+    requires whole { blank.parts ≡ 1 }
+    ensures { result.now ≡ covering version.now.records name.now }
+{
+    let mut steps = Steps::<L>::new(blank);
+    dz_secure::covering(version, name, near, &mut steps)
+}
+
+/// What proves the last case of a lookup.
+pub fn proof<'a>(
+    version: &'a Version,
+    name: &Name,
+    kind: u16,
+    last: &Found<'a>,
+    near: usize,
+) -> Evidence<'a>
+    requires { meaning last.now
+        ≡ found version.now.apex version.now.records name.now kind }
+    ensures first { result.first.now
+        ≡ (proof version.now.records name.now (meaning last.now)).0 }
+    ensures second { result.second.now
+        ≡ (proof version.now.records name.now (meaning last.now)).1 }
+{
+    count_proof::<Brand>(Blank::new(1), version, name, kind, last, near)
+}
+
+fn count_proof<'a, L: Ledger>(
+    blank: Blank,
+    version: &'a Version,
+    name: &Name,
+    kind: u16,
+    last: &Found<'a>,
+    near: usize,
+) -> Evidence<'a>
+    requires name { blank.name ≡ L.name }
+    requires parts { blank.parts ≡ L.parts }
+    requires whole { blank.parts ≡ 1 }
+    requires found { meaning last.now
+        ≡ found version.now.apex version.now.records name.now kind }
+    ensures first { result.first.now
+        ≡ (proof version.now.records name.now (meaning last.now)).0 }
+    ensures second { result.second.now
+        ≡ (proof version.now.records name.now (meaning last.now)).1 }
+{
+    let mut steps = Steps::<L>::new(blank);
+    dz_secure::proof(version, name, kind, last, near, &mut steps)
+}

@@ -1,0 +1,4 @@
+pub mod SignatureLemmas
+pub mod CoveringLemmas
+pub mod MissingLemmas
+pub mod EvidenceLemmas

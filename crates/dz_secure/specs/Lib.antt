@@ -1,0 +1,2 @@
+pub mod Secure
+pub mod inner

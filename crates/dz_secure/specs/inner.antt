@@ -1,0 +1,2 @@
+-- Inner: how the code finds things.
+pub mod Searchable
