@@ -8,6 +8,7 @@
 #   make check-docs  finds in the repository what the documents link to and name
 #   make bench       measures beside the servers that are installed (python3)
 #   make interop     compares replies with those of the servers that are installed (python3)
+#   make downstream  has the servers that are installed take zones from catzd (python3)
 #   make validate    has unbound and delv validate the replies for signed zones (python3)
 #
 # There is no `make clean`: what lies in crates/*/out are proofs, which took hours.
@@ -75,7 +76,10 @@ bench:
 interop:
 	$(PYTHON) tests/interop/interop.py
 
+downstream:
+	$(PYTHON) tests/interop/downstream.py
+
 validate:
 	$(PYTHON) tests/interop/validate.py
 
-.PHONY: all check install uninstall check-man check-docs bench interop validate
+.PHONY: all check install uninstall check-man check-docs bench interop downstream validate

@@ -1,5 +1,8 @@
 """What is asked of a running server: until it answers, how fast it answers, and what that costs it."""
+import collections
+import gc
 import re
+import select
 import socket
 import subprocess
 import time
@@ -103,6 +106,112 @@ def read_octets(stream):
 def read_frame(stream):
     """The next message of a stream."""
     return wire.read_message(read_octets(stream))
+
+
+def transfer(port, zone, kind=wire.AXFR, source="127.0.0.1", limit=60):
+    """The messages of a transfer, up to the one with the closing SOA record or with an error, and how many octets they
+    have with their lengths. What has come is read before a message is, since a server may give up on a slow reader."""
+    messages, held, at, left, is_open = [], bytearray(), 0, 2, True
+    with socket.create_connection(("127.0.0.1", port), timeout=limit, source_address=(source, 0)) as stream:
+        stream.sendall(wire.frame(wire.query(4711, zone, kind)))
+        while left > 0:
+            end = at + 2 + int.from_bytes(held[at:at + 2], "big")
+            is_whole = at + 2 <= len(held) and end <= len(held)
+            if is_open and (not is_whole or select.select([stream], [], [], 0)[0]):
+                octets = stream.recv(1 << 20)
+                is_open = bool(octets)
+                held += octets
+            elif not is_whole:
+                raise ConnectionError(f"the server at port {port} closed the connection")
+            else:
+                messages.append(wire.read_message(bytes(held[at + 2:end])))
+                at = end
+                left -= sum(record.kind == wire.SOA for record in messages[-1].answer)
+                if messages[-1].code or not messages[-1].answer:
+                    break
+    return messages, at
+
+
+def read_all(port, zone, octets, limit=60):
+    """Seconds from the request for a zone to the last of so many octets, of which nothing is looked at."""
+    room = memoryview(bytearray(1 << 20))
+    with socket.create_connection(("127.0.0.1", port), timeout=limit) as stream:
+        begun = time.monotonic()
+        stream.sendall(wire.frame(wire.query(1, zone, wire.AXFR)))
+        while octets > 0:
+            got = stream.recv_into(room)
+            if not got:
+                raise ConnectionError("the server closed the connection")
+            octets -= got
+        return time.monotonic() - begun
+
+
+class Steady:
+    """Asks over UDP and over some TCP connections in turn, a query of each kind each millisecond, whether replies come or
+    not. A reply's time counts from the moment at which its query was due."""
+    GAP, CONNECTIONS = 0.001, 4
+
+    def __init__(self, port, owner):
+        self.owner, self.found = owner, []  # found: (transport, moment, seconds)
+        self.datagrams = socket.socket(socket.AF_INET, socket.SOCK_DGRAM)
+        self.datagrams.connect(("127.0.0.1", port))
+        self.streams = [socket.create_connection(("127.0.0.1", port)) for _ in range(self.CONNECTIONS)]
+        self.sockets = [self.datagrams, *self.streams]
+        for one in self.streams:
+            one.setsockopt(socket.IPPROTO_TCP, socket.TCP_NODELAY, 1)
+        self.due = {}  # the identity of a query over UDP -> when it was due
+        self.waiting = {stream: collections.deque() for stream in self.streams}
+        self.held = dict.fromkeys(self.streams, b"")
+
+    def run(self, process, grace=2):
+        """Asks until a process has ended, and then waits for the last replies. It answers how many never came."""
+        gc.disable()
+        start, count = time.monotonic(), 0
+        while process.poll() is None:
+            due = start + self.GAP * count
+            self.read_until(due)
+            self.ask(due, count)
+            count += 1
+        self.read_until(time.monotonic() + grace)
+        gc.enable()
+        for one in self.sockets:
+            one.close()
+        return len(self.due) + sum(map(len, self.waiting.values()))
+
+    def ask(self, due, count):
+        query = wire.query(count & 0xFFFF, self.owner, wire.A)
+        stream = self.streams[count % self.CONNECTIONS]
+        self.due[count & 0xFFFF] = due
+        self.waiting[stream].append(due)
+        self.datagrams.send(query)
+        stream.sendall(wire.frame(query))
+
+    def read_until(self, moment):
+        while True:
+            left = moment - time.monotonic()
+            ready, _, _ = select.select(self.sockets, [], [], max(left, 0))
+            for one in ready:
+                self.read(one)
+            if left <= 0 or not ready:
+                return
+
+    def read(self, one):
+        octets, now = one.recv(65_536), time.monotonic()
+        if one is self.datagrams:
+            self.note("UDP", self.due.pop(int.from_bytes(octets[:2], "big"), now), now)
+            return
+        held, at = self.held[one] + octets, 0
+        while at + 2 <= len(held) and at + 2 + int.from_bytes(held[at:at + 2], "big") <= len(held):
+            at += 2 + int.from_bytes(held[at:at + 2], "big")
+            self.note("TCP", self.waiting[one].popleft(), now)
+        self.held[one] = held[at:]
+
+    def note(self, transport, due, now):
+        self.found.append((transport, due, now - due))
+
+    def times(self, transport, is_within):
+        """Sorted times of the replies over UDP or TCP whose queries were due at such moments."""
+        return sorted(seconds for kind, due, seconds in self.found if kind == transport and is_within(due))
 
 
 def idle_clients(port, owner, count):

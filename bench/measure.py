@@ -5,6 +5,7 @@ import os
 import pathlib
 import random
 import statistics
+import subprocess
 import sys
 import tempfile
 import time
@@ -18,6 +19,7 @@ from primary import Primary
 PRIMARY_PORT, FIRST_PORT = 5300, 5310
 CATALOG, LARGE, SIGNED = "catalog.test.", "large.test.", "signed.test."
 BURSTS, STARTS = 4, 3  # how often a load and a start are measured; the least is told
+TRANSFERS, BURSTS_OF_READERS = 5, 5
 
 
 def members(count):
@@ -284,7 +286,71 @@ def change(server, primary, zone, asker, number):
     return asker.wait(f"h{4000 * 49:06}.{LARGE}", lambda message: ask.is_address(message, last), limit=60) - begun
 
 
-MEASURES = {"cpu": cpu, "signed": signed, "latency": latency, "start": start, "new": new_member, "large": large}
+def outward(bench):
+    """A large zone is handed on: to one reader, and to sixteen at once beside queries."""
+    count, readers = 200_000, 16
+    plan = servers.Plan(CATALOG, PRIMARY_PORT, [LARGE], downstream=["127.0.0.1"])
+
+    def measure(server, _primary, _held):
+        steady(server.port, f"h{count - 1:06}.{LARGE}")
+        messages, octets = ask.transfer(server.port, LARGE)
+        if sum(len(message.answer) for message in messages) != count + 4:
+            raise ask.TooLate(f"{count} records")
+        runs = []
+        for _ in range(TRANSFERS):
+            time.sleep(0.2)
+            before = server.cpu_of_threads()
+            seconds = ask.read_all(server.port, LARGE, octets)
+            time.sleep(0.05)
+            runs.append((seconds, server.cpu_of_threads() - before))
+        times, costs = zip(*runs)
+        cells = [best_and_median(times), best_and_median(costs), f"{octets / 1e6:.2f}", str(len(messages)), megabytes(server)]
+        return cells, beside(server, f"h{count // 2:06}.{LARGE}", readers, octets)
+
+    able = Bench([kind for kind in bench.kinds if kind is not servers.Bind], bench.folder, bench.seconds)
+    able.runs = 400
+    said = {label: (one, one) if isinstance(one, str) else one
+            for label, one in able.each(large_catalog(count, False), plan, measure).items()}
+    table(f"A zone of {count:,} addresses handed on by AXFR, the best of {TRANSFERS} (the median)",
+          ["ms", "CPU of the server, ms", "million octets", "messages", "MB at most / then"],
+          {label: one for label, (one, _) in said.items()})
+    table(f"{readers} such transfers at once, {BURSTS_OF_READERS} times, and queries beside them: median, 99 %, worst, ms",
+          ["all have it after, s", "UDP", "TCP", "UDP, no transfer under way", "TCP, none", "without a reply",
+           "MB at most / then"], {label: other for label, (_, other) in said.items()})
+
+
+def best_and_median(times):
+    return f"{min(times) * 1000:.1f} ({statistics.median(times) * 1000:.1f})"
+
+
+def beside(server, owner, readers, octets):
+    """What queries wait while so many readers take a zone of so many octets, and while none does."""
+    words = [sys.executable, str(pathlib.Path(__file__).with_name("readers.py"))]
+    words += [str(one) for one in (server.port, LARGE, readers, octets, BURSTS_OF_READERS)]
+    asker = ask.Steady(server.port, owner)
+    with subprocess.Popen(words, stdout=subprocess.PIPE, text=True) as process:
+        lost = asker.run(process)
+        spans = [tuple(map(float, line.split())) for line in process.stdout]
+    if len(spans) < BURSTS_OF_READERS:
+        raise ask.TooLate("a reader")
+
+    def is_within(moment):
+        return any(begun <= moment <= ended for begun, ended in spans)
+
+    def is_apart(moment):
+        return not any(begun - 0.1 <= moment <= ended + 0.1 for begun, ended in spans)
+
+    def cell(transport, test):
+        times = [1000 * one for one in asker.times(transport, test)]
+        return f"{times[len(times) // 2]:.2f}, {times[len(times) * 99 // 100]:.1f}, {times[-1]:.1f}"
+
+    lengths = [ended - begun for begun, ended in spans]
+    return [f"{min(lengths):.2f} to {max(lengths):.2f}", cell("UDP", is_within), cell("TCP", is_within),
+            cell("UDP", is_apart), cell("TCP", is_apart), str(lost), megabytes(server)]
+
+
+MEASURES = {"cpu": cpu, "signed": signed, "latency": latency, "start": start, "new": new_member, "large": large,
+            "outward": outward}
 
 
 def main():

@@ -20,6 +20,7 @@ class Plan:
     primary: int  # a port of 127.0.0.1
     members: list = field(default_factory=list)
     verifies: bool = False  # versions need a good ZONEMD record
+    downstream: list = field(default_factory=list)  # addresses to which it hands zones on
 
 
 def pin(processors):
@@ -95,6 +96,11 @@ class Server:
             total += sum(int(field) for field in fields[11:15])
         return total / TICKS
 
+    def cpu_of_threads(self):
+        """CPU seconds of all threads that it has, to the microsecond."""
+        tasks = [(pid, task.name) for pid in family(self.process.pid) for task in pathlib.Path(f"/proc/{pid}/task").glob("*")]
+        return sum(int((read_proc(pid, f"task/{task}/schedstat") or "0").split()[0]) for pid, task in tasks) / 1e9
+
     def memory(self):
         """Megabytes that it has resident, at the most (VmHWM) and now (VmRSS). Of a server of several processes both
         are what they have now, each shared page counted once (Pss)."""
@@ -135,8 +141,10 @@ class Catzd(Server):
 
     def input(self):
         policy = "require" if self.plan.verifies else "off"
+        hosts = ", ".join(f'"{host}"' for host in self.plan.downstream)
+        downstream = f"downstream = [{hosts}]\n" if hosts else ""
         return open(self.write("catzd.toml", f"""listen = "127.0.0.1:{self.port}"
-[[catalog]]
+{downstream}[[catalog]]
 name = "{self.plan.catalog}"
 policy = "off"
 primaries = ["127.0.0.1:{self.plan.primary}"]
@@ -181,7 +189,7 @@ remote:
 acl:
   - id: notify
     address: 127.0.0.1
-    action: notify
+    action: [notify, transfer]
 template:
 {self.template("default")}{self.template("member")}zone:
   - domain: {self.plan.catalog}
@@ -198,6 +206,7 @@ class Nsd(Server):
     name: {one}
     request-xfr: 127.0.0.1@{self.plan.primary} NOKEY
     allow-notify: 127.0.0.1 NOKEY
+    provide-xfr: 127.0.0.1 NOKEY
 """ for one in self.plan.members)
         return ["nsd", "-d", "-c", self.write("nsd.conf", f"""server:
     server-count: 2

@@ -97,27 +97,18 @@ def member_texts():
     return {CATALOG: catalog_text(1, MEMBERS), **{one: member_text(one, 1) for one in MEMBERS}}
 
 
-class Peer:
-    """A primary of zones, given as texts, at a port of a loopback address, which notifies a port of 127.0.0.1."""
+class Daemon:
+    """A server in a folder of its own, at a port of a loopback address."""
     label, programs = "", ()
-    has_differences = True  # whether it answers IXFR with differences
-    has_digests = False  # whether it makes the ZONEMD records of a.test, which catzd then requires
-    refusals = ()  # lines of catzd's log that are expected of its transfers
 
-    def __init__(self, folder, port, secondary, texts=None, address="127.0.0.1"):
-        self.folder, self.port, self.secondary, self.address = pathlib.Path(folder), port, secondary, address
+    def __init__(self, folder, port, address="127.0.0.1"):
+        self.folder, self.port, self.address = pathlib.Path(folder), port, address
         self.folder.mkdir(parents=True)
-        self.log = open(self.folder / "log", "wb")
-        self.zones = texts or member_texts()
-        for zone, text in self.zones.items():
-            self.write(zone, text)
+        self.log, self.process = open(self.folder / "log", "wb"), None
 
     @classmethod
     def is_installed(cls):
         return all(shutil.which(program) for program in cls.programs)
-
-    def write(self, zone, text):
-        (self.folder / f"{zone}.zone").write_text(text)
 
     def config(self, file, text):
         (self.folder / file).write_text(text)
@@ -131,10 +122,8 @@ class Peer:
                                         stderr=self.log)
         return self
 
-    def change(self, zone, text):
-        """Replaces a zone and has the server read it, which then sends NOTIFY."""
-        self.write(zone, text)
-        self.reload(zone)
+    def is_running(self):
+        return self.process is not None and self.process.poll() is None
 
     def stop(self):
         self.process.send_signal(signal.SIGTERM)
@@ -143,6 +132,27 @@ class Peer:
         except subprocess.TimeoutExpired:
             self.process.kill()
         self.log.close()
+
+
+class Peer(Daemon):
+    """A primary of zones, given as texts, which notifies a port of 127.0.0.1."""
+    has_differences = True  # whether it answers IXFR with differences
+    has_digests = False  # whether it makes the ZONEMD records of a.test, which catzd then requires
+    refusals = ()  # lines of catzd's log that are expected of its transfers
+
+    def __init__(self, folder, port, secondary, texts=None, address="127.0.0.1"):
+        super().__init__(folder, port, address)
+        self.secondary, self.zones = secondary, texts or member_texts()
+        for zone, text in self.zones.items():
+            self.write(zone, text)
+
+    def write(self, zone, text):
+        (self.folder / f"{zone}.zone").write_text(text)
+
+    def change(self, zone, text):
+        """Replaces a zone and has the server read it, which then sends NOTIFY."""
+        self.write(zone, text)
+        self.reload(zone)
 
 
 class Knot(Peer):

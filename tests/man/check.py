@@ -181,7 +181,7 @@ def policies():
 
 def limits():
     """The limits of a configuration, by their names."""
-    text = text_of(LIMITS) + text_of("crates/dz_config/src/config.rt")
+    text = text_of(LIMITS) + text_of("crates/dz_config/src/config.rt") + text_of("crates/dz_config/src/downstream.rt")
     return dict(re.findall(r"^pub const (\w+): usize = ([\d_]+);", text, re.M))
 
 
@@ -269,7 +269,8 @@ def compare():
     nested = [item.split()[1] for item in items(section(CONFIGURATION, "A catalog")) if item.startswith("Cm ")]
     all_of.same("policy", policies(), CONFIGURATION, nested)
     shown = {"CATALOGS": "1 to {} tables", "CATALOG_GROUPS": "Up to {} tables", "PRIMARIES": "1 to {} addresses",
-             "WORD_OCTETS": "1 to {} characters", "TEXT_OCTETS": "{} octets"}
+             "WORD_OCTETS": "1 to {} characters", "TEXT_OCTETS": "{} octets",
+             "DOWNSTREAM": "0 to {} addresses"}
     all_of.same("limit", limits(), CONFIGURATION, list(shown))
     for name, number in limits().items():
         all_of.has(f"the limit {name}", shown.get(name, name + " {}").format(f"{int(number):,}"), CONFIGURATION)

@@ -58,7 +58,7 @@ impl fmt::Display for Advice {
             ),
             Expected::Within => write!(
                 f,
-                "line {line}: expected 1 to 8 catalogs, at most 64 groups in each, and 1 to 8 primaries in each"
+                "line {line}: expected 1 to 8 catalogs, at most 64 groups in each, 1 to 8 primaries in each, and at most 16 downstream addresses"
             ),
             Expected::Once => write!(
                 f,

@@ -1,5 +1,5 @@
 //! The keys of a configuration, and what each takes.
-use dz_member::{is_word, read_peer, read_policy};
+use dz_member::{is_word, read_host, read_peer, read_policy};
 use dz_name::Name;
 
 /// A table of a configuration.
@@ -27,7 +27,7 @@ impl Place {
     pub(crate) fn keys(self) -> &'static str {
         match self {
             Place::Document =>
-                "listen in front of every table, or a table [[catalog]] or [[catalog.group]]",
+                "listen or downstream in front of every table, or a table [[catalog]] or [[catalog.group]]",
             Place::Catalog => "name, policy or primaries",
             Place::Group => "word, policy or primaries",
         }
@@ -38,6 +38,7 @@ impl Place {
 #[derive(Clone, Copy, Debug, PartialEq, Eq)]
 pub enum Key {
     Listen,
+    Downstream,
     Name,
     Policy,
     Primaries,
@@ -49,6 +50,7 @@ impl Key {
     pub(crate) fn of(place: Place, name: &str) -> Option<Key> {
         match (place, name) {
             (Place::Document, "listen") => Some(Key::Listen),
+            (Place::Document, "downstream") => Some(Key::Downstream),
             (Place::Catalog, "name") => Some(Key::Name),
             (Place::Group, "word") => Some(Key::Word),
             (Place::Catalog | Place::Group, "policy") => Some(Key::Policy),
@@ -61,6 +63,7 @@ impl Key {
     pub fn name(self) -> &'static str {
         match self {
             Key::Listen => "listen",
+            Key::Downstream => "downstream",
             Key::Name => "name",
             Key::Policy => "policy",
             Key::Primaries => "primaries",
@@ -72,6 +75,7 @@ impl Key {
     pub fn takes(self) -> &'static str {
         match self {
             Key::Listen => "an address and a port in quotes, \"192.0.2.10:53\"",
+            Key::Downstream => "at most 16 addresses in brackets, [\"192.0.2.3\"]",
             Key::Name => "a domain name in quotes, \"catalog.example.\"",
             Key::Policy => "\"off\", \"present\" or \"require\"",
             Key::Primaries => "1 to 8 addresses in brackets, [\"192.0.2.1\", \"192.0.2.2:5353\"]",
@@ -84,6 +88,7 @@ impl Key {
         let octets = text.as_bytes();
         match self {
             Key::Listen | Key::Primaries => read_peer(octets).is_some(),
+            Key::Downstream => read_host(octets).is_some(),
             Key::Name => Name::parse(octets).is_ok(),
             Key::Policy => read_policy(octets).is_some(),
             Key::Word => is_word(octets),

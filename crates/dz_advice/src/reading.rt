@@ -67,6 +67,7 @@ impl Reading {
     fn mark(&mut self, key: Key) {
         match key {
             Key::Listen => self.has_listen = true,
+            Key::Downstream => {}
             Key::Name | Key::Word => self.has_name = true,
             Key::Policy => self.has_policy = true,
             Key::Primaries => self.has_primaries = true,

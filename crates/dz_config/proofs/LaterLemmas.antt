@@ -1,6 +1,6 @@
 -- No fault of a document is that it is no TOML.
-use Rattle.std.proofs.Common.{◌≡◌, ℕ, true, false, List, [], ◌∷◌, ◌++◌, map}
-use Rattle.std.specs.Prelude.{Option, Some, None, Result, Ok, Err, nat_le, not, codes, if◌then◌else◌}
+use Rattle.std.proofs.Common.{◌≡◌, ℕ, Bool, true, false, List, [], ◌∷◌, ◌++◌, length, map}
+use Rattle.std.specs.Prelude.{Option, Some, None, Result, Ok, Err, nat_le, nat_lt, not, codes, if◌then◌else◌}
 use Rattle.std.specs.List.{fold, list_any}
 use Rattle.std.specs.Option.{option_and_then, option_map_or}
 use Rattle.dz_io.specs.declared.peer.Peer.{Peer}
@@ -10,9 +10,10 @@ use Rattle.dz_name.specs.Text.{name_of_text}
 use Rattle.dz_name.specs.Words.{Name}
 use Rattle.toml.specs.Data.{Data, Members, get_member, as_str, as_array, as_table}
 use Rattle.dz_config.specs.Config.{IsDocument, IsFaultOf}
-use Rattle.dz_config.specs.Document.{is_key, keys_of, known, wanted, list_of, text_at, values_at, name_read, name_from, policy_from, peer_from, primary_of, primaries_of, group_in, group_of, groups_from, catalog_in, catalog_of, catalogs_of, settings_of, judged, config_of}
-use Rattle.dz_member.specs.Peer.{policy_of, peer_of}
+use Rattle.dz_config.specs.Document.{is_key, keys_of, known, wanted, list_of, text_at, values_at, name_read, name_from, policy_from, peer_from, primary_of, primaries_of, group_in, group_of, groups_from, catalog_in, catalog_of, catalogs_of, host_from, downstream_host, hosts_from, addresses_of, settings_of, judged, said_of, config_of}
+use Rattle.dz_member.specs.Peer.{policy_of, host_of, peer_of}
 use Rattle.dz_config.specs.Reading.{Reading, number_of, least, both, made, read_in, more, gathered}
+use Rattle.dz_config.specs.declared.config.Said.{Said}
 use Rattle.dz_config.specs.declared.fault.ConfigFault.{ConfigFault}
 use Rattle.dz_config.specs.declared.fault.ConfigFault.TheVariants.{NotToml, UnknownKey, UnknownPolicy, BadPeer, OutOfLimits, Twice}
 use Rattle.dz_config.specs.declared.keys.Place.{Place}
@@ -114,18 +115,34 @@ of_catalog value = of_in catalog_in (wanted (as_table value)) of_catalog_in (of_
 of_catalogs : (table : Members) → later (catalogs_of table)
 of_catalogs table = of_in (λ values. gathered (map catalog_of values)) (values_at (codes "catalog") table) (λ values. of_all catalog_of values of_catalog) (of_values (codes "catalog") table)
 
+of_host : (text : List ℕ) → later (host_from text)
+unfolding later
+of_host text = elim (host_of text) as (λ o. later (option_map_or Ok o (Err BadPeer))) [ None ↦ λ e. cc | Some x ↦ tt ]
+
+of_downstream : (value : Data) → later (downstream_host value)
+of_downstream value = of_in host_from (wanted (as_str value)) of_host (of_wanted (as_str value))
+
+of_hosts_from : (found : Option Data) (table : Members) → later (hosts_from found table)
+unfolding later
+of_hosts_from None table = tt
+of_hosts_from (Some value) table = of_in (λ values. gathered (map downstream_host values)) (values_at (codes "downstream") table) (λ values. of_all downstream_host values of_downstream) (of_values (codes "downstream") table)
+
 of_settings : (table : Members) → later (settings_of table)
 of_settings table =
     of_made _ _
-    (of_both _ _ (of_known Document table) (of_both _ _ (of_in peer_from (text_at (codes "listen") table) of_peer (of_text (codes "listen") table)) (of_catalogs table)))
+    (of_both _ _ (of_known Document table)
+    (of_both _ _ (of_in peer_from (text_at (codes "listen") table) of_peer (of_text (codes "listen") table))
+    (of_both _ _ (of_catalogs table) (of_hosts_from (get_member (codes "downstream") table) table))))
 
-of_judged : (settings : Peer × List CatalogSettings) → later (judged settings)
+of_tests : (a b d : Bool) (said : Said) → later (if not a then Err OutOfLimits else if b then Err OutOfLimits else if not d then Err Twice else Ok said)
 unfolding later
-of_judged settings =
-    elim (is_within_limits settings.1) as (λ a. later (if not a then Err OutOfLimits else if not (has_each_once settings.1) then Err Twice else Ok settings)) [
-      | false ↦ λ e. cc
-      | true ↦ elim (has_each_once settings.1) as (λ b. later (if not b then Err Twice else Ok settings)) [ false ↦ λ e. cc | true ↦ tt ]
-    ]
+of_tests false b d said = λ e. cc
+of_tests true true d said = λ e. cc
+of_tests true false false said = λ e. cc
+of_tests true false true said = tt
+
+of_judged : (settings : Peer × (List CatalogSettings × List Peer)) → later (judged settings)
+of_judged settings = of_tests (is_within_limits settings.1.0) (nat_lt 16 (length settings.1.1)) (has_each_once settings.1.0) (record { listen = settings.0; config = settings.1.0; downstream = addresses_of settings.1.1 })
 
 never : {X : Type 0} (r : Reading X) → later r → r ≡ Err NotToml → ⊥
 unfolding later
@@ -133,4 +150,5 @@ never (Ok x) a e = cc
 never (Err f) a e = let g : f ≡ NotToml = cc in a g
 
 pub not_toml : (text : List ℕ) → IsFaultOf text NotToml → (table : Members) → IsDocument text table → ⊥
-not_toml text fault table document = never (config_of table) (of_in judged (settings_of table) of_judged (of_settings table)) (fault.least table document)
+not_toml text fault table document =
+    never (config_of table) (of_made (λ s. (s.listen, s.config)) (said_of table) (of_in judged (settings_of table) of_judged (of_settings table))) (fault.least table document)

@@ -1,3 +1,4 @@
 pub mod TreeLemmas
 pub mod PartLemmas
 pub mod LaterLemmas
+pub mod DownstreamLemmas

@@ -5,7 +5,9 @@ use Rattle.dz_member.specs.declared.config.CatalogSettings.{CatalogSettings}
 use Rattle.dz_name.specs.Words.{Octets}
 use Rattle.toml.specs.Data.{Members}
 use Rattle.toml.specs.Parse.{parse_document}
-use Rattle.dz_config.specs.Document.{config_of}
+use Rattle.dz_config.specs.Reading.{Reading}
+use Rattle.dz_config.specs.Document.{config_of, downstream_of}
+use Rattle.dz_config.specs.declared.config.Said.{Said}
 use Rattle.dz_config.specs.declared.config.TheConstants.{TEXT_OCTETS}
 use Rattle.dz_config.specs.declared.fault.ConfigFault.{ConfigFault}
 use Rattle.dz_config.specs.declared.fault.ConfigFault.TheVariants.{NotToml}
@@ -23,14 +25,22 @@ pub record IsFaultOf (text : Octets) (fault : ConfigFault) : Type 0 where
   pub least : (table : Members) → IsDocument text table → config_of table ≡ Err fault
   pub document : (fault ≡ NotToml → ⊥) → (table : Members) × IsDocument text table
 
--- what a call read: the configuration of the text's document, or its fault; want of memory tells nothing
+-- what a call read: what the text's document gives, or its fault; want of memory tells nothing
+abbrev pub ReadsBy : {X : Type 0} → (Members → Reading X) → Octets → Result X ConfigError → Type 0
+ReadsBy read text (Ok x) = (table : Members) × IsDocument text table × (read table ≡ Ok x)
+ReadsBy read text (Err (Fault fault)) = IsFaultOf text fault
+ReadsBy read text (Err OutOfMemory) = ⊤
+
+-- the configuration
 abbrev pub Reads : Octets → Result (Peer × List CatalogSettings) ConfigError → Type 0
-Reads text (Ok config) = (table : Members) × IsDocument text table × (config_of table ≡ Ok config)
-Reads text (Err (Fault fault)) = IsFaultOf text fault
-Reads text (Err OutOfMemory) = ⊤
+Reads text result = ReadsBy config_of text result
+
+-- the addresses to which zones are sent
+abbrev pub ReadsDownstream : Octets → Result (List Octets) ConfigError → Type 0
+ReadsDownstream text result = ReadsBy downstream_of text result
 
 -- the same of a document
-abbrev pub ReadsTable : Result (Peer × List CatalogSettings) ConfigError → Result (Peer × List CatalogSettings) ConfigFault → Type 0
-ReadsTable (Ok config) reading = reading ≡ Ok config
+abbrev pub ReadsTable : Result Said ConfigError → Reading Said → Type 0
+ReadsTable (Ok said) reading = reading ≡ Ok said
 ReadsTable (Err (Fault fault)) reading = reading ≡ Err fault
 ReadsTable (Err OutOfMemory) reading = ⊤

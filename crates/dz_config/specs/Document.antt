@@ -1,6 +1,6 @@
 -- Meaning: the configuration that a document has, or the least fault of it. A document is a table as TOML defines it
 -- (TOML 1.1): however it is written, by headers, dotted keys or inline tables.
-use Rattle.std.specs.Prelude.{Bool, ◌||◌, not, List, [], ◌∷◌, map, codes, Option, Some, None, Result, Ok, Err, if◌then◌else◌}
+use Rattle.std.specs.Prelude.{Bool, ◌||◌, not, nat_lt, List, [], ◌∷◌, length, map, codes, Option, Some, None, Result, Ok, Err, if◌then◌else◌}
 use Rattle.std.specs.List.{list_any}
 use Rattle.std.specs.Option.{option_and_then, option_map_or}
 use Rattle.std.specs.Str.{bytes_eq}
@@ -12,15 +12,17 @@ use Rattle.dz_member.specs.declared.config.Policy.{Policy}
 use Rattle.dz_name.specs.Text.{name_of_text}
 use Rattle.dz_name.specs.Words.{Name, Octets}
 use Rattle.toml.specs.Data.{Data, Items, no_items, item, Members, no_members, member, get_member, as_str, as_array, as_table}
-use Rattle.dz_member.specs.Peer.{peer_of, policy_of}
+use Rattle.dz_member.specs.Peer.{host_of, peer_of, policy_of}
 use Rattle.dz_config.specs.Reading.{Reading, both, made, read_in, gathered}
+use Rattle.dz_config.specs.declared.downstream.TheConstants.{DOWNSTREAM}
+use Rattle.dz_config.specs.declared.config.Said.{Said}
 use Rattle.dz_config.specs.declared.fault.ConfigFault.TheVariants.{UnknownKey, MissingValue, BadName, UnknownPolicy, BadPeer, OutOfLimits, Twice}
 use Rattle.dz_config.specs.declared.keys.Place.{Place}
 use Rattle.dz_config.specs.declared.keys.Place.TheVariants.{Document, Catalog, Group}
 
 -- the keys of the document, of a catalog and of a group
 abbrev pub is_key : Place → Octets → Bool
-is_key Document key = bytes_eq key (codes "listen") || bytes_eq key (codes "catalog")
+is_key Document key = bytes_eq key (codes "listen") || (bytes_eq key (codes "catalog") || bytes_eq key (codes "downstream"))
 is_key Catalog key = bytes_eq key (codes "name") || (bytes_eq key (codes "policy") || (bytes_eq key (codes "primaries") || bytes_eq key (codes "group")))
 is_key Group key = bytes_eq key (codes "word") || (bytes_eq key (codes "policy") || bytes_eq key (codes "primaries"))
 
@@ -97,18 +99,46 @@ catalog_of value = read_in catalog_in (wanted (as_table value))
 abbrev pub catalogs_of : Members → Reading (List CatalogSettings)
 catalogs_of table = read_in (λ values. gathered (map catalog_of values)) (values_at (codes "catalog") table)
 
--- where the peer listens, and the catalogs, within their limits or not
-abbrev pub settings_of : Members → Reading (Peer × List CatalogSettings)
+-- the hosts to which zones are sent, by their addresses alone
+abbrev pub host_from : Octets → Reading Peer
+host_from text = option_map_or Ok (host_of text) (Err BadPeer)
+
+abbrev pub downstream_host : Data → Reading Peer
+downstream_host value = read_in host_from (wanted (as_str value))
+
+-- they may be missing
+abbrev pub hosts_from : Option Data → Members → Reading (List Peer)
+hosts_from None table = Ok []
+hosts_from (Some value) table = read_in (λ values. gathered (map downstream_host values)) (values_at (codes "downstream") table)
+
+abbrev pub hosts_of : Members → Reading (List Peer)
+hosts_of table = hosts_from (get_member (codes "downstream") table) table
+
+-- where the peer listens, the catalogs, and the hosts, within their limits or not
+abbrev pub settings_of : Members → Reading (Peer × (List CatalogSettings × List Peer))
 settings_of table =
-    made (λ p. p.1) (both (known Document table) (both (read_in peer_from (text_at (codes "listen") table)) (catalogs_of table)))
+    made (λ p. p.1)
+    (both (known Document table) (both (read_in peer_from (text_at (codes "listen") table)) (both (catalogs_of table) (hosts_of table))))
+
+-- the addresses of hosts
+abbrev pub addresses_of : List Peer → List Octets
+addresses_of hosts = map (λ p. p.address) hosts
 
 -- counts and words are judged last, and then whether a catalog or a word stands twice
-abbrev pub judged : Peer × List CatalogSettings → Reading (Peer × List CatalogSettings)
+abbrev pub judged : Peer × (List CatalogSettings × List Peer) → Reading Said
 judged settings =
-    if not (is_within_limits settings.1) then Err OutOfLimits
-    else if not (has_each_once settings.1) then Err Twice
-    else Ok settings
+    if not (is_within_limits settings.1.0) then Err OutOfLimits
+    else if nat_lt DOWNSTREAM (length settings.1.1) then Err OutOfLimits
+    else if not (has_each_once settings.1.0) then Err Twice
+    else Ok (record { listen = settings.0; config = settings.1.0; downstream = addresses_of settings.1.1 })
 
--- the configuration of a document, or its least fault
+-- what a document says, or its least fault
+abbrev pub said_of : Members → Reading Said
+said_of table = read_in judged (settings_of table)
+
+-- the configuration, and the addresses to which zones are sent
 abbrev pub config_of : Members → Reading (Peer × List CatalogSettings)
-config_of table = read_in judged (settings_of table)
+config_of table = made (λ s. (s.listen, s.config)) (said_of table)
+
+abbrev pub downstream_of : Members → Reading (List Octets)
+downstream_of table = made (λ s. s.downstream) (said_of table)

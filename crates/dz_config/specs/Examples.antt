@@ -1,6 +1,6 @@
 -- Judge: documents with each fault, computed by the checker.
 use Rattle.std.specs.Prelude.{◌≡◌, refl, pos, Err, codes}
-use Rattle.toml.specs.Data.{Data, string, integer, array, table, no_items, no_members, member}
+use Rattle.toml.specs.Data.{Data, string, integer, array, table, no_items, item, no_members, member}
 use Rattle.dz_config.specs.Document.{config_of}
 use Rattle.dz_config.specs.declared.fault.ConfigFault.TheVariants.{UnknownKey, MissingValue, BadPeer, OutOfLimits}
 
@@ -21,3 +21,10 @@ bad_listen = refl
 
 pub table_for_array : config_of (member (codes "catalog") (table (member (codes "x") (integer (pos 1)) no_members)) (member (codes "listen") listen no_members)) ≡ Err MissingValue
 table_for_array = refl
+
+-- a host is an address alone
+pub bad_host : config_of (member (codes "catalog") (array no_items) (member (codes "downstream") (array (item (string (codes "1.2.3.4:53")) no_items)) (member (codes "listen") listen no_members))) ≡ Err BadPeer
+bad_host = refl
+
+pub no_hosts : config_of (member (codes "catalog") (array no_items) (member (codes "downstream") (array no_items) (member (codes "listen") listen no_members))) ≡ Err OutOfLimits
+no_hosts = refl

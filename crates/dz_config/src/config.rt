@@ -2,23 +2,48 @@
 
 ghost use Rattle.std.specs.Prelude.{◌≡◌};
 ghost use Rattle.toml.specs.View.{table_view};
-ghost use Rattle.dz_config.specs.Config.{Reads, ReadsTable};
-ghost use Rattle.dz_config.specs.Document.{config_of, judged};
+ghost use Rattle.dz_config.specs.Config.{Reads, ReadsBy, ReadsDownstream, ReadsTable};
+ghost use Rattle.dz_config.specs.Document.{said_of, judged};
 
 use crate::document::settings;
+use crate::downstream::Downstream;
 use crate::fault::{ConfigError, ConfigFault};
 use dz_io::Peer;
-use dz_member::Config;
+use dz_member::{Config, Peers};
 use std::alloc::Global;
 use toml::Table;
 
 /// How many octets the text of a configuration has at most: 1 MiB.
 pub const TEXT_OCTETS: usize = 1_048_576;
 
+/// What a text says: where the server listens, its catalogs, and the addresses to which zones are sent.
+#[derive(Drop)]
+pub struct Said {
+    pub listen: Peer,
+    pub config: Config,
+    pub downstream: Downstream,
+}
+
 /// Where the server listens, and its catalogs, as a TOML text has them. An error is the least fault that holds, or want
 /// of memory.
 pub fn read_config(alloc: Global, text: &[u8]) -> Result<(Peer, Config), ConfigError>
     ensures { Reads text.now result }
+{
+    let Said { listen, config, .. } = read_said(alloc, text)?;
+    Ok((listen, config))
+}
+
+/// The addresses to which zones are sent, as a TOML text has them; none where it has no such key. An error is that of
+/// [`read_config`].
+pub fn read_downstream(alloc: Global, text: &[u8]) -> Result<Downstream, ConfigError>
+    ensures { ReadsDownstream text.now result }
+{
+    let said = read_said(alloc, text)?;
+    Ok(said.downstream)
+}
+
+fn read_said(alloc: Global, text: &[u8]) -> Result<Said, ConfigError>
+    ensures { ReadsBy said_of text.now result }
 {
     if TEXT_OCTETS < text.len() {
         return Err(ConfigError::Fault(ConfigFault::NotToml));
@@ -35,13 +60,13 @@ pub fn read_config(alloc: Global, text: &[u8]) -> Result<(Peer, Config), ConfigE
     }
 }
 
-/// The configuration of a document.
-fn read_table(alloc: Global, table: &Table) -> Result<(Peer, Config), ConfigError>
-    ensures { ReadsTable result (config_of (table_view table.now)) }
+/// What a document says.
+fn read_table(alloc: Global, table: &Table) -> Result<Said, ConfigError>
+    ensures { ReadsTable result (said_of (table_view table.now)) }
 {
     match settings(alloc, table)? {
         Ok(settings) => match judge(settings) {
-            Ok(settings) => Ok(settings),
+            Ok(said) => Ok(said),
             Err(fault) => Err(ConfigError::Fault(fault)),
         },
         Err(fault) => Err(ConfigError::Fault(fault)),
@@ -49,14 +74,24 @@ fn read_table(alloc: Global, table: &Table) -> Result<(Peer, Config), ConfigErro
 }
 
 /// Settings whose counts and words are within their limits, and in which nothing stands twice.
-fn judge(settings: (Peer, Config)) -> Result<(Peer, Config), ConfigFault>
+fn judge(settings: (Peer, (Config, Peers))) -> Result<Said, ConfigFault>
     ensures { result ≡ judged settings }
 {
-    if !settings.1.is_within_limits() {
+    let (listen, (config, hosts)) = settings;
+    if !config.is_within_limits() {
         return Err(ConfigFault::OutOfLimits);
     }
-    if !settings.1.has_each_once() {
-        return Err(ConfigFault::Twice);
+    match Downstream::of(hosts.as_slice()) {
+        None => Err(ConfigFault::OutOfLimits),
+        Some(downstream) => {
+            if !config.has_each_once() {
+                return Err(ConfigFault::Twice);
+            }
+            Ok(Said {
+                listen,
+                config,
+                downstream,
+            })
+        }
     }
-    Ok(settings)
 }

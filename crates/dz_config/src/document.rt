@@ -2,8 +2,8 @@
 
 ghost use Rattle.std.specs.Prelude.{◌≡◌, IfOk, map, codes};
 ghost use Rattle.toml.specs.View.{view, table_view};
-ghost use Rattle.dz_config.specs.Document.{text_at, name_from, policy_from, peer_from, primary_of, primaries_of, group_in, group_of, groups_of, catalog_in, catalog_of, catalogs_of, settings_of};
-ghost use Rattle.dz_config.specs.Reading.{made, read_in, gathered};
+ghost use Rattle.dz_config.specs.Document.{text_at, name_from, policy_from, peer_from, primary_of, primaries_of, group_in, group_of, groups_of, catalog_in, catalog_of, catalogs_of, host_from, downstream_host, hosts_of, settings_of};
+ghost use Rattle.dz_config.specs.Reading.{both, made, read_in, gathered};
 
 use crate::fault::ConfigFault;
 use crate::keys::{Place, known};
@@ -11,7 +11,8 @@ use crate::reading::{both, more};
 use crate::tree::{table_of, text_at, text_of, value_at, values_at};
 use dz_io::Peer;
 use dz_member::{
-    CatalogSettings, Config, GroupSettings, Groups, Peers, Policy, read_peer, read_policy,
+    CatalogSettings, Config, GroupSettings, Groups, Peers, Policy, read_host, read_peer,
+    read_policy,
 };
 use dz_name::{Name, Octets};
 use std::alloc::{AllocError, Global};
@@ -275,16 +276,77 @@ fn catalogs_at(alloc: Global, table: &Table) -> Result<Result<Config, ConfigFaul
     }
 }
 
+/// A host by its address alone.
+fn host_from(text: &str) -> Result<Peer, ConfigFault>
+    ensures { result ≡ host_from text.now }
+{
+    match read_host(text.as_bytes()) {
+        Some(host) => Ok(host),
+        None => Err(ConfigFault::BadPeer),
+    }
+}
+
+/// One of the hosts to which zones are sent.
+fn downstream_host(value: &Value) -> Result<Peer, ConfigFault>
+    ensures { result ≡ downstream_host (view value.now) }
+{
+    match text_of(value) {
+        Ok(text) => host_from(text),
+        Err(fault) => Err(fault),
+    }
+}
+
+/// The hosts of these values, however many.
+fn hosts(alloc: Global, values: &[Value]) -> Result<Result<Vec<Peer>, ConfigFault>, AllocError>
+    ensures { IfOk result (λ r. made (λ v. v.items) r
+        ≡ gathered (map downstream_host (map view values.now))) }
+{
+    let mut all = Ok(Vec::new(alloc));
+    'values: for value in values {
+        all = more(all, downstream_host(value))?;
+    }
+    Ok(all)
+}
+
+/// The hosts to which zones are sent; none where there is no such key.
+fn hosts_at(alloc: Global, table: &Table) -> Result<Result<Peers, ConfigFault>, AllocError>
+    ensures { IfOk result (λ r. r ≡ hosts_of (table_view table.now)) }
+{
+    if value_at(table, "downstream").is_none() {
+        return Ok(Ok(Peers::from_vec(Vec::new(alloc))));
+    }
+    match values_at(table, "downstream") {
+        Err(fault) => Ok(Err(fault)),
+        Ok(values) => match hosts(alloc, values)? {
+            Ok(hosts) => Ok(Ok(Peers::from_vec(hosts))),
+            Err(fault) => Ok(Err(fault)),
+        },
+    }
+}
+
+/// The catalogs of a document, and the hosts to which zones are sent.
+fn lists_at(
+    alloc: Global,
+    table: &Table,
+) -> Result<Result<(Config, Peers), ConfigFault>, AllocError>
+    ensures { IfOk result (λ r. r ≡
+        both (catalogs_of (table_view table.now)) (hosts_of (table_view table.now))) }
+{
+    let catalogs = catalogs_at(alloc, table)?;
+    let hosts = hosts_at(alloc, table)?;
+    Ok(both(catalogs, hosts))
+}
+
 /// The settings of a document, within their limits or not.
 pub(crate) fn settings(
     alloc: Global,
     table: &Table,
-) -> Result<Result<(Peer, Config), ConfigFault>, AllocError>
+) -> Result<Result<(Peer, (Config, Peers)), ConfigFault>, AllocError>
     ensures { IfOk result (λ r. r ≡ settings_of (table_view table.now)) }
 {
-    let catalogs = catalogs_at(alloc, table)?;
+    let lists = lists_at(alloc, table)?;
     let known = known(Place::Document, table);
-    match both(known, both(listen_at(table), catalogs)) {
+    match both(known, both(listen_at(table), lists)) {
         Ok(((), settings)) => Ok(Ok(settings)),
         Err(fault) => Ok(Err(fault)),
     }

@@ -61,7 +61,7 @@ pub(crate) fn least(one: ConfigFault, other: ConfigFault) -> ConfigFault
 pub enum ConfigError {
     /// The text has none.
     Fault(ConfigFault),
-    /// Memory is wanting.
+    /// No memory is left.
     OutOfMemory,
 }
 

@@ -25,7 +25,11 @@ fn is_key(place: Place, key: &[u8]) -> bool
     ensures { result ≡ is_key place key.now }
 {
     match place {
-        Place::Document => key == b"listen".as_slice() || key == b"catalog".as_slice(),
+        Place::Document => {
+            key == b"listen".as_slice()
+                || key == b"catalog".as_slice()
+                || key == b"downstream".as_slice()
+        }
         Place::Catalog => {
             key == b"name".as_slice()
                 || key == b"policy".as_slice()

@@ -3,12 +3,14 @@
 
 mod config;
 mod document;
+mod downstream;
 mod fault;
 mod keys;
 mod laws;
 mod reading;
 mod tree;
 
-pub use config::{TEXT_OCTETS, read_config};
+pub use config::{TEXT_OCTETS, read_config, read_downstream};
+pub use downstream::{DOWNSTREAM, Downstream};
 pub use fault::{ConfigError, ConfigFault};
 pub use laws::not_toml_is_exact;

@@ -25,7 +25,7 @@ pub(crate) fn both<A: Drop, B: Drop>(
     }
 }
 
-/// One value more behind the others, or the least fault.
+/// One value more after the others, or the least fault.
 pub(crate) fn more<T: Drop>(
     all: Result<Vec<T>, ConfigFault>,
     one: Result<T, ConfigFault>,

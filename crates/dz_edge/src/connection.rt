@@ -1,10 +1,11 @@
 //! A TCP connection that a client has made.
-ghost use Rattle.std.specs.Prelude.{◌≤◌, length, IfSome};
+ghost use Rattle.std.specs.Prelude.{◌≡◌, ◌≤◌, ◌+◌, length, vec_len, vec_capacity, IfSome};
 
 use dz_io::Peer;
 use mio::net::TcpStream;
 use std::alloc::Global;
 use std::io::{ErrorKind, Read, Write};
+use std::mem::swap;
 
 /// After how many seconds without a whole frame, or without progress in sending, a connection is closed.
 const LIMIT_SECONDS: u64 = 10;
@@ -16,8 +17,14 @@ pub(crate) struct Connection {
     pub peer: Peer,
     /// Octets that were read: a part of a frame, and what a turn has left.
     held: Vec<u8>,
-    /// Replies that the socket hasn't taken yet. Nothing is read before they are gone.
+    /// Replies of which the socket hasn't taken the last octet yet, in a room that is given back once it has. Nothing is read
+    /// before.
     unsent: Vec<u8>,
+    ghost given_back: { vec_len unsent ≡ 0 → vec_capacity unsent ≡ 0 },
+    /// How many octets of them the socket has taken.
+    sent: usize,
+    ghost taken: { sent ≤ vec_len unsent },
+    alloc: Global,
     /// The second of its last whole frame, or of its last progress in sending.
     seen: u64,
     /// It stands in the queue for a turn.
@@ -44,6 +51,8 @@ impl Connection {
             peer,
             held: Vec::new(alloc),
             unsent: Vec::new(alloc),
+            sent: 0,
+            alloc,
             seen: now,
             is_queued: false,
             is_ending: false,
@@ -68,7 +77,14 @@ impl Connection {
 
     /// Whether replies wait for the socket to take them.
     pub fn is_clogged(&self) -> bool {
-        !self.unsent.is_empty()
+        self.waits() > 0
+    }
+
+    /// How many octets of replies it keeps: all of a turn, until the socket has taken the last of them.
+    pub fn waits(&self) -> usize
+        ensures { result ≡ vec_len self.now.unsent }
+    {
+        self.unsent.len()
     }
 
     /// Whether it has been read to its end.
@@ -77,32 +93,42 @@ impl Connection {
     }
 
     /// Sends what waits, as far as the socket takes it. It answers whether the connection stands.
-    pub fn flush(&mut self, now: u64) -> bool {
+    pub fn flush(&mut self, now: u64) -> bool
+        ensures { vec_len self.new.unsent ≤ vec_len self.old.unsent }
+    {
         if self.unsent.is_empty() {
             return true;
         }
-        let Some(count) = push(&self.stream, self.unsent.as_slice()) else {
+        let rest = &self.unsent[self.sent..];
+        let Some(count) = push(&self.stream, rest) else {
             return false;
         };
         if count > 0 {
             self.seen = now;
         }
-        if count < self.unsent.len() {
-            self.unsent.drain(..count);
+        if count < rest.len() {
+            self.sent += count;
         } else {
-            self.unsent.clear();
+            self.unsent = Vec::new(self.alloc);
+            self.sent = 0;
         }
         true
     }
 
-    /// Sends the replies of a turn; what the socket doesn't take waits. It answers whether the connection stands, which it
-    /// doesn't for want of memory.
-    pub fn send(&mut self, replies: &[u8]) -> bool {
-        let Some(count) = push(&self.stream, replies) else {
+    /// Sends the replies of a turn, beside which nothing waits. Where the socket doesn't take all, their room moves here, and
+    /// an empty one is left in its place. It answers whether the connection stands.
+    pub fn send(&mut self, replies: &mut Vec<u8>) -> bool
+        ensures { vec_len self.new.unsent + vec_len replies.new
+            ≡ vec_len self.old.unsent + vec_len replies.old }
+    {
+        let Some(count) = push(&self.stream, replies.as_slice()) else {
             return false;
         };
-        let rest = replies.get(count..).unwrap_or(&[]);
-        rest.is_empty() || self.unsent.extend_from_slice(rest).is_ok()
+        if count < replies.len() {
+            swap(&mut self.unsent, replies);
+            self.sent = count;
+        }
+        true
     }
 
     /// Keeps octets that were read, behind those that it holds. It answers whether there was memory for them.
@@ -147,16 +173,18 @@ impl Connection {
 }
 
 /// Writes what the socket takes at once. It answers how many octets; none where the connection is broken.
-fn push(stream: &TcpStream, octets: &[u8]) -> Option<usize> {
+fn push(stream: &TcpStream, octets: &[u8]) -> Option<usize>
+    ensures { IfSome result (λ count. count ≤ length octets.now) }
+{
     let mut at = 0_usize;
     'pieces: for _ in 0..u64::MAX {
-        let rest = octets.get(at..).unwrap_or(&[]);
+        let rest = &octets[at..];
         if rest.is_empty() {
             return Some(at);
         }
         match (&*stream).write(rest) {
             Ok(0) => break,
-            Ok(count) => at = at.saturating_add(count),
+            Ok(count) => at += count,
             Err(error) if error.kind() == ErrorKind::WouldBlock => return Some(at),
             Err(error) if error.kind() == ErrorKind::Interrupted => {}
             Err(_) => break,

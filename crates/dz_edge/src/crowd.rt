@@ -1,7 +1,13 @@
 //! The connections of a worker.
+ghost use Rattle.std.specs.Prelude.{◌≡◌, ◌≤◌, ◌+◌, IfOk};
+ghost use Rattle.dz_edge.specs.Waiting.{waits_at, waiting_at};
+ghost use Rattle.dz_edge.specs.declared.waiting.TheConstants.{WAITING_OCTETS};
+
 use crate::connection::Connection;
+use crate::waiting::Waiting;
 use std::alloc::{AllocError, Global};
 use std::collections::VecDeque;
+use std::mem::replace;
 
 /// The connections of a worker, each at a place of its own, and the queue of those that are to have a turn. The place of
 /// the connection that has a turn is empty meanwhile, and isn't free.
@@ -10,11 +16,18 @@ pub(crate) struct Crowd {
     places: Vec<Option<Connection>>,
     free: Vec<usize>,
     queue: VecDeque<usize>,
+    /// The places of connections that ask for whole zones.
+    for_zones: VecDeque<usize>,
+    /// The octets that wait at the places together, so never more than may.
+    waiting: Waiting,
+    ghost sum: { waiting.octets ≡ waiting_at places.items },
 }
 
 impl Crowd {
     /// So many free places.
-    pub fn new(alloc: Global, size: usize) -> Result<Crowd, AllocError> {
+    pub fn new(alloc: Global, size: usize) -> Result<Crowd, AllocError>
+        ensures { IfOk result (λ crowd. crowd.waiting.octets ≡ 0) }
+    {
         let mut places = Vec::with_capacity(alloc, size)?;
         let mut free = Vec::with_capacity(alloc, size)?;
         'places: for place in 0..size {
@@ -25,7 +38,16 @@ impl Crowd {
             places,
             free,
             queue: VecDeque::with_capacity(alloc, size)?,
+            for_zones: VecDeque::with_capacity(alloc, size)?,
+            waiting: Waiting::new(),
         })
+    }
+
+    /// How much waits at the places together.
+    pub fn waiting(&self) -> Waiting
+        ensures { result ≡ self.now.waiting }
+    {
+        self.waiting
     }
 
     /// A place that is free. Where none is, the oldest connection makes room.
@@ -36,40 +58,78 @@ impl Crowd {
         self.free.pop()
     }
 
-    /// Puts a connection to its place.
+    /// Puts a connection to its place. It is closed, and its place freed, where more would wait than may.
     pub fn put(&mut self, place: usize, connection: Connection) {
-        if let Some(slot) = self.places.get_mut(place) {
-            *slot = Some(connection);
+        if self.waiting.has_room(connection.waits()) {
+            let _gone = self.change(place, Some(connection));
+        } else {
+            drop(connection);
+            self.release(place);
         }
+    }
+
+    /// Puts something else to a place, and answers what was there; the same where there is no such place.
+    fn change(&mut self, place: usize, slot: Option<Connection>) -> Option<Connection>
+        requires { self.old.waiting.octets + waits_at slot ≤ WAITING_OCTETS }
+        ensures { self.new.waiting.octets + waits_at result
+            ≡ self.old.waiting.octets + waits_at slot }
+    {
+        if place >= self.places.len() {
+            return slot;
+        }
+        self.waiting.add(octets_of(&slot));
+        let gone = replace(&mut self.places[place], slot);
+        self.waiting.take_off(octets_of(&gone));
+        gone
     }
 
     /// Takes a connection from its place for a turn.
     pub fn take(&mut self, place: usize) -> Option<Connection> {
-        let mut connection = self.places.get_mut(place)?.take()?;
+        let mut connection = self.change(place, None)?;
         connection.is_queued = false;
         Some(connection)
     }
 
     /// Closes the connection at a place, if it is there, and frees the place.
-    pub fn release(&mut self, place: usize) {
-        if let Some(slot) = self.places.get_mut(place) {
-            *slot = None;
+    pub fn release(&mut self, place: usize)
+        ensures { self.new.waiting.octets ≤ self.old.waiting.octets }
+    {
+        if place < self.places.len() {
+            let _gone = self.change(place, None);
             let _kept = self.free.push(place);
         }
     }
 
     /// Queues the connection at a place, where it isn't queued yet.
     pub fn queue(&mut self, place: usize) {
-        if let Some(Some(connection)) = self.places.get_mut(place) {
+        if place >= self.places.len() {
+            return;
+        }
+        if let Some(connection) = &mut self.places[place] {
             if !connection.is_queued {
                 connection.is_queued = self.queue.push_back(place).is_ok();
             }
         }
     }
 
+    /// Queues the connection at a place among those that ask for whole zones, and not among the others.
+    pub fn queue_for_zone(&mut self, place: usize) {
+        if place >= self.places.len() {
+            return;
+        }
+        if let Some(connection) = &mut self.places[place] {
+            if !connection.is_queued {
+                connection.is_queued = self.for_zones.push_back(place).is_ok();
+            }
+        }
+    }
+
     /// The system has told that the connection at a place ends.
     pub fn end(&mut self, place: usize) {
-        if let Some(Some(connection)) = self.places.get_mut(place) {
+        if place >= self.places.len() {
+            return;
+        }
+        if let Some(connection) = &mut self.places[place] {
             connection.is_ending = true;
         }
     }
@@ -77,6 +137,16 @@ impl Crowd {
     /// The place that is the next in the queue.
     pub fn next(&mut self) -> Option<usize> {
         self.queue.pop_front()
+    }
+
+    /// The place of the connection that is the next to have a whole zone.
+    pub fn next_for_zone(&mut self) -> Option<usize> {
+        self.for_zones.pop_front()
+    }
+
+    /// Whether a connection asks for a whole zone.
+    pub fn has_for_zone(&self) -> bool {
+        !self.for_zones.is_empty()
     }
 
     /// How many places stand in the queue.
@@ -113,17 +183,30 @@ impl Crowd {
     }
 
     fn look(&mut self, place: usize, now: u64) -> Look {
-        let Some(Some(connection)) = self.places.get_mut(place) else {
+        let Some(mut connection) = self.change(place, None) else {
             return Look::Leave;
         };
         let was_clogged = connection.is_clogged();
-        if !connection.flush(now) || connection.is_late(now) {
+        let stands = connection.flush(now) && !connection.is_late(now);
+        let is_free = was_clogged && !connection.is_clogged();
+        self.put(place, connection);
+        if !stands {
             Look::Close
-        } else if was_clogged && !connection.is_clogged() {
+        } else if is_free {
             Look::Queue
         } else {
             Look::Leave
         }
+    }
+}
+
+/// How many octets wait at a place where this is.
+fn octets_of(slot: &Option<Connection>) -> usize
+    ensures { result ≡ waits_at slot.now }
+{
+    match slot {
+        Some(connection) => connection.waits(),
+        None => 0,
     }
 }
 

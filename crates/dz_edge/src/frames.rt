@@ -7,6 +7,17 @@ pub(crate) const LENGTH_OCTETS: usize = 2;
 /// The most octets of a frame.
 pub(crate) const FRAME_OCTETS: usize = LENGTH_OCTETS + 65_535;
 
+/// How many octets a message has before its question (RFC 1035 section 4.1.1).
+const HEADER_OCTETS: usize = 12;
+
+/// The most octets of a label, and the most labels of a name with the root (RFC 1035 section 2.3.4).
+const LABEL_OCTETS: u8 = 63;
+
+const LABELS: usize = 128;
+
+/// QTYPE AXFR (RFC 1035 section 3.2.3), of which the first octet is 0.
+const AXFR: u8 = 252;
+
 /// QR and the opcode, in the third octet of a message (RFC 1035 section 4.1.1).
 const KIND: u8 = 0xf8;
 
@@ -38,6 +49,29 @@ pub(crate) fn whole_frames(octets: &[u8]) -> usize {
         }
     }
     at
+}
+
+/// Whether the first message of these frames has QTYPE AXFR, and so asks for a whole zone (RFC 5936 section 2.1).
+pub(crate) fn asks_for_zone(frames: &[u8]) -> bool {
+    match name_end(frames, LENGTH_OCTETS + HEADER_OCTETS) {
+        Some(end) => matches!(frames.get(end..), Some([0, AXFR, ..])),
+        None => false,
+    }
+}
+
+/// Where the name ends that begins at `at`; none where it isn't whole, or has a pointer.
+fn name_end(octets: &[u8], at: usize) -> Option<usize> {
+    let mut at = at;
+    'labels: for _ in 0..LABELS {
+        match octets.get(at) {
+            Some(0) => return Some(at.saturating_add(1)),
+            Some(size) if *size <= LABEL_OCTETS => {
+                at = at.saturating_add(1 + *size as usize);
+            }
+            _ => break,
+        }
+    }
+    None
 }
 
 /// Whether a message is the reply to a NOTIFY that was taken: with no error (RFC 1996 section 4.7).

@@ -1,7 +1,8 @@
 ghost use Rattle.std.specs.Prelude.{◌≡◌, ◌≤◌, IsSome, None, length};
 
-use crate::frames::takes_notify;
+use crate::frames::{asks_for_zone, takes_notify};
 use crate::stop::mask_of;
+use crate::waiting::{WAITING_OCTETS, Waiting};
 use crate::{Bell, HostClock, HostPorts, TcpAcceptor, Turn, UdpDatagrams};
 use dz_io::{
     Accepted, Acceptor, Clock, Datagrams, Dialer, Failed, Peer, Ports, Received, Rest, Sink, Source,
@@ -149,6 +150,16 @@ fn a_notify_is_taken_by_a_reply_with_no_error(rt: HostRuntime) {
     assert!(rt; !takes_notify(b"\x12\x34\xa4\x05"));
     assert!(rt; !takes_notify(b"\x12\x34\x84\x00"));
     assert!(rt; !takes_notify(b"\x12\x34\xa4"));
+}
+
+#[test]
+fn a_request_for_a_zone_is_told_by_its_type(rt: HostRuntime) {
+    let zone = b"\x00\x13\0\x90\0\0\0\x01\0\0\0\0\0\0\x01a\0\0\xfc\0\x01";
+    assert!(rt; asks_for_zone(zone));
+    // The same for an SOA, and without its type.
+    let soa = b"\x00\x13\0\x90\0\0\0\x01\0\0\0\0\0\0\x01a\0\0\x06\0\x01";
+    assert!(rt; !asks_for_zone(soa));
+    assert!(rt; !asks_for_zone(b"\x00\x0f\0\x90\0\0\0\x01\0\0\0\0\0\0\x01a\0"));
 }
 
 #[test]
@@ -307,6 +318,109 @@ fn the_reply_to_a_notify_rings(rt: HostRuntime) -> Result<(), AllocError> {
     assert_eq!(rt; bell.count(&rt), 1);
     assert!(rt; comes(&mut caller, &reply));
     ports.close_acceptor(other);
+    ports.close_acceptor(acceptor);
+    Ok(())
+}
+
+/// A turn of the client, in which it has an answer.
+fn serve<'a, R: std::time::Clock + Files + Wait + Abort>(
+    rt: &R,
+    acceptor: &mut TcpAcceptor<'a, R>,
+    client: &mut TcpStream,
+)
+    requires { acceptor.old.out ≡ None }
+    ensures { acceptor.new.out ≡ None }
+{
+    write(rt, client, b"\x00\x01q");
+    let mut link = turn(rt, acceptor, b"\x00\x01q");
+    assert_eq!(rt; link.write(b"\x00\x01a"), Ok(()));
+    acceptor.done(link);
+    assert!(rt; comes(client, b"\x00\x01a"));
+}
+
+#[test]
+fn replies_past_what_may_wait_end_their_connection_alone(
+    rt: HostRuntime,
+) -> Result<(), AllocError> {
+    let bell = Bell::new();
+    let mut ports = HostPorts::new(&rt, rt.alloc(), &bell);
+    let Ok(mut acceptor) = ports.open_acceptor(&ANY, 0) else {
+        panic!(rt; "not opened");
+    };
+    let here = port_of(&rt, acceptor.turns.listener.local_addr());
+    let mut greedy = client(&rt, &here);
+    let mut other = client(&rt, &here);
+    write(&rt, &mut greedy, b"\x00\x01z");
+    let mut link = turn(&rt, &mut acceptor, b"\x00\x01z");
+    let mut beside = Waiting::new();
+    beside.add(WAITING_OCTETS - 3);
+    link.buffers.replies.begin(beside);
+    assert_eq!(rt; link.write(b"\x00\x01a"), Ok(()));
+    assert_eq!(rt; link.write(b"\x00\x01b"), Err(Failed));
+    acceptor.done(link);
+    assert!(rt; matches!(greedy.read(&mut [0; 1]), Ok(0)));
+    serve(&rt, &mut acceptor, &mut other);
+    ports.close_acceptor(acceptor);
+    Ok(())
+}
+
+/// A client that doesn't read at first, and one beside it.
+#[derive(Drop)]
+struct Readers {
+    slow: TcpStream,
+    other: TcpStream,
+}
+
+/// Whether these octets come to the slow client, while the other is served.
+fn comes_beside<'a, R: std::time::Clock + Files + Wait + Abort>(
+    rt: &R,
+    acceptor: &mut TcpAcceptor<'a, R>,
+    clients: &mut Readers,
+    octets: &[u8],
+    buffer: &mut [u8],
+) -> bool
+    requires { acceptor.old.out ≡ None }
+    ensures { acceptor.new.out ≡ None }
+{
+    let mut rest = octets;
+    'reads: for _ in 0..octets.len() {
+        if rest.is_empty() {
+            break;
+        }
+        serve(rt, acceptor, &mut clients.other);
+        let count = clients.slow.read(buffer).unwrap_or(0);
+        match rest.strip_prefix(buffer.get(..count).unwrap_or(&[])) {
+            Some(left) if count > 0 => rest = left,
+            _ => return false,
+        }
+    }
+    rest.is_empty()
+}
+
+#[test]
+fn what_a_reader_does_not_take_waits_and_comes_whole(rt: HostRuntime) -> Result<(), AllocError> {
+    let bell = Bell::new();
+    let mut ports = HostPorts::new(&rt, rt.alloc(), &bell);
+    let Ok(mut acceptor) = ports.open_acceptor(&ANY, 0) else {
+        panic!(rt; "not opened");
+    };
+    let here = port_of(&rt, acceptor.turns.listener.local_addr());
+    let mut clients = Readers {
+        slow: client(&rt, &here),
+        other: client(&rt, &here),
+    };
+    let mut octets = Vec::new(rt.alloc());
+    'marks: for mark in 0..=255_u8 {
+        octets.extend_from_slice(&[mark; 32_768])?;
+    }
+    write(&rt, &mut clients.slow, b"\x00\x01z");
+    let mut link = turn(&rt, &mut acceptor, b"\x00\x01z");
+    assert_eq!(rt; link.write(&octets), Ok(()));
+    acceptor.done(link);
+    assert!(rt; !acceptor.turns.crowd.waiting().has_room(WAITING_OCTETS));
+    let mut buffer = vec![in rt.alloc(); 0_u8; 65_536]?;
+    assert!(rt; comes_beside(&rt, &mut acceptor, &mut clients, &octets, &mut buffer));
+    assert!(rt; acceptor.turns.crowd.waiting().has_room(WAITING_OCTETS));
     ports.close_acceptor(acceptor);
     Ok(())
 }

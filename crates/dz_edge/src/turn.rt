@@ -1,9 +1,10 @@
 //! The turn of a connection, which is a link.
 ghost use Rattle.std.specs.Prelude.{◌≡◌, ◌≤◌, refl, length, None};
 
-use crate::buffers::{Buffers, REPLY_OCTETS};
+use crate::buffers::Buffers;
 use crate::connection::Connection;
 use crate::frames::{LENGTH_OCTETS, frame_end, takes_notify};
+use crate::replies::REPLY_OCTETS;
 use dz_io::{Failed, Link, Sink, Source};
 
 /// A turn of a TCP connection, as a link: whole frames of it, which were read before, and their replies, which are sent
@@ -67,10 +68,9 @@ impl Turn {
         frames: Frames,
         more: bool,
     ) -> Turn
-        ensures { result.faults ≡ 0 }
+        ensures faults { result.faults ≡ 0 }
+        ensures buffers { result.buffers ≡ buffers }
     {
-        let mut buffers = buffers;
-        buffers.replies.clear();
         Turn {
             connection,
             place,
@@ -86,7 +86,7 @@ impl Turn {
     fn begin_frame(&mut self)
         ensures { self.new.faults ≡ self.old.faults }
     {
-        if self.frames.is_more() && self.buffers.replies.len() < REPLY_OCTETS {
+        if self.frames.is_more() && self.buffers.replies.octets.len() < REPLY_OCTETS {
             let room = self.buffers.room.as_slice();
             if let Some(end) = frame_end(room, self.frames.at) {
                 self.frames.end = end;
@@ -134,9 +134,10 @@ impl Sink for Turn {
 
     ghost faults = { λ turn. turn.faults };
 
-    /// The piece is a reply behind its length.
+    /// The piece is a reply after its length. Where more would wait than may, or memory is wanting, this link fails alone:
+    /// its connection is closed as it is done, and its replies go.
     fn write(&mut self, piece: &[u8]) -> Result<(), Failed> {
-        if self.buffers.replies.extend_from_slice(piece).is_err() {
+        if self.buffers.replies.add(piece).is_err() {
             self.faults = self.faults.saturating_add(1);
             return Err(Failed);
         }

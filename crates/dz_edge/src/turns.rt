@@ -1,5 +1,5 @@
 //! The turns of a worker's connections.
-ghost use Rattle.std.specs.Prelude.{◌≡◌, ⊤, IfSome};
+ghost use Rattle.std.specs.Prelude.{◌≡◌, ◌≢◌, ◌≤◌, ⊤, [], IfSome};
 ghost use Rattle.dz_io.specs.Links.{IsAccepted};
 
 use crate::Bell;
@@ -7,7 +7,7 @@ use crate::address::peer_of;
 use crate::buffers::Buffers;
 use crate::connection::{Connection, Fetched};
 use crate::crowd::Crowd;
-use crate::frames::whole_frames;
+use crate::frames::{asks_for_zone, whole_frames};
 use crate::turn::{Frames, Turn};
 use crate::watch::Watch;
 use dz_io::{Accepted, Peer};
@@ -63,9 +63,11 @@ pub(crate) struct Turns<'a, R> {
     events: Events,
     pub(crate) listener: TcpListener,
     door: Door,
-    crowd: Crowd,
+    pub(crate) crowd: Crowd,
     /// How many turns the round has left.
     round: usize,
+    /// Whether a connection that asks for a whole zone is to have its turn once the round is over.
+    has_zone_turn: bool,
     /// None while a turn has them.
     buffers: Option<Buffers>,
     /// When the last round began.
@@ -100,6 +102,7 @@ impl<'a, R: Net + Clock> Turns<'a, R> {
             door: Door::Open,
             crowd: Crowd::new(alloc, CONNECTIONS).ok()?,
             round: 0,
+            has_zone_turn: false,
             buffers: Some(Buffers::new(alloc).ok()?),
             now,
             failed: now,
@@ -111,16 +114,19 @@ impl<'a, R: Net + Clock> Turns<'a, R> {
 impl<'a, R: Clock + Files + Wait> Turns<'a, R> {
     /// The next turn, or that the server is to stop; none after a run of errors.
     pub fn next(&mut self) -> Option<Accepted<Turn>>
-        ensures { IfSome result (λ a. IsAccepted a (λ turn peer. turn.faults ≡ 0) ⊤) }
+        ensures faults { IfSome result (λ a. IsAccepted a (λ turn peer. turn.faults ≡ 0) ⊤) }
+        ensures none { IfSome result (λ a. IsAccepted a
+            (λ turn peer. turn.buffers.replies.octets.items ≡ []) ⊤) }
+        ensures beside { IfSome result (λ a. IsAccepted a
+            (λ turn peer. turn.buffers.replies.beside ≡ self.new.crowd.waiting) ⊤) }
     {
         let mut errors = 0_u32;
         'turns: for _ in 0..u64::MAX {
             if self.watch.is_to_stop() {
                 return Some(Accepted::Closed);
             }
-            if self.round > 0 {
-                self.round -= 1;
-                if let Some(turn) = self.take_turn() {
+            if self.round > 0 || self.has_zone_turn {
+                if let Some(turn) = self.next_turn() {
                     let peer = turn.connection.peer;
                     return Some(Accepted::One(turn, peer));
                 }
@@ -136,12 +142,16 @@ impl<'a, R: Clock + Files + Wait> Turns<'a, R> {
         None
     }
 
-    /// Sends the replies of a turn, and puts its connection back.
-    pub fn done(&mut self, turn: Turn) {
+    /// Sends the replies of a turn, and puts its connection back. After a fault the connection is closed, and no more waits
+    /// than before.
+    pub fn done(&mut self, turn: Turn)
+        ensures { turn.faults ≢ 0
+            → self.new.crowd.waiting.octets ≤ self.old.crowd.waiting.octets }
+    {
         let Turn {
             mut connection,
             place,
-            buffers,
+            mut buffers,
             frames,
             more,
             rings,
@@ -151,8 +161,9 @@ impl<'a, R: Clock + Files + Wait> Turns<'a, R> {
         let left = room.get(frames.at..frames.total).unwrap_or(&[]);
         let stands = faults == 0
             && frames.is_between()
-            && connection.send(buffers.replies.as_slice())
+            && connection.send(&mut buffers.replies.octets)
             && connection.keep(left);
+        buffers.replies.end(self.alloc);
         self.buffers = Some(buffers);
         if stands {
             self.put_back(place, connection, more || frames.is_more());
@@ -173,11 +184,38 @@ impl<'a, R: Clock + Files + Wait> Turns<'a, R> {
         }
     }
 
-    /// Takes what the next connection of the queue has, and gives its turn where that has a whole frame.
-    fn take_turn(&mut self) -> Option<Turn>
-        ensures { IfSome result (λ turn. turn.faults ≡ 0) }
+    /// Puts a connection back that is to have its turn after a round.
+    fn put_for_zone(&mut self, place: usize, connection: Connection) {
+        self.crowd.put(place, connection);
+        self.crowd.queue_for_zone(place);
+    }
+
+    /// The next turn of the round, or the one after it, of a connection that asks for a whole zone: its stream takes long to
+    /// put together, so that all other connections that are ready have a turn before each.
+    fn next_turn(&mut self) -> Option<Turn>
+        ensures faults { IfSome result (λ turn. turn.faults ≡ 0) }
+        ensures none { IfSome result (λ turn. turn.buffers.replies.octets.items ≡ []) }
+        ensures beside { IfSome result
+            (λ turn. turn.buffers.replies.beside ≡ self.new.crowd.waiting) }
     {
-        let place = self.crowd.next()?;
+        if self.round > 0 {
+            self.round -= 1;
+            let place = self.crowd.next()?;
+            self.take_turn(place, false)
+        } else {
+            self.has_zone_turn = false;
+            let place = self.crowd.next_for_zone()?;
+            self.take_turn(place, true)
+        }
+    }
+
+    /// Takes what a connection has, and gives its turn where that has a whole frame, and asks for no zone or is to have it.
+    fn take_turn(&mut self, place: usize, for_zone: bool) -> Option<Turn>
+        ensures faults { IfSome result (λ turn. turn.faults ≡ 0) }
+        ensures none { IfSome result (λ turn. turn.buffers.replies.octets.items ≡ []) }
+        ensures beside { IfSome result
+            (λ turn. turn.buffers.replies.beside ≡ self.new.crowd.waiting) }
+    {
         let mut connection = self.crowd.take(place)?;
         if !connection.flush(self.now.as_secs()) {
             self.close(place, connection);
@@ -197,16 +235,20 @@ impl<'a, R: Clock + Files + Wait> Turns<'a, R> {
             Fetched::Octets { total, more } => {
                 let octets = buffers.room.as_slice().get(..total).unwrap_or(&[]);
                 let frames = Frames::new(whole_frames(octets), total);
-                if frames.is_more() {
+                if frames.is_more() && (for_zone || !asks_for_zone(octets)) {
                     connection.mark(self.now.as_secs());
+                    buffers.replies.begin(self.crowd.waiting());
                     return Some(Turn::new(connection, place, buffers, frames, more));
                 }
-                let stands = !connection.is_at_end() && connection.keep(octets);
+                let is_for_zone = frames.is_more();
+                let stands = (is_for_zone || !connection.is_at_end()) && connection.keep(octets);
                 self.buffers = Some(buffers);
-                if stands {
-                    self.put_back(place, connection, more);
-                } else {
+                if !stands {
                     self.close(place, connection);
+                } else if is_for_zone {
+                    self.put_for_zone(place, connection);
+                } else {
+                    self.put_back(place, connection, more);
                 }
                 None
             }
@@ -236,6 +278,7 @@ impl<'a, R: Clock + Files + Wait> Turns<'a, R> {
             self.crowd.sweep(second);
         }
         self.round = self.crowd.queued();
+        self.has_zone_turn = true;
         told
     }
 
@@ -249,7 +292,7 @@ impl<'a, R: Clock + Files + Wait> Turns<'a, R> {
 
     /// How long the poll may wait.
     fn limit(&self) -> Duration {
-        if self.crowd.queued() > 0 {
+        if self.crowd.queued() > 0 || self.crowd.has_for_zone() {
             return Duration::ZERO;
         }
         match self.door {

@@ -37,6 +37,11 @@ const ROWS: &[(&[u8], usize, Expected)] = &[
         2,
         Expected::Present(Key::Policy),
     ),
+    (
+        b"listen = \"192.0.2.10:53\"\ndownstream = [\"192.0.2.3:53\"]\n",
+        2,
+        Expected::Value(Key::Downstream),
+    ),
     (b"listen = \"192.0.2.10:53\"\n", 1, Expected::Within),
 ];
 

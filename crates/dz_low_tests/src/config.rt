@@ -1,7 +1,7 @@
 //! Tests of `dz_config`.
 
 use crate::parts::{joined, name};
-use dz_config::{ConfigError, ConfigFault, TEXT_OCTETS, read_config};
+use dz_config::{ConfigError, ConfigFault, TEXT_OCTETS, read_config, read_downstream};
 use dz_io::Peer;
 use dz_member::{CatalogSettings, Policy};
 use std::alloc::{AllocError, Global};
@@ -86,6 +86,39 @@ fn a_configuration_reads_however_toml_writes_it(rt: HostRuntime) -> Result<(), F
         rt.alloc(),
         &[b"# a comment\n", inline, b"listen = '192.0.2.10'\n"],
     )?;
+    Ok(())
+}
+
+/// What is read of the addresses to which zones are sent.
+fn expect_downstream(
+    rt: &impl Abort,
+    alloc: Global,
+    text: &[u8],
+    wanted: Result<&[[u8; 4]], ConfigFault>,
+) -> Result<(), AllocError> {
+    let text = joined(alloc, &[text, LISTEN, CATALOG])?;
+    match (read_downstream(alloc, text.as_slice()), wanted) {
+        (Ok(downstream), Ok(wanted)) => assert_eq!(rt; downstream.as_slice(), wanted),
+        (Err(error), Err(wanted)) => assert_eq!(rt; error, ConfigError::Fault(wanted)),
+        _ => panic!(rt; "{text:?}"),
+    }
+    Ok(())
+}
+
+#[test]
+fn sixteen_downstream_addresses_are_read_and_no_more(rt: HostRuntime) -> Result<(), Fail> {
+    let alloc = rt.alloc();
+    expect_downstream(&rt, alloc, b"", Ok(&[]))?;
+    let two = b"downstream = [\"192.0.2.7\", \"192.0.2.8\"]\n";
+    expect_downstream(&rt, alloc, two, Ok(&[[192, 0, 2, 7], [192, 0, 2, 8]]))?;
+    let port = b"downstream = [\"192.0.2.7:53\"]\n";
+    expect_downstream(&rt, alloc, port, Err(ConfigFault::BadPeer))?;
+    let mut many = Vec::from_slice(alloc, b"downstream = [\"192.0.2.7\"")?;
+    for _ in 0..16 {
+        many.extend_from_slice(b", \"192.0.2.7\"")?;
+    }
+    many.extend_from_slice(b"]\n")?;
+    expect_downstream(&rt, alloc, many.as_slice(), Err(ConfigFault::OutOfLimits))?;
     Ok(())
 }
 

@@ -3,6 +3,7 @@ pub mod ComingLemmas
 pub mod GainLemmas
 pub mod LinkLemmas
 pub mod RoomLemmas
+pub mod SendingLemmas
 pub mod SessionLemmas
 pub mod StreamLemmas
 pub mod TurnLemmas

@@ -18,6 +18,10 @@ use Rattle.dz_query.specs.declared.fate.Fate.TheVariants.{Sent, Lost, Unheard}
 use Rattle.dz_query.proofs.GainLemmas.{gains_none, gains_more, still_none, still_more, rises_more, rises_later, rises_one, risen_later, risen_sooner}
 use Rattle.dz_query.proofs.TurnLemmas.{turn_join, turn_later, turn_one, sent_later, sent_more, losses_more}
 
+-- what goes out for a request by a list
+abbrev goes_to : List Entry → Served → List Packet
+goes_to list s = packets_to s.request (sent_of s.fate (due list false s.request s.moment))
+
 pub none_yet : (may_fail : Type 0) (may_give : ℕ → Bool) (list : List Entry) (t : Told) → HasAnswered false may_fail may_give (length list) list t t
 none_yet may_fail may_give list t = record {
   served = [];
@@ -59,7 +63,7 @@ answers_more : (may_fail : Type 0) (may_give : ℕ → Bool) (from : ℕ) (list 
     → AreAnswered may_fail may_give from later before now (served ++ record { request = request; upto = length later; moment = moment; fate = fate } ∷ [])
 answers_more may_fail may_give from list later before middle now served request moment fate p may excused received sent given sights were =
     let s : Served = record { request = request; upto = length later; moment = moment; fate = fate } in
-    let texts = sent_more may_fail may_give false (λ s texts. packets_to s.request texts) from list later served s p were.turns refl in
+    let texts = sent_more may_fail may_give false goes_to from list later served s p were.turns refl in
     record {
       turns = turn_join may_fail may_give false from list later served (s ∷ []) p were.turns (turn_one may_fail may_give false list later request moment fate p may excused);
       received = rw (map-append (λ (s : Served). s.request) served (s ∷ [])) (gains_more (requests served) (request ∷ []) before.received middle.received now.received were.received received);
@@ -120,7 +124,7 @@ fails lost may_fail may_give from list before middle now received sent given sig
 answers_later : (may_fail : Type 0) (may_give : ℕ → Bool) (from : ℕ) (list later : List Entry) (before now : Told) (served : List Served) → IsPrefix list later
     → AreAnswered may_fail may_give from list before now served → AreAnswered may_fail may_give from later before now served
 answers_later may_fail may_give from list later before now served p is =
-    let same : replies later served ≡ replies list served = sent_later may_fail may_give false (λ s texts. packets_to s.request texts) from list later served p is.turns in
+    let same : replies later served ≡ replies list served = sent_later may_fail may_give false goes_to from list later served p is.turns in
     record {
       turns = turn_later may_fail may_give false from list later served p is.turns;
       received = is.received;

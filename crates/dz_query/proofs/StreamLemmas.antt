@@ -13,16 +13,20 @@ use Rattle.dz_io.specs.declared.peer.Peer.{Peer}
 use Rattle.dz_message.specs.Frame.{frame, stream, first_size, messages_in, AreShort}
 use Rattle.dz_message.proofs.FrameLemmas.{come_back, none_there}
 use Rattle.dz_history.specs.declared.entry.Entry.{Entry}
-use Rattle.dz_query.specs.Due.{due}
-use Rattle.dz_query.specs.Served.{Served, requests, moments, sent_of, sent_for, framed, IsExcused, AreInTurn}
-use Rattle.dz_query.specs.Stream.{Flow, AreRead, HasEnded, HasBroken}
+use Rattle.dz_query.specs.Sent.{asks_for_zone}
+use Rattle.dz_query.specs.Served.{Served, requests, moments, owed, framed, IsExcused, AreInTurn}
+use Rattle.dz_query.specs.Stream.{Flow, AreRead, HasEnded, HasBroken, HasStarved, IsStream}
 use Rattle.dz_query.specs.inner.Coming.{IsPart, IsFlowing}
+use Rattle.dz_query.specs.inner.Sending.{owed_by}
 use Rattle.dz_query.specs.declared.fate.Fate.{Fate}
+use Rattle.dz_query.specs.declared.fate.Fate.TheVariants.{Sent}
+use Rattle.dz_query.specs.declared.stream.StreamEnd.{StreamEnd}
+use Rattle.dz_query.specs.declared.stream.StreamEnd.TheVariants.{Ended, Failed, OutOfMemory}
 use Rattle.dz_query.proofs.GainLemmas.{gains_none, gains_more, still_none, still_more, prefix_of_all, prefix_of_more, rises_more}
-use Rattle.dz_query.proofs.TurnLemmas.{turn_join, turn_one, sent_more}
+use Rattle.dz_query.proofs.TurnLemmas.{turn_join, turn_one, sent_later, sent_more}
 
-pub none_yet : (may_fail : Type 0) (may_give : ℕ → Bool) (list : List Entry) (peer : Peer) (f : Flow) → IsFlowing may_fail may_give (length list) list peer f f
-none_yet may_fail may_give list peer f = record {
+pub none_yet : (downstream : List Octets) (may_fail : Type 0) (may_give : ℕ → Bool) (list : List Entry) (peer : Peer) (f : Flow) → IsFlowing downstream may_fail may_give (length list) list peer f f
+none_yet downstream may_fail may_give list peer f = record {
   served = [];
   messages = [];
   short = tt;
@@ -41,24 +45,28 @@ short_more (first ∷ messages) message each short = (each.0, short_more message
 stream_more : (messages : List Octets) (message : Octets) → stream (messages ++ message ∷ []) ≡ stream messages ++ frame message
 stream_more messages message = flat_map-append frame messages (message ∷ []) ∙ ap (λ octets. stream messages ++ octets) (append-nil (frame message))
 
+-- what goes out for a request by a list
+abbrev goes : List Octets → List Entry → Served → List Octets
+goes downstream list s = owed_by downstream list s.request s.moment s.fate
+
 -- the replies, with those to one more
-framed_more : (may_fail : Type 0) (may_give : ℕ → Bool) (from : ℕ) (list later : List Entry) (served : List Served) (request : Packet) (moment : ℕ) (fate : Fate) → IsPrefix list later → AreInTurn may_fail may_give true from list served
-    → framed later (served ++ record { request = request; upto = length later; moment = moment; fate = fate } ∷ []) ≡ framed list served ++ stream (sent_of fate (due later true request moment))
-framed_more may_fail may_give from list later served request moment fate p turns =
+framed_more : (downstream : List Octets) (may_fail : Type 0) (may_give : ℕ → Bool) (from : ℕ) (list later : List Entry) (served : List Served) (request : Packet) (moment : ℕ) (fate : Fate) → IsPrefix list later → AreInTurn may_fail may_give true from list served
+    → framed downstream later (served ++ record { request = request; upto = length later; moment = moment; fate = fate } ∷ []) ≡ framed downstream list served ++ stream (owed_by downstream later request moment fate)
+framed_more downstream may_fail may_give from list later served request moment fate p turns =
     let s : Served = record { request = request; upto = length later; moment = moment; fate = fate } in
-    ap stream (sent_more may_fail may_give true (λ s texts. texts) from list later served s p turns refl)
-    ∙ flat_map-append frame (flat_map (sent_for list true) served) (sent_of fate (due later true request moment))
+    ap stream (sent_more may_fail may_give true (goes downstream) from list later served s p turns refl)
+    ∙ flat_map-append frame (flat_map (owed downstream list) served) (owed_by downstream later request moment fate)
 
 -- a message came that was answered so
-pub goes_on : (may_fail : Type 0) (may_give : ℕ → Bool) (from : ℕ) (list later : List Entry) (peer : Peer) (before middle now : Flow) (message : Octets) (moment : ℕ) (fate : Fate)
+pub goes_on : (downstream : List Octets) (may_fail : Type 0) (may_give : ℕ → Bool) (from : ℕ) (list later : List Entry) (peer : Peer) (before middle now : Flow) (message : Octets) (moment : ℕ) (fate : Fate)
     → IsPrefix list later → may_give moment ≡ true → IsExcused may_fail true fate (packet message peer)
     → length message ≤ 65535 → Gains (frame message) middle.read now.read
-    → Gains (stream (sent_of fate (due later true (packet message peer) moment))) middle.written now.written
+    → Gains (stream (owed_by downstream later (packet message peer) moment fate)) middle.written now.written
     → (IsSome now.moments → Gains (moment ∷ []) middle.moments now.moments)
     → HasRisenBy 1 middle.sights now.sights
-    → IsFlowing may_fail may_give from list peer before middle
-    → IsFlowing may_fail may_give from later peer before now
-goes_on may_fail may_give from list later peer before middle now message moment fate p may excused short read written given sights was =
+    → IsFlowing downstream may_fail may_give from list peer before middle
+    → IsFlowing downstream may_fail may_give from later peer before now
+goes_on downstream may_fail may_give from list later peer before middle now message moment fate p may excused short read written given sights was =
     let request : Packet = packet message peer in
     let s : Served = record { request = request; upto = length later; moment = moment; fate = fate } in
     record {
@@ -68,17 +76,17 @@ goes_on may_fail may_give from list later peer before middle now message moment 
       are = map-append (λ (s : Served). s.request) was.served (s ∷ []) ∙ ap (λ packets. packets ++ request ∷ []) was.are ∙ sym (map-append (λ message. packet message peer) was.messages (message ∷ []));
       turns = turn_join may_fail may_give true from list later was.served (s ∷ []) p was.turns (turn_one may_fail may_give true list later request moment fate p may excused);
       read = rw (stream_more was.messages message) (gains_more (stream was.messages) (frame message) before.read middle.read now.read was.read read);
-      written = rw (framed_more may_fail may_give from list later was.served request moment fate p was.turns)
-          (gains_more (framed list was.served) (stream (sent_of fate (due later true request moment))) before.written middle.written now.written was.written written);
+      written = rw (framed_more downstream may_fail may_give from list later was.served request moment fate p was.turns)
+          (gains_more (framed downstream list was.served) (stream (owed_by downstream later request moment fate)) before.written middle.written now.written was.written written);
       given = rw (map-append (λ (s : Served). s.moment) was.served (s ∷ [])) (still_more (moments was.served) (moment ∷ []) before.moments middle.moments now.moments was.given given);
       sights = rw (length-append was.served (s ∷ [])) (rises_more (length was.served) 1 before.sights middle.sights now.sights was.sights sights);
     }
 
 -- the whole messages that came, with a part of one behind them
-read_to : (may_fail : Type 0) (may_give : ℕ → Bool) (from : ℕ) (list : List Entry) (peer : Peer) (before middle now : Flow) (part : Octets) (was : IsFlowing may_fail may_give from list peer before middle)
+read_to : (downstream : List Octets) (may_fail : Type 0) (may_give : ℕ → Bool) (from : ℕ) (list : List Entry) (peer : Peer) (before middle now : Flow) (part : Octets) (was : IsFlowing downstream may_fail may_give from list peer before middle)
     → first_size part ≡ None → Gains part middle.read now.read → now.moments ≡ middle.moments → now.sights ≡ middle.sights
     → AreRead may_fail may_give from list peer before now was.served
-read_to may_fail may_give from list peer before middle now part was none read given sights =
+read_to downstream may_fail may_give from list peer before middle now part was none read given sights =
     let octets : Octets = stream was.messages ++ part in
     record {
       octets = octets;
@@ -89,33 +97,32 @@ read_to may_fail may_give from list peer before middle now part was none read gi
       sights = rw sights was.sights;
     }
 
-pub ends : (may_fail : Type 0) (may_give : ℕ → Bool) (from : ℕ) (list : List Entry) (peer : Peer) (before middle now : Flow) → IsPart middle.read now.read → now.written ≡ middle.written → now.moments ≡ middle.moments → now.sights ≡ middle.sights
-    → IsFlowing may_fail may_give from list peer before middle → HasEnded may_fail may_give from list peer before now
-ends may_fail may_give from list peer before middle now came written given sights was = record {
+pub ends : (downstream : List Octets) (may_fail : Type 0) (may_give : ℕ → Bool) (from : ℕ) (list : List Entry) (peer : Peer) (before middle now : Flow) → IsPart middle.read now.read → now.written ≡ middle.written → now.moments ≡ middle.moments → now.sights ≡ middle.sights
+    → IsFlowing downstream may_fail may_give from list peer before middle → HasEnded downstream may_fail may_give from list peer before now
+ends downstream may_fail may_give from list peer before middle now came written given sights was = record {
   served = was.served;
-  asked = read_to may_fail may_give from list peer before middle now came.part was came.none came.gains given sights;
+  asked = read_to downstream may_fail may_give from list peer before middle now came.part was came.none came.gains given sights;
   written = rw written was.written;
 }
 
 -- a read failed
-pub fails : (may_fail : Type 0) (may_give : ℕ → Bool) (from : ℕ) (list : List Entry) (peer : Peer) (before middle now : Flow) → IsPart middle.read now.read → now.written ≡ middle.written → now.moments ≡ middle.moments → now.sights ≡ middle.sights
-    → IsFlowing may_fail may_give from list peer before middle → HasBroken may_fail may_give from list peer before now
-fails may_fail may_give from list peer before middle now came written given sights was = record {
+pub fails : (downstream : List Octets) (may_fail : Type 0) (may_give : ℕ → Bool) (from : ℕ) (list : List Entry) (peer : Peer) (before middle now : Flow) → IsPart middle.read now.read → now.written ≡ middle.written → now.moments ≡ middle.moments → now.sights ≡ middle.sights
+    → IsFlowing downstream may_fail may_give from list peer before middle → HasBroken downstream may_fail may_give from list peer before now
+fails downstream may_fail may_give from list peer before middle now came written given sights was = record {
   served = was.served;
-  asked = read_to may_fail may_give from list peer before middle now came.part was came.none came.gains given sights;
-  written = prefix_of_all (framed list was.served) before.written now.written (rw written was.written);
+  asked = read_to downstream may_fail may_give from list peer before middle now came.part was came.none came.gains given sights;
+  written = prefix_of_all (framed downstream list was.served) before.written now.written (rw written was.written);
 }
 
--- a write failed: what it had written begins the reply
-pub breaks : (may_fail : Type 0) (may_give : ℕ → Bool) (from : ℕ) (list later : List Entry) (peer : Peer) (before middle now : Flow) (message : Octets) (moment : ℕ) (fate : Fate)
+-- a message came that was answered so, and the whole messages are these
+read_with : (downstream : List Octets) (may_fail : Type 0) (may_give : ℕ → Bool) (from : ℕ) (list later : List Entry) (peer : Peer) (before middle now : Flow) (message : Octets) (moment : ℕ) (fate : Fate)
     → IsPrefix list later → may_give moment ≡ true → IsExcused may_fail true fate (packet message peer)
     → length message ≤ 65535 → Gains (frame message) middle.read now.read
-    → GainsPrefix (stream (sent_of fate (due later true (packet message peer) moment))) middle.written now.written
     → (IsSome now.moments → Gains (moment ∷ []) middle.moments now.moments)
     → HasRisenBy 1 middle.sights now.sights
-    → IsFlowing may_fail may_give from list peer before middle
-    → HasBroken may_fail may_give from later peer before now
-breaks may_fail may_give from list later peer before middle now message moment fate p may excused short read written given sights was =
+    → (was : IsFlowing downstream may_fail may_give from list peer before middle)
+    → AreRead may_fail may_give from later peer before now (was.served ++ record { request = packet message peer; upto = length later; moment = moment; fate = fate } ∷ [])
+read_with downstream may_fail may_give from list later peer before middle now message moment fate p may excused short read given sights was =
     let request : Packet = packet message peer in
     let s : Served = record { request = request; upto = length later; moment = moment; fate = fate } in
     let messages : List Octets = was.messages ++ message ∷ [] in
@@ -124,15 +131,53 @@ breaks may_fail may_give from list later peer before middle now message moment f
     let back : messages_in (stream messages) ≡ messages =
     ap messages_in (sym (append-nil (stream messages))) ∙ come_back (length (stream messages ++ [])) messages [] (omega arith) (short_more was.messages message was.short short) none_there in
     record {
-      served = was.served ++ s ∷ [];
-      asked = record {
-        octets = stream messages;
-        read = rw (stream_more was.messages message) (gains_more (stream was.messages) (frame message) before.read middle.read now.read was.read read);
-        are = are ∙ ap (λ messages. map (λ message. packet message peer) messages) (sym back);
-        turns = turn_join may_fail may_give true from list later was.served (s ∷ []) p was.turns (turn_one may_fail may_give true list later request moment fate p may excused);
-        given = rw (map-append (λ (s : Served). s.moment) was.served (s ∷ [])) (still_more (moments was.served) (moment ∷ []) before.moments middle.moments now.moments was.given given);
-        sights = rw (length-append was.served (s ∷ [])) (rises_more (length was.served) 1 before.sights middle.sights now.sights was.sights sights);
-      };
-      written = rw (framed_more may_fail may_give from list later was.served request moment fate p was.turns)
-          (prefix_of_more (framed list was.served) (stream (sent_of fate (due later true request moment))) before.written middle.written now.written was.written written);
+      octets = stream messages;
+      read = rw (stream_more was.messages message) (gains_more (stream was.messages) (frame message) before.read middle.read now.read was.read read);
+      are = are ∙ ap (λ messages. map (λ message. packet message peer) messages) (sym back);
+      turns = turn_join may_fail may_give true from list later was.served (s ∷ []) p was.turns (turn_one may_fail may_give true list later request moment fate p may excused);
+      given = rw (map-append (λ (s : Served). s.moment) was.served (s ∷ [])) (still_more (moments was.served) (moment ∷ []) before.moments middle.moments now.moments was.given given);
+      sights = rw (length-append was.served (s ∷ [])) (rises_more (length was.served) 1 before.sights middle.sights now.sights was.sights sights);
     }
+
+-- a write failed: what it had written begins the reply
+pub breaks : (downstream : List Octets) (may_fail : Type 0) (may_give : ℕ → Bool) (from : ℕ) (list later : List Entry) (peer : Peer) (before middle now : Flow) (message : Octets) (moment : ℕ) (fate : Fate)
+    → IsPrefix list later → may_give moment ≡ true → IsExcused may_fail true fate (packet message peer)
+    → length message ≤ 65535 → Gains (frame message) middle.read now.read
+    → GainsPrefix (stream (owed_by downstream later (packet message peer) moment fate)) middle.written now.written
+    → (IsSome now.moments → Gains (moment ∷ []) middle.moments now.moments)
+    → HasRisenBy 1 middle.sights now.sights
+    → IsFlowing downstream may_fail may_give from list peer before middle
+    → HasBroken downstream may_fail may_give from later peer before now
+breaks downstream may_fail may_give from list later peer before middle now message moment fate p may excused short read written given sights was =
+    let request : Packet = packet message peer in
+    let s : Served = record { request = request; upto = length later; moment = moment; fate = fate } in
+    record {
+      served = was.served ++ s ∷ [];
+      asked = read_with downstream may_fail may_give from list later peer before middle now message moment fate p may excused short read given sights was;
+      written = rw (framed_more downstream may_fail may_give from list later was.served request moment fate p was.turns)
+          (prefix_of_more (framed downstream list was.served) (stream (owed_by downstream later request moment fate)) before.written middle.written now.written was.written written);
+    }
+
+-- it was starved of memory: nothing was written of the last reply
+pub starves : (downstream : List Octets) (may_fail : Type 0) (may_give : ℕ → Bool) (from : ℕ) (list later : List Entry) (peer : Peer) (before middle now : Flow) (message : Octets) (moment : ℕ)
+    → IsPrefix list later → may_give moment ≡ true → asks_for_zone downstream (packet message peer) ≡ true
+    → length message ≤ 65535 → Gains (frame message) middle.read now.read → now.written ≡ middle.written
+    → (IsSome now.moments → Gains (moment ∷ []) middle.moments now.moments)
+    → HasRisenBy 1 middle.sights now.sights
+    → IsFlowing downstream may_fail may_give from list peer before middle
+    → HasStarved downstream may_fail may_give from later peer before now
+starves downstream may_fail may_give from list later peer before middle now message moment p may asks short read written given sights was =
+    let same : framed downstream later was.served ≡ framed downstream list was.served = ap stream (sent_later may_fail may_give true (goes downstream) from list later was.served p was.turns) in
+    record {
+      served = was.served;
+      last = record { request = packet message peer; upto = length later; moment = moment; fate = Sent };
+      asked = read_with downstream may_fail may_give from list later peer before middle now message moment Sent p may tt short read given sights was;
+      zone = asks;
+      written = rw (same, written) was.written;
+    }
+
+-- where no address is listed no session is starved
+pub never_starves : (ending : StreamEnd) (may_fail : Type 0) (may_give : ℕ → Bool) (from : ℕ) (list : List Entry) (peer : Peer) (before now : Flow) → IsStream ending [] may_fail may_give from list peer before now → ending ≡ OutOfMemory → ⊥
+never_starves Ended may_fail may_give from list peer before now stream is = cc is
+never_starves Failed may_fail may_give from list peer before now stream is = cc is
+never_starves OutOfMemory may_fail may_give from list peer before now stream is = cc (stream.zone)

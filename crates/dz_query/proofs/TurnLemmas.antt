@@ -6,11 +6,9 @@ use Rattle.std.proofs.lemmas.Grind.{flat_map-append}
 use Rattle.std.proofs.lemmas.List.{append-nil, take-append-le}
 use mathlib.Core.List.{IsPrefix}
 use Rattle.dz_io.specs.Packets.{Packet}
-use Rattle.dz_name.specs.Words.{Octets}
 use Rattle.dz_history.specs.declared.entry.Entry.{Entry}
 use Rattle.dz_desk.proofs.PrefixLemmas.{prefix_length}
-use Rattle.dz_query.specs.Due.{due}
-use Rattle.dz_query.specs.Served.{Served, sent_of, sent_for, IsExcused, AreInTurn, loss, losses}
+use Rattle.dz_query.specs.Served.{Served, IsExcused, AreInTurn, loss, losses}
 use Rattle.dz_query.specs.declared.fate.Fate.{Fate}
 
 pub take_prefix : {A : Type 0} (n : ℕ) (list later : List A) → IsPrefix list later → n ≤ length list → take n later ≡ take n list
@@ -46,22 +44,22 @@ module _ (may_fail : Type 0) (may_give : ℕ → Bool) (tcp : Bool) where
   turn_back from list [] others t = t
   turn_back from list (s ∷ more) others t = turn_sooner from s.upto list others t.0 (turn_back s.upto list more others t.3)
 
-  -- what was sent by a list is what is sent by a later one, in whatever form it goes
-  pub sent_later : {A : Type 0} (form : Served → List Octets → List A) (from : ℕ) (list later : List Entry) (served : List Served) → IsPrefix list later → AreInTurn may_fail may_give tcp from list served
-      → flat_map (λ (s : Served). form s (sent_for later tcp s)) served ≡ flat_map (λ (s : Served). form s (sent_for list tcp s)) served
-  sent_later form from list later [] p t = refl
-  sent_later form from list later (s ∷ more) p t =
+  -- what goes out by a list is what goes out by a later one, whatever it is
+  pub sent_later : {A : Type 0} (goes : List Entry → Served → List A) (from : ℕ) (list later : List Entry) (served : List Served) → IsPrefix list later → AreInTurn may_fail may_give tcp from list served
+      → flat_map (λ (s : Served). goes (take s.upto later) s) served ≡ flat_map (λ (s : Served). goes (take s.upto list) s) served
+  sent_later goes from list later [] p t = refl
+  sent_later goes from list later (s ∷ more) p t =
       let same : take s.upto later ≡ take s.upto list = take_prefix s.upto list later p (turn_below s.upto list more t.3) in
-      rw (same, sent_later form s.upto list later more p t.3) refl
+      rw (same, sent_later goes s.upto list later more p t.3) refl
 
-  -- the same, and what is sent for one more
-  pub sent_more : {A : Type 0} (form : Served → List Octets → List A) (from : ℕ) (list later : List Entry) (served : List Served) (s : Served) → IsPrefix list later → AreInTurn may_fail may_give tcp from list served → s.upto ≡ length later
-      → flat_map (λ (s : Served). form s (sent_for later tcp s)) (served ++ s ∷ [])
-      ≡ flat_map (λ (s : Served). form s (sent_for list tcp s)) served ++ form s (sent_of s.fate (due later tcp s.request s.moment))
-  sent_more form from list later served s p t whole =
+  -- the same, and what goes out for one more
+  pub sent_more : {A : Type 0} (goes : List Entry → Served → List A) (from : ℕ) (list later : List Entry) (served : List Served) (s : Served) → IsPrefix list later → AreInTurn may_fail may_give tcp from list served → s.upto ≡ length later
+      → flat_map (λ (s : Served). goes (take s.upto later) s) (served ++ s ∷ [])
+      ≡ flat_map (λ (s : Served). goes (take s.upto list) s) served ++ goes later s
+  sent_more goes from list later served s p t whole =
       let last : take s.upto later ≡ later = ap (λ n. take n later) whole ∙ take-length later in
-      flat_map-append (λ (s : Served). form s (sent_for later tcp s)) served (s ∷ [])
-      ∙ (rw (sent_later form from list later served p t, last) (ap (λ xs. flat_map (λ (s : Served). form s (sent_for list tcp s)) served ++ xs) (append-nil (form s (sent_of s.fate (due later tcp s.request s.moment))))))
+      flat_map-append (λ (s : Served). goes (take s.upto later) s) served (s ∷ [])
+      ∙ (rw (sent_later goes from list later served p t, last) (ap (λ xs. flat_map (λ (s : Served). goes (take s.upto list) s) served ++ xs) (append-nil (goes later s))))
 
 pub losses_more : (served : List Served) (s : Served) → losses (served ++ s ∷ []) ≡ losses served + loss s.fate
 losses_more [] s = omega arith

@@ -1,6 +1,9 @@
 pub mod Answer
 pub mod Due
+pub mod Examples
+pub mod Laws
 pub mod Links
+pub mod Sent
 pub mod Served
 pub mod Session
 pub mod Stream

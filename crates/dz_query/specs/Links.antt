@@ -1,6 +1,6 @@
 -- Meaning: what a worker owes for the links that an acceptor gave it, one after the other.
-use Rattle.std.specs.Prelude.{◌≡◌, ℕ, Bool, true, List, length, map, Option, IfSome, IsSome}
-use Rattle.std.specs.List.{flat_map, AllByRecursion}
+use Rattle.std.specs.Prelude.{◌≡◌, ℕ, Bool, true, false, List, length, map, Option, IfSome, IsSome}
+use Rattle.std.specs.List.{flat_map, list_any, AllByRecursion}
 use mathlib.Core.List.{IsPrefix}
 use Rattle.dz_name.specs.Words.{Octets}
 use Rattle.dz_io.specs.Counts.{HasRisen, HasRisenBy}
@@ -12,7 +12,7 @@ use Rattle.dz_query.specs.Stream.{requests_in, EndsBy}
 use Rattle.dz_query.specs.declared.links.LinksEnd.{LinksEnd}
 use Rattle.dz_query.specs.declared.links.LinksEnd.TheVariants as links_end
 use Rattle.dz_query.specs.declared.stream.StreamEnd.{StreamEnd}
-use Rattle.dz_query.specs.declared.stream.StreamEnd.TheVariants.{Ended, Failed}
+use Rattle.dz_query.specs.declared.stream.StreamEnd.TheVariants.{Ended, Failed, OutOfMemory}
 
 -- a link that came back, how its session ended, and its requests
 pub record Visit : Type 0 where
@@ -27,17 +27,27 @@ links_of visits = map (λ (v : Visit). v.link) visits
 abbrev pub all_served : List Visit → List Served
 all_served visits = flat_map (λ (v : Visit). v.served) visits
 
--- where it is told, it is this; after a fault a prefix of it
+-- where it is told, it is this; after a fault or want of memory a prefix of it
 abbrev pub IsWritten : StreamEnd → Octets → Option Octets → Type 0
 IsWritten Ended octets told = Tells octets told
 IsWritten Failed octets told = IfSome told (λ written. IsPrefix written octets)
+IsWritten OutOfMemory octets told = IfSome told (λ written. IsPrefix written octets)
 
 -- the requests are the whole messages that were read, and their replies were written; and nothing was left, or the link's
--- count rose
-pub record IsVisit (list : List Entry) (visit : Visit) : Type 0 where
+-- count rose, or it was starved of memory
+pub record IsVisit (downstream : List Octets) (list : List Entry) (visit : Visit) : Type 0 where
   pub read : IfSome visit.link.read (λ octets. requests visit.served ≡ requests_in visit.link.peer octets)
-  pub written : IsWritten visit.ending (framed list visit.served) visit.link.written
+  pub written : IsWritten visit.ending (framed downstream list visit.served) visit.link.written
   pub ends : EndsBy visit.ending visit.link.left 0 visit.link.faults
+
+-- a session was starved of memory
+abbrev pub has_starved : StreamEnd → Bool
+has_starved Ended = false
+has_starved Failed = false
+has_starved OutOfMemory = true
+
+abbrev pub some_starved : List Visit → Bool
+some_starved visits = list_any (λ (v : Visit). has_starved v.ending) visits
 
 -- what the acceptor, the reading and the clock tell: the links that came back, the sights, and the moments
 pub record LinksTold : Type 0 where
@@ -48,16 +58,23 @@ pub record LinksTold : Type 0 where
 abbrev pub links_told : Option (List Dialled) → ℕ → Option (List ℕ) → LinksTold
 links_told links sights moments = record { links = links; sights = sights; moments = moments }
 
--- these links came back. The requests of all of them are one list, over which the beginnings never shrink
-pub record AreVisits (may_fail : Type 0) (may_give : ℕ → Bool) (from : ℕ) (list : List Entry) (before now : LinksTold) : Type 0 where
+-- these links came back. The requests of all of them are one list, over which the beginnings never shrink. It is known
+-- whether one of them was starved of memory
+pub record AreVisits (starved : Bool) (downstream : List Octets) (may_fail : Type 0) (may_give : ℕ → Bool) (from : ℕ) (list : List Entry) (before now : LinksTold) : Type 0 where
   pub visits : List Visit
   pub links : Gains (links_of visits) before.links now.links
-  pub each : AllByRecursion (IsVisit list) visits
+  pub each : AllByRecursion (IsVisit downstream list) visits
   pub turns : AreInTurn may_fail may_give true from list (all_served visits)
   pub given : IsSome now.moments → Gains (moments (all_served visits)) before.moments now.moments
   pub sights : HasRisenBy (length (all_served visits)) before.sights now.sights
+  pub starving : starved ≡ some_starved visits
+
+-- what the end tells of that
+abbrev pub starved_at : LinksEnd → Bool
+starved_at (links_end.Closed starved) = starved
+starved_at (links_end.Failed starved) = starved
 
 -- closed only where the acceptor said so, and failed only where its count rose
 abbrev pub AcceptsUntil : LinksEnd → Bool → ℕ → ℕ → Type 0
-AcceptsUntil links_end.Closed mark before now = mark ≡ true
-AcceptsUntil links_end.Failed mark before now = HasRisen before now
+AcceptsUntil (links_end.Closed starved) mark before now = mark ≡ true
+AcceptsUntil (links_end.Failed starved) mark before now = HasRisen before now

@@ -1,5 +1,5 @@
 -- Meaning: requests that came to a worker one after the other, and what became of the replies that were due.
-use Rattle.std.specs.Prelude.{⊤, ◌≡◌, ◌≤◌, ◌+◌, ℕ, Bool, true, false, List, [], ◌∷◌, length, map, take, Option, Some, None, IsSome}
+use Rattle.std.specs.Prelude.{⊤, ◌≡◌, ◌≤◌, ◌+◌, ℕ, Bool, true, false, List, [], ◌∷◌, length, map, take, Option, Some, None, IsSome, if◌then◌else◌}
 use Rattle.std.specs.List.{flat_map}
 use Rattle.dz_name.specs.Words.{Octets}
 use Rattle.dz_io.specs.Packets.{Packet, packet}
@@ -7,6 +7,7 @@ use Rattle.dz_message.specs.Frame.{stream}
 use Rattle.dz_notify.specs.Notify.{notify_zone_in}
 use Rattle.dz_history.specs.declared.entry.Entry.{Entry}
 use Rattle.dz_query.specs.Due.{due}
+use Rattle.dz_query.specs.Sent.{asks_for_zone, sent}
 use Rattle.dz_query.specs.declared.fate.Fate.{Fate}
 use Rattle.dz_query.specs.declared.fate.Fate.TheVariants.{Sent, Lost, Unheard}
 
@@ -41,9 +42,14 @@ packets_to request texts = map (λ text. packet text request.peer) texts
 abbrev pub replies : List Entry → List Served → List Packet
 replies list served = flat_map (λ (s : Served). packets_to s.request (sent_for list false s)) served
 
--- over TCP each stands behind its length (RFC 1035 section 4.2.2)
-abbrev pub framed : List Entry → List Served → Octets
-framed list served = stream (flat_map (sent_for list true) served)
+-- over TCP a listed address that asks for a whole zone gets it (RFC 5936 section 4.1), and all other requests what is due
+abbrev pub owed : List Octets → List Entry → Served → List Octets
+owed downstream list s =
+    if asks_for_zone downstream s.request then sent (take s.upto list) s.request s.moment else sent_for list true s
+
+-- there each message stands after its length (RFC 1035 section 4.2.2)
+abbrev pub framed : List Octets → List Entry → List Served → Octets
+framed downstream list served = stream (flat_map (owed downstream list) served)
 
 -- a reply is left out only where a send failed, over UDP, or to a NOTIFY where the log may have failed
 abbrev pub IsExcused : Type 0 → Bool → Fate → Packet → Type 0

@@ -31,7 +31,7 @@ pub(crate) enum Came {
     Failed,
 }
 
-// Reads a message behind its length into the front of the buffer.
+// Reads a message after its length into the front of the buffer.
 pub(crate) fn read_message<S: Source>(source: &mut S, request: &mut Vec<u8>) -> Came
     requires { length request.old.items ≡ BUFFER_OCTETS }
     ensures came { HasCome result request.new.items (S.given source.old) (S.given source.new)

@@ -1,10 +1,10 @@
 //! The sessions over the links of an acceptor.
 
-ghost use Rattle.std.specs.Prelude.{◌≡◌, ◌≤◌, false, None, length};
+ghost use Rattle.std.specs.Prelude.{◌≡◌, ◌≤◌, ◌||◌, false, None, length};
 ghost use mathlib.Core.List.{IsPrefix};
-ghost use Rattle.dz_query.specs.Links.{links_told, AreVisits, AcceptsUntil};
+ghost use Rattle.dz_query.specs.Links.{links_told, has_starved, starved_at, AreVisits, AcceptsUntil};
 
-use crate::stream::serve_stream;
+use crate::stream::{StreamEnd, serve_stream_outward};
 use dz_desk::{Ear, Reading};
 use dz_header::ReplyBuffer;
 use dz_io::{Accepted, Acceptor, Clock, Failed};
@@ -13,14 +13,15 @@ use std::sync::Wait;
 /// Why no further link is served.
 #[derive(Clone, Copy, Debug, PartialEq, Eq)]
 pub enum LinksEnd {
-    /// The acceptor said that no further link comes.
-    Closed,
-    /// The acceptor failed.
-    Failed,
+    /// The acceptor said that no further link comes; `starved` tells whether a link was starved of memory.
+    Closed { starved: bool },
+    /// The acceptor failed; `starved` tells the same.
+    Failed { starved: bool },
 }
 
-/// Serves the links of an acceptor, one after the other, until it closes or fails. Each is served as by `serve_stream`,
-/// and then given back. It takes no memory, and may wait for ever. The publisher has to stay open.
+/// Serves the links of an acceptor, one after the other, until it closes or fails. Each is served as by
+/// `serve_stream_outward`, and then given back. It takes no other memory, and may wait for ever. The publisher has to stay
+/// open.
 #[tactic(auto, using(crate::proofs::LinkLemmas::none_yet, dz_desk::proofs::PrefixLemmas::prefix_self))]
 pub fn serve_links<E: Ear, A: Acceptor, C: Clock, R: Wait>(
     rt: &R,
@@ -28,6 +29,7 @@ pub fn serve_links<E: Ear, A: Acceptor, C: Clock, R: Wait>(
     reading: &mut Reading,
     acceptor: &mut A,
     clock: &mut C,
+    downstream: &[[u8; 4]],
     buffer: &mut ReplyBuffer,
 ) -> LinksEnd
     requires out { reading.old.is_out ≡ false }
@@ -36,7 +38,7 @@ pub fn serve_links<E: Ear, A: Acceptor, C: Clock, R: Wait>(
     ensures seen { IsPrefix reading.old.list reading.new.list }
     ensures same { (reading.new.is_out ≡ false) × (reading.new.book ≡ reading.old.book) }
     ensures back { A.out acceptor.new ≡ None }
-    ensures visits { AreVisits E.may_fail (C.may_give clock.old)
+    ensures visits { AreVisits (starved_at result) downstream.now E.may_fail (C.may_give clock.old)
         (length reading.old.list) reading.new.list
         (links_told (A.links acceptor.old) reading.old.sights (C.given clock.old))
         (links_told (A.links acceptor.new) reading.new.sights (C.given clock.new)) }
@@ -46,16 +48,36 @@ pub fn serve_links<E: Ear, A: Acceptor, C: Clock, R: Wait>(
     ensures give { C.may_give clock.new ≡ C.may_give clock.old }
     ensures stop { C.may_stop clock.new ≡ C.may_stop clock.old }
 {
+    let mut starved = false;
     'links: for _ in rt.forever() {
         match acceptor.accept() {
-            Err(Failed) => return LinksEnd::Failed,
-            Ok(Accepted::Closed) => return LinksEnd::Closed,
+            Err(Failed) => return LinksEnd::Failed { starved },
+            Ok(Accepted::Closed) => return LinksEnd::Closed { starved },
             Ok(Accepted::One(link, peer)) => {
                 let mut link = link;
-                serve_stream(rt, ear, reading, &mut link, clock, &peer, buffer);
+                let end = serve_stream_outward(
+                    rt, ear, reading, &mut link, clock, &peer, downstream, buffer,
+                );
+                starved = some_starved(starved, end);
                 acceptor.done(link);
             }
         }
     }
     unreachable!()
+}
+
+// Whether this session was starved of memory, or one before it.
+fn some_starved(before: bool, end: StreamEnd) -> bool
+    ensures { result ≡ (before || has_starved end) }
+{
+    before || has_starved(end)
+}
+
+fn has_starved(end: StreamEnd) -> bool
+    ensures { result ≡ has_starved end }
+{
+    match end {
+        StreamEnd::Ended | StreamEnd::Failed => false,
+        StreamEnd::OutOfMemory => true,
+    }
 }

@@ -1,17 +1,20 @@
 //! A session over a link.
 
-ghost use Rattle.std.specs.Prelude.{◌≡◌, ◌≤◌, ◌+◌, ◌++◌, false, length, take, drop, OnOk, OnErr};
+ghost use Rattle.std.specs.Prelude.{◌≡◌, ◌≤◌, ◌+◌, ◌++◌, [], false, length, take, drop, OnOk, OnErr};
 ghost use mathlib.Core.List.{IsPrefix};
 ghost use Rattle.dz_io.specs.Device.{Gains, GainsPrefix, HasCause};
 ghost use Rattle.dz_message.specs.Frame.{frame, stream};
 ghost use Rattle.dz_name.specs.declared.dns.TheConstants.{MESSAGE_OCTETS};
 ghost use Rattle.dz_header.specs.declared.writer.TheConstants.{BUFFER_OCTETS};
 ghost use Rattle.dz_query.specs.inner.Replying.{texts_of, IsShort};
+ghost use Rattle.dz_query.specs.inner.Sending.{texts_in, FitsFrame};
 ghost use Rattle.dz_query.specs.Stream.{flow, IsStream, EndsBy};
 
-use crate::answering::{Answered, answer_incoming};
+use crate::answering::Answered;
 use crate::coming::{Came, read_message};
 use crate::incoming::Incoming;
+use crate::outward::send_zone;
+use crate::sending::{Sending, answer_or_send};
 use dz_desk::{Ear, Reading};
 use dz_header::{ReplyBuffer, Writer};
 use dz_io::{Clock, Failed, Link, Peer, Sink};
@@ -27,13 +30,14 @@ pub enum StreamEnd {
     Ended,
     /// A read or a write failed.
     Failed,
+    /// One owner more of a version that was asked for can't be counted.
+    OutOfMemory,
 }
 
-/// Answers the messages of a link, each behind its length (RFC 1035 section 4.2.2), until it ends or fails: each at a
+/// Answers the messages of a link, each after its length (RFC 1035 section 4.2.2), until it ends or fails: each at a
 /// moment of the clock, which is asked once for each, and by the list that the reading sees then. A part of a message at
 /// the end gets no reply. A reply is one write, with its length in front (RFC 7766 section 8). An ear hears NOTIFY
 /// (RFC 1996). It takes no memory, and may wait for ever. The publisher has to stay open.
-#[tactic(auto, using(crate::proofs::StreamLemmas::none_yet, dz_desk::proofs::PrefixLemmas::prefix_self))]
 pub fn serve_stream<E: Ear, L: Link, C: Clock, R: Wait>(
     rt: &R,
     ear: &E,
@@ -47,7 +51,40 @@ pub fn serve_stream<E: Ear, L: Link, C: Clock, R: Wait>(
     requires own { reading.old.book ≡ E.publisher }
     ensures seen { IsPrefix reading.old.list reading.new.list }
     ensures same { (reading.new.is_out ≡ false) × (reading.new.book ≡ reading.old.book) }
-    ensures stream { IsStream result E.may_fail (C.may_give clock.old)
+    ensures stream { IsStream result [] E.may_fail (C.may_give clock.old)
+        (length reading.old.list) reading.new.list
+        peer.now
+        (flow (L.given link.old) (L.held link.old) reading.old.sights (C.given clock.old))
+        (flow (L.given link.new) (L.held link.new) reading.new.sights (C.given clock.new)) }
+    ensures ends { EndsBy result (L.left link.new) (L.Source.faults link.old)
+        (L.Source.faults link.new) }
+    ensures later { L.Source.faults link.old ≤ L.Source.faults link.new }
+    ensures give { C.may_give clock.new ≡ C.may_give clock.old }
+    ensures stop { C.may_stop clock.new ≡ C.may_stop clock.old }
+    ensures plenty { result ≡ StreamEnd.OutOfMemory → ⊥ }
+{
+    serve_stream_outward(rt, ear, reading, link, clock, peer, &[], buffer)
+}
+
+/// The same as [`serve_stream`], but for a listed address that asks for a whole zone (RFC 5936): it gets the messages of
+/// the version, each in one write, or an error. The version is kept by one owner more, and the sight is left before the
+/// first octet. Where that owner can't be counted it ends, before the first octet of that reply. It takes no other memory.
+#[tactic(auto, using(crate::proofs::StreamLemmas::none_yet, dz_desk::proofs::PrefixLemmas::prefix_self))]
+pub fn serve_stream_outward<E: Ear, L: Link, C: Clock, R: Wait>(
+    rt: &R,
+    ear: &E,
+    reading: &mut Reading,
+    link: &mut L,
+    clock: &mut C,
+    peer: &Peer,
+    downstream: &[[u8; 4]],
+    buffer: &mut ReplyBuffer,
+) -> StreamEnd
+    requires out { reading.old.is_out ≡ false }
+    requires own { reading.old.book ≡ E.publisher }
+    ensures seen { IsPrefix reading.old.list reading.new.list }
+    ensures same { (reading.new.is_out ≡ false) × (reading.new.book ≡ reading.old.book) }
+    ensures stream { IsStream result downstream.now E.may_fail (C.may_give clock.old)
         (length reading.old.list) reading.new.list
         peer.now
         (flow (L.given link.old) (L.held link.old) reading.old.sights (C.given clock.old))
@@ -72,8 +109,11 @@ pub fn serve_stream<E: Ear, L: Link, C: Clock, R: Wait>(
             moment: clock.now(),
             transport: Transport::Tcp,
         };
-        let answered = answer_incoming(rt, ear, reading, &incoming, reply);
-        match write_answer(link, answered, reply, request) {
+        let sending = match answer_or_send(rt, ear, reading, &incoming, downstream, reply) {
+            Err(_) => return StreamEnd::OutOfMemory,
+            Ok(sending) => sending,
+        };
+        match write_sending(link, sending, reply, request) {
             Err(Failed) => return StreamEnd::Failed,
             Ok(()) => {}
         }
@@ -81,7 +121,32 @@ pub fn serve_stream<E: Ear, L: Link, C: Clock, R: Wait>(
     unreachable!()
 }
 
-// Writes the reply, if there is one, behind its length. It is put together in the room for requests.
+// Writes what goes out, each message after its length. They are put together in the room for requests.
+fn write_sending<S: Sink>(
+    sink: &mut S,
+    sending: Sending,
+    writer: &mut Writer,
+    room: &mut Vec<u8>,
+) -> Result<(), Failed>
+    requires room { length room.old.items ≡ BUFFER_OCTETS }
+    requires short { FitsFrame sending writer.old.writing }
+    ensures all { OnOk result
+        (Gains (stream (texts_in sending writer.old.writing)) (S.held sink.old)
+        (S.held sink.new)) }
+    ensures err { OnErr result
+        (GainsPrefix (stream (texts_in sending writer.old.writing)) (S.held sink.old)
+        (S.held sink.new)) }
+    ensures room { length room.new.items ≡ BUFFER_OCTETS }
+    ensures beside { S.beside sink.new ≡ S.beside sink.old }
+    ensures cause { HasCause (S.faults sink.old) (S.faults sink.new) result }
+{
+    match sending {
+        Sending::Reply(answered) => write_answer(sink, answered, writer, room),
+        Sending::Zone(outgoing) => send_zone(sink, outgoing, writer, room),
+    }
+}
+
+// Writes the reply, if there is one, after its length. It is put together in the room for requests.
 fn write_answer<S: Sink>(
     sink: &mut S,
     answered: Answered,
@@ -106,8 +171,12 @@ fn write_answer<S: Sink>(
     }
 }
 
-// Writes a message behind its length, in one call (RFC 7766 section 8).
-fn write_framed<S: Sink>(sink: &mut S, message: &[u8], room: &mut Vec<u8>) -> Result<(), Failed>
+// Writes a message after its length, in one call (RFC 7766 section 8).
+pub(crate) fn write_framed<S: Sink>(
+    sink: &mut S,
+    message: &[u8],
+    room: &mut Vec<u8>,
+) -> Result<(), Failed>
     requires room { length room.old.items ≡ BUFFER_OCTETS }
     requires short { length message.now ≤ MESSAGE_OCTETS }
     ensures all { OnOk result (Gains (frame message.now) (S.held sink.old) (S.held sink.new)) }

@@ -5,16 +5,18 @@ use Rattle.dz_io.specs.Counts.{HasRisen, HasRisenBy}
 use Rattle.dz_io.specs.Device.{Gains, Tells}
 use Rattle.dz_io.specs.Links.{Dialled}
 use Rattle.dz_io.specs.Ports.{Exchange, Accepts, Dials, exchange, IsFreshExchange, IsFreshAccepts, IsFreshDials}
+use Rattle.dz_name.specs.Words.{Octets}
 use Rattle.dz_history.specs.declared.entry.Entry.{Entry}
 use Rattle.dz_desk.specs.Seen.{Viewed}
 use Rattle.dz_desk.proofs.PrefixLemmas.{prefix_length}
-use Rattle.dz_query.specs.Served.{Served, requests, packets_to, replies, losses, AreInTurn}
+use Rattle.dz_query.specs.Due.{due}
+use Rattle.dz_query.specs.Served.{Served, requests, sent_of, packets_to, replies, losses, AreInTurn}
 use Rattle.dz_query.specs.Session.{Told, AreAnswered, HasAnswered, HasFailed, IsSession, HasClosed}
 use Rattle.dz_query.specs.declared.datagrams.SessionEnd.{SessionEnd}
 use Rattle.dz_query.specs.declared.datagrams.SessionEnd.TheVariants.{Closed, Failed}
 use Rattle.dz_query.proofs.GainLemmas.{tells_gained}
 use Rattle.dz_query.proofs.TurnLemmas.{turn_later, turn_sooner, sent_later}
-use Rattle.dz_query.specs.Links.{Visit, links_of, all_served, AreVisits, AcceptsUntil, links_told}
+use Rattle.dz_query.specs.Links.{Visit, links_of, all_served, starved_at, AreVisits, AcceptsUntil, links_told}
 use Rattle.dz_query.specs.declared.links.LinksEnd.{LinksEnd}
 use Rattle.dz_query.specs.declared.links.LinksEnd.TheVariants as links_ends
 use Rattle.dz_query.proofs.LinkLemmas.{visits_later}
@@ -47,7 +49,7 @@ module _ (may_fail : Type 0) (may_give : ℕ → Bool) (from : ℕ) (list later 
 
   sent_of_all : (served : List Served) → AreAnswered may_fail may_give from list old now served → Tells (replies later served) now.sent
   sent_of_all served a =
-      rw (sent_later may_fail may_give false (λ s texts. packets_to s.request texts) from list later served p a.turns)
+      rw (sent_later may_fail may_give false (λ list s. packets_to s.request (sent_of s.fate (due list false s.request s.moment))) from list later served p a.turns)
       (tells_gained (replies list served) old.sent now.sent s a.sent)
 
   pub exchanged : (e : SessionEnd) (mark : Bool) → HasClosed e mark → IsSession e may_fail may_give from list old now
@@ -91,12 +93,12 @@ dialled_over dialed from list later old now low p none f t = record {
   last = t.last;
 }
 
-pub accepted : (e : LinksEnd) (may_fail : Type 0) (may_give : ℕ → Bool) (from : ℕ) (list later : List Entry) (old now : Accepts) (s0 s1 : ℕ) (given told : Option (List ℕ)) → 1 ≤ from → IsPrefix list later
+pub accepted : (e : LinksEnd) (downstream : List Octets) (may_fail : Type 0) (may_give : ℕ → Bool) (from : ℕ) (list later : List Entry) (old now : Accepts) (s0 s1 : ℕ) (given told : Option (List ℕ)) → 1 ≤ from → IsPrefix list later
     → Tells [] old.links → old.faults ≡ 0 → AcceptsUntil e now.is_closed old.faults now.faults
-    → AreVisits may_fail may_give from list (links_told old.links s0 given) (links_told now.links s1 told)
-    → IsAccepted (has_closed e) may_fail may_give later now
-accepted e may_fail may_give from list later old now s0 s1 given told low p none f until v =
-    let w = visits_later may_fail may_give from list later (links_told old.links s0 given) (links_told now.links s1 told) p v in
+    → AreVisits (starved_at e) downstream may_fail may_give from list (links_told old.links s0 given) (links_told now.links s1 told)
+    → IsAccepted (has_closed e) (starved_at e) downstream may_fail may_give later now
+accepted e downstream may_fail may_give from list later old now s0 s1 given told low p none f until v =
+    let w = visits_later (starved_at e) downstream may_fail may_give from list later (links_told old.links s0 given) (links_told now.links s1 told) p v in
     record {
       visits = w.visits;
       links = tells_gained (links_of w.visits) old.links now.links none w.links;
@@ -104,15 +106,16 @@ accepted e may_fail may_give from list later old now s0 s1 given told low p none
       turns = turn_sooner may_fail may_give true 1 from later (all_served w.visits) low w.turns;
       closed = closed_by e until;
       faulty = faulty_by e until;
+      starving = w.starving;
     }
   where
     closed_by : (e : LinksEnd) → AcceptsUntil e now.is_closed old.faults now.faults → has_closed e ≡ true → now.is_closed ≡ true
-    closed_by links_ends.Closed mark is = mark
-    closed_by links_ends.Failed risen is = absurd (cc is)
+    closed_by (links_ends.Closed starved) mark is = mark
+    closed_by (links_ends.Failed starved) risen is = absurd (cc is)
 
     faulty_by : (e : LinksEnd) → AcceptsUntil e now.is_closed old.faults now.faults → has_closed e ≡ false → HasRisen 0 now.faults
-    faulty_by links_ends.Closed mark is = absurd (cc is)
-    faulty_by links_ends.Failed risen is = rw f at risen
+    faulty_by (links_ends.Closed starved) mark is = absurd (cc is)
+    faulty_by (links_ends.Failed starved) risen is = rw f at risen
 
 -- ---- by the list that a run leaves
 seen_one : (first list : List Entry) → 0 < length first → IsPrefix first list → 1 ≤ length list
@@ -127,13 +130,13 @@ listened_run e mark m may_fail give may_give before after old now first later so
     (exchanged may_fail give (length before.list) after.list later old now (seen_one first before.list some begins) p
     fresh.unreceived fresh.unsent fresh.faultless e mark h.closed h.session)
 
-pub linked_run : (e : LinksEnd) (may_fail : Type 0) (give may_give : ℕ → Bool) (before after : Viewed) (old now : Accepts) (given told : Option (List ℕ)) (first later : List Entry)
+pub linked_run : (e : LinksEnd) (downstream : List Octets) (may_fail : Type 0) (give may_give : ℕ → Bool) (before after : Viewed) (old now : Accepts) (given told : Option (List ℕ)) (first later : List Entry)
     → 0 < length first → IsPrefix first before.list → IsPrefix after.list later → give ≡ may_give
-    → IsFreshAccepts old → HasLinked e may_fail give before after old now given told
-    → IsAccepted (has_closed e) may_fail may_give later now
-linked_run e may_fail give may_give before after old now given told first later some begins p same fresh h =
+    → IsFreshAccepts old → HasLinked e downstream may_fail give before after old now given told
+    → IsAccepted (has_closed e) (starved_at e) downstream may_fail may_give later now
+linked_run e downstream may_fail give may_give before after old now given told first later some begins p same fresh h =
     rw (sym same)
-    (accepted e may_fail give (length before.list) after.list later old now before.sights after.sights given told
+    (accepted e downstream may_fail give (length before.list) after.list later old now before.sights after.sights given told
     (seen_one first before.list some begins) p fresh.unaccepted fresh.faultless h.until h.visits)
 
 pub transferred_run : (done : Transfers) (may_stop : Bool) (before after : Viewed) (old now : Dials) (first later : List Entry)
@@ -144,18 +147,20 @@ transferred_run done may_stop before after old now first later some begins p fre
     dialled_over done.dialed (length before.list) after.list later old now (seen_one first before.list some begins) p
     fresh.undialled fresh.faultless h.transfers
 
-pub is_run : (how : ServeEnd) (may_fail : Type 0) (may_give : ℕ → Bool) (list : List Entry) (before after : Rows) (w1 w2 c1 c2 d1 d2 : Bool) (one two : Exchange) (three four : Accepts) (five six : Dials)
+pub is_run : (how : ServeEnd) (downstream : List Octets) (may_fail : Type 0) (may_give : ℕ → Bool) (list : List Entry) (before after : Rows) (w1 w2 c1 c2 s1 s2 d1 d2 : Bool) (one two : Exchange) (three four : Accepts) (five six : Dials)
     → after.datagrams ≡ both_back one two before.datagrams → after.acceptors ≡ both_back three four before.acceptors → after.dialers ≡ both_back five six before.dialers
     → IsExchanged w1 may_fail may_give list one → IsExchanged w2 may_fail may_give list two
-    → IsAccepted c1 may_fail may_give list three → IsAccepted c2 may_fail may_give list four
+    → IsAccepted c1 s1 downstream may_fail may_give list three → IsAccepted c2 s2 downstream may_fail may_give list four
     → IsDialled d1 list five → IsDialled d2 list six
-    → (how ≡ ends.Done → (w1 ≡ true) × (w2 ≡ true) × (c1 ≡ true) × (c2 ≡ true) × ((d1 ≡ true) ⊎ (d2 ≡ true)))
-    → IsRun how may_fail may_give list before after
-is_run how may_fail may_give list before after w1 w2 c1 c2 d1 d2 one two three four five six d a l e1 e2 a1 a2 i1 i2 done = record {
+    → (how ≡ ends.Done → (w1 ≡ true) × (w2 ≡ true) × (c1 ≡ true) × (c2 ≡ true) × (s1 ≡ false) × (s2 ≡ false) × ((d1 ≡ true) ⊎ (d2 ≡ true)))
+    → IsRun how downstream may_fail may_give list before after
+is_run how downstream may_fail may_give list before after w1 w2 c1 c2 s1 s2 d1 d2 one two three four five six d a l e1 e2 a1 a2 i1 i2 done = record {
   whole_one = w1;
   whole_two = w2;
   closed_one = c1;
   closed_two = c2;
+  starved_one = s1;
+  starved_two = s2;
   dialed_one = d1;
   dialed_two = d2;
   one = one;

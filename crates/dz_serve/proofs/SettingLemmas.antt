@@ -1,6 +1,7 @@
 -- What is configured is allowed.
-use Rattle.std.proofs.Common.{◌≡◌, inl, inr, ◌≤◌, List, [], ◌++◌, length, Option, None, Some, Ok, Err, refl, sym, ap, ◌∙◌}
+use Rattle.std.proofs.Common.{◌≡◌, inl, inr, ◌≤◌, Bool, List, [], ◌++◌, length, Option, None, Some, Ok, Err, refl, sym, ap, subst, ◌∙◌}
 use Rattle.std.proofs.lemmas.Bool.{cases_Bool}
+use Rattle.std.specs.Prelude.{nat_lt, not, if◌then◌else◌}
 use Rattle.std.specs.Option.{option_map}
 use Rattle.toml.specs.Data.{Members}
 use Rattle.dz_io.specs.declared.peer.Peer.{Peer}
@@ -10,27 +11,39 @@ use Rattle.dz_name.specs.Words.{Octets}
 use Rattle.dz_io.specs.Device.{Gains, GainsPrefix, IsAtEnd}
 use Rattle.dz_config.specs.declared.fault.ConfigFault.{ConfigFault}
 use Rattle.dz_config.specs.declared.config.TheConstants.{TEXT_OCTETS}
-use Rattle.dz_config.specs.Reading.{Reading, read_in}
-use Rattle.dz_config.specs.Document.{judged, settings_of, config_of}
+use Rattle.dz_config.specs.Reading.{Reading, made, read_in}
+use Rattle.dz_config.specs.Document.{addresses_of, judged, settings_of, said_of, config_of}
+use Rattle.dz_config.specs.declared.config.Said.{Said}
+use Rattle.dz_config.specs.declared.fault.ConfigFault.TheVariants.{OutOfLimits, Twice}
 use Rattle.dz_serve.specs.Command.{bad_config, IsText, SaysBad}
 use Rattle.dz_serve.specs.declared.status.ServeEnd.{ServeEnd}
 use Rattle.dz_serve.specs.declared.status.ServeEnd.TheVariants as ends
 
-judged_allowed : (s t : Peer × List CatalogSettings) → judged s ≡ Ok t → IsAllowed t.1
-judged_allowed s t is = elim (cases_Bool (is_within_limits s.1)) [
-  | inl limits ↦ elim (cases_Bool (has_each_once s.1)) [
-    | inl once ↦ let same : s ≡ t = cc (rw (limits, once) at is) in rw (sym same) (rw (limits, once) refl)
-    | inr twice ↦ absurd (cc (rw (limits, twice) at is))
+tests_allowed : (config : List CatalogSettings) (beyond : Bool) (said t : Said) → said.config ≡ config
+    → (if not (is_within_limits config) then Err OutOfLimits else if beyond then Err OutOfLimits else if not (has_each_once config) then Err Twice else Ok said) ≡ Ok t → IsAllowed t.config
+tests_allowed config beyond said t same is = elim (cases_Bool (is_within_limits config)) [
+  | inl limits ↦ elim (cases_Bool beyond) [
+    | inl more ↦ absurd (cc (rw (limits, more) at is))
+    | inr few ↦ elim (cases_Bool (has_each_once config)) [
+      | inl once ↦ let one : said ≡ t = cc (rw (limits, few, once) at is) in rw (sym one, same) (rw (limits, once) refl)
+      | inr twice ↦ absurd (cc (rw (limits, few, twice) at is))
+    ]
   ]
-  | inr beyond ↦ absurd (cc (rw beyond at is))
+  | inr out ↦ absurd (cc (rw out at is))
 ]
 
-read_allowed : (r : Reading (Peer × List CatalogSettings)) (t : Peer × List CatalogSettings) → read_in judged r ≡ Ok t → IsAllowed t.1
-read_allowed (Ok s) t is = judged_allowed s t is
+read_allowed : (r : Reading (Peer × (List CatalogSettings × List Peer))) (t : Said) → read_in judged r ≡ Ok t → IsAllowed t.config
+read_allowed (Ok s) t is = tests_allowed s.1.0 (nat_lt 16 (length s.1.1)) (record { listen = s.0; config = s.1.0; downstream = addresses_of s.1.1 }) t refl is
 read_allowed (Err fault) t is = absurd (cc is)
 
+made_allowed : (r : Reading Said) (t : Peer × List CatalogSettings) → ((said : Said) → r ≡ Ok said → IsAllowed said.config) → made (λ s. (s.listen, s.config)) r ≡ Ok t → IsAllowed t.1
+made_allowed (Ok said) t each is =
+    let same : (said.listen, said.config) ≡ t = cc (is) in
+    subst (λ (t : Peer × List CatalogSettings). IsAllowed t.1) same (each said refl)
+made_allowed (Err fault) t each is = absurd (cc is)
+
 pub config_allowed : (table : Members) (t : Peer × List CatalogSettings) → config_of table ≡ Ok t → IsAllowed t.1
-config_allowed table t is = read_allowed (settings_of table) t is
+config_allowed table t is = made_allowed (said_of table) t (λ said. read_allowed (settings_of table) said) is
 
 -- what was said of a fault
 pub says_bad : (fault : ConfigFault) (how : ServeEnd) (before after : Option Octets) → how ≡ ends.BadInput → Gains (bad_config fault) before after → SaysBad fault how before after

@@ -6,11 +6,12 @@ use Rattle.dz_io.specs.declared.peer.Peer.{Peer}
 use Rattle.dz_member.specs.declared.config.CatalogSettings.{CatalogSettings}
 use Rattle.dz_history.specs.declared.entry.Entry.{Entry}
 use Rattle.dz_provision.specs.Log.{IsLogged}
-use Rattle.dz_config.specs.Config.{Reads}
+use Rattle.dz_config.specs.Config.{Reads, ReadsDownstream}
 use Rattle.dz_config.specs.Reading.{number_of}
 use Rattle.dz_config.specs.declared.config.TheConstants.{TEXT_OCTETS}
 use Rattle.dz_config.specs.declared.fault.ConfigFault.{ConfigFault}
-use Rattle.dz_config.specs.declared.fault.ConfigError.TheVariants.{Fault}
+use Rattle.dz_config.specs.declared.fault.ConfigError.{ConfigError}
+use Rattle.dz_config.specs.declared.fault.ConfigError.TheVariants.{Fault, OutOfMemory}
 use Rattle.dz_serve.specs.Ends.{is_write_fault}
 use Rattle.dz_serve.specs.Rows.{Rows, AreUnused, opened_at}
 use Rattle.dz_serve.specs.Runs.{IsRun, IsListOf}
@@ -25,10 +26,17 @@ pub record IsText (text : Octets) (before after : Option Octets) : Type 0 where
   pub gives : Gives text before after
   pub all : length text ≤ TEXT_OCTETS → IsAtEnd after
 
--- what was read of an input with these octets: its configuration, or its fault; a fault of the source and want of memory
+-- what was read of a text: its configuration and the addresses to which zones are sent, or its fault; want of memory tells
+-- nothing
+abbrev pub IsSetting : Octets → Result Setting ConfigError → Type 0
+IsSetting octets (Ok setting) = Reads octets (Ok (setting.listen, setting.config)) × ReadsDownstream octets (Ok setting.downstream)
+IsSetting octets (Err (Fault fault)) = Reads octets (Err (Fault fault))
+IsSetting octets (Err OutOfMemory) = ⊤
+
+-- what was read of an input with these octets: its configuration and the addresses to which zones are sent, or its fault; a fault of the source and want of memory
 -- tell nothing
 abbrev pub IsSettingOf : Octets → Result Setting Unset → Type 0
-IsSettingOf octets (Ok setting) = Reads octets (Ok (setting.listen, setting.config))
+IsSettingOf octets (Ok setting) = Reads octets (Ok (setting.listen, setting.config)) × ReadsDownstream octets (Ok setting.downstream)
 IsSettingOf octets (Err (unset.Bad fault)) = Reads octets (Err (Fault fault))
 IsSettingOf octets (Err unset.Read) = ⊤
 IsSettingOf octets (Err unset.OutOfMemory) = ⊤
@@ -37,7 +45,7 @@ IsSettingOf octets (Err unset.OutOfMemory) = ⊤
 abbrev pub bad_config : ConfigFault → Octets
 bad_config fault = codes "bad config " ++ ((48 + number_of fault) ∷ 10 ∷ [])
 
--- the line was written; or the write failed behind a prefix of it
+-- the line was written; or the write failed after a prefix of it
 abbrev pub SaysBad : ConfigFault → ServeEnd → Option Octets → Option Octets → Type 0
 SaysBad fault ends.BadInput before after = Gains (bad_config fault) before after
 SaysBad fault ends.WriteFault before after = GainsPrefix (bad_config fault) before after
@@ -54,13 +62,16 @@ IsIdle ends.BadInput input held = (fault : ConfigFault) × HasFault input fault 
 IsIdle ends.WriteFault input held = (fault : ConfigFault) × HasFault input fault × ((n : ℕ) × Tells (take n (bad_config fault)) held)
 IsIdle how input held = Tells [] held
 
--- a server ran with the configuration of the input: its list begins with that, and the log of the list is written
+-- a server ran with the configuration of the input and sent zones to the addresses that it has: the list begins with the
+-- configuration, and the log of the list is written
 pub record IsServed (how : ServeEnd) (may_fail : Type 0) (may_give : ℕ → Bool) (input held : Option Octets) (list : List Entry) (before after : Rows) : Type 0 where
   pub listen : Peer
   pub config : List CatalogSettings
+  pub downstream : List Octets
   pub reads : (octets : Octets) → input ≡ Some octets → Reads octets (Ok (listen, config))
+  pub lists : (octets : Octets) → input ≡ Some octets → ReadsDownstream octets (Ok downstream)
   pub begins : IsListOf config list
-  pub run : IsRun how may_fail may_give list (opened_at listen before) after
+  pub run : IsRun how downstream may_fail may_give list (opened_at listen before) after
   pub logged : IsLogged list held (is_write_fault how)
 
 -- what came of the command: no worker was started, the list has no entry, and what was opened is closed; or a server ran

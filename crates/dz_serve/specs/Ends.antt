@@ -15,8 +15,8 @@ is_whole Failed = false
 
 -- an acceptor closed
 abbrev pub has_closed : LinksEnd → Bool
-has_closed links_ends.Closed = true
-has_closed links_ends.Failed = false
+has_closed (links_ends.Closed starved) = true
+has_closed (links_ends.Failed starved) = false
 
 -- a write to the log failed
 abbrev pub is_write_fault : ServeEnd → Bool

@@ -1,6 +1,7 @@
 -- Meaning: what a run of a server shows: of its list of taken transfers, and of each device that it opened.
 use Rattle.std.specs.Prelude.{◌≡◌, ◌⊎◌, ℕ, Bool, true, false, List, Option, Some, slice_get}
 use Rattle.std.specs.List.{AllByRecursion}
+use Rattle.dz_name.specs.Words.{Octets}
 use Rattle.dz_io.specs.Counts.{HasRisen, HasRisenBy}
 use Rattle.dz_io.specs.Device.{Tells}
 use Rattle.dz_io.specs.Ports.{Exchange, Accepts, Dials}
@@ -9,7 +10,7 @@ use Rattle.dz_history.specs.declared.entry.Entry.{Entry}
 use Rattle.dz_history.specs.declared.entry.Entry.TheVariants.{Setup}
 use Rattle.dz_history.specs.Legal.{IsLegal}
 use Rattle.dz_query.specs.Served.{Served, requests, replies, losses, AreInTurn}
-use Rattle.dz_query.specs.Links.{Visit, IsVisit, links_of, all_served}
+use Rattle.dz_query.specs.Links.{Visit, IsVisit, links_of, all_served, some_starved}
 use Rattle.dz_work.specs.Serving.{Dial, IsServed, link_faults, DialsShow, LogFaultIsLast}
 use Rattle.dz_work.specs.Serving as work
 use Rattle.dz_serve.specs.Rows.{Rows, both_back}
@@ -28,14 +29,16 @@ pub record IsExchanged (is_whole : Bool) (may_fail : Type 0) (may_give : ℕ →
   pub whole : is_whole ≡ true → (losses served ≡ 0) × (x.is_closed ≡ true)
   pub faulty : is_whole ≡ false → HasRisen 0 x.faults
 
--- an acceptor: the same of the requests over its links, of all links in their order
-pub record IsAccepted (has_closed : Bool) (may_fail : Type 0) (may_give : ℕ → Bool) (list : List Entry) (y : Accepts) : Type 0 where
+-- an acceptor: the same of the requests over its links, of all links in their order; zones are sent to the addresses of
+-- `downstream`. It is starved where one of its links was starved of memory
+pub record IsAccepted (has_closed starved : Bool) (downstream : List Octets) (may_fail : Type 0) (may_give : ℕ → Bool) (list : List Entry) (y : Accepts) : Type 0 where
   pub visits : List Visit
   pub links : Tells (links_of visits) y.links
-  pub each : AllByRecursion (IsVisit list) visits
+  pub each : AllByRecursion (IsVisit downstream list) visits
   pub turns : AreInTurn may_fail may_give true 1 list (all_served visits)
   pub closed : has_closed ≡ true → y.is_closed ≡ true
   pub faulty : has_closed ≡ false → HasRisen 0 y.faults
+  pub starving : starved ≡ some_starved visits
 
 -- a dialer: each link has its receipt
 pub record IsDialled (dialed : Bool) (list : List Entry) (z : Dials) : Type 0 where
@@ -47,11 +50,13 @@ pub record IsDialled (dialed : Bool) (list : List Entry) (z : Dials) : Type 0 wh
   pub last : LogFaultIsLast dials
 
 -- two devices of each kind were served and given back
-pub record IsRun (how : ServeEnd) (may_fail : Type 0) (may_give : ℕ → Bool) (list : List Entry) (before after : Rows) : Type 0 where
+pub record IsRun (how : ServeEnd) (downstream : List Octets) (may_fail : Type 0) (may_give : ℕ → Bool) (list : List Entry) (before after : Rows) : Type 0 where
   pub whole_one : Bool
   pub whole_two : Bool
   pub closed_one : Bool
   pub closed_two : Bool
+  pub starved_one : Bool
+  pub starved_two : Bool
   pub dialed_one : Bool
   pub dialed_two : Bool
   pub one : Exchange
@@ -65,12 +70,12 @@ pub record IsRun (how : ServeEnd) (may_fail : Type 0) (may_give : ℕ → Bool) 
   pub dialers : after.dialers ≡ both_back five six before.dialers
   pub exchanged_one : IsExchanged whole_one may_fail may_give list one
   pub exchanged_two : IsExchanged whole_two may_fail may_give list two
-  pub accepted_one : IsAccepted closed_one may_fail may_give list three
-  pub accepted_two : IsAccepted closed_two may_fail may_give list four
+  pub accepted_one : IsAccepted closed_one starved_one downstream may_fail may_give list three
+  pub accepted_two : IsAccepted closed_two starved_two downstream may_fail may_give list four
   pub dialled_one : IsDialled dialed_one list five
   pub dialled_two : IsDialled dialed_two list six
   pub done : how ≡ ends.Done → (whole_one ≡ true) × (whole_two ≡ true) × (closed_one ≡ true) × (closed_two ≡ true)
-      × ((dialed_one ≡ true) ⊎ (dialed_two ≡ true))
+      × (starved_one ≡ false) × (starved_two ≡ false) × ((dialed_one ≡ true) ⊎ (dialed_two ≡ true))
 
 -- the list that a run leaves can come about, and begins with the configuration
 pub record IsListOf (config : List CatalogSettings) (list : List Entry) : Type 0 where

@@ -1,13 +1,14 @@
 -- Meaning: what workers hand on.
 use Rattle.std.specs.Prelude.{◌≡◌, ℕ, Bool, true, false, List, length, Option}
 use mathlib.Core.List.{IsPrefix}
+use Rattle.dz_name.specs.Words.{Octets}
 use Rattle.dz_io.specs.Links.{Dialled}
 use Rattle.dz_io.specs.Ports.{Accepts, Dials}
 use Rattle.dz_history.specs.declared.entry.Entry.{Entry}
 use Rattle.dz_desk.specs.Seen.{Book, Viewed}
 use Rattle.dz_query.specs.Session.{Told, IsSession, HasClosed}
 use Rattle.dz_query.specs.declared.datagrams.SessionEnd.{SessionEnd}
-use Rattle.dz_query.specs.Links.{AreVisits, AcceptsUntil, links_told}
+use Rattle.dz_query.specs.Links.{AreVisits, AcceptsUntil, links_told, starved_at}
 use Rattle.dz_query.specs.declared.links.LinksEnd.{LinksEnd}
 use Rattle.dz_work.specs.Serving.{IsTransfers}
 use Rattle.dz_work.specs.declared.serving.Transfers.{Transfers}
@@ -25,10 +26,10 @@ pub record HasListened (ending : SessionEnd) (mark : Bool) (may_fail : Type 0) (
   pub session : IsSession ending may_fail may_give (length before.list) after.list old now
   pub closed : HasClosed ending mark
 
--- a link worker: the sessions over its links
-pub record HasLinked (ending : LinksEnd) (may_fail : Type 0) (may_give : ℕ → Bool) (before after : Viewed) (old now : Accepts) (given told : Option (List ℕ)) : Type 0 where
+-- a link worker: the sessions over its links, by the addresses to which zones are sent
+pub record HasLinked (ending : LinksEnd) (downstream : List Octets) (may_fail : Type 0) (may_give : ℕ → Bool) (before after : Viewed) (old now : Accepts) (given told : Option (List ℕ)) : Type 0 where
   pub more : HasSeenMore before after
-  pub visits : AreVisits may_fail may_give (length before.list) after.list (links_told old.links before.sights given) (links_told now.links after.sights told)
+  pub visits : AreVisits (starved_at ending) downstream may_fail may_give (length before.list) after.list (links_told old.links before.sights given) (links_told now.links after.sights told)
   pub until : AcceptsUntil ending now.is_closed old.faults now.faults
 
 -- a transfer worker

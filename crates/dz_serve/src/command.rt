@@ -12,14 +12,14 @@ ghost use Rattle.dz_config.specs.Config.{Reads};
 ghost use Rattle.dz_config.specs.declared.fault.ConfigFault.{ConfigFault};
 ghost use Rattle.dz_config.specs.declared.fault.ConfigError.TheVariants.{Fault};
 ghost use Rattle.dz_desk.specs.Seen.{IsFresh};
-ghost use Rattle.dz_serve.specs.Command.{IsServe, IsSettingOf, SaysBad, bad_config};
+ghost use Rattle.dz_serve.specs.Command.{IsServe, IsSetting, IsSettingOf, SaysBad, bad_config};
 ghost use Rattle.dz_serve.specs.Ends.{is_write_fault};
 ghost use Rattle.dz_serve.specs.Rows.{rows};
 
 use crate::serving::{Served, Setting, serve, unserved};
 use crate::status::ServeEnd;
 use crate::text::{TextError, read_text};
-use dz_config::{ConfigError, ConfigFault, read_config};
+use dz_config::{ConfigError, ConfigFault, read_config, read_downstream};
 use dz_desk::Desk;
 use dz_io::{Clock, Failed, Ports, Sink, Source};
 use dz_provision::Naming;
@@ -34,7 +34,7 @@ pub(crate) enum Unset {
     Read,
     /// The input is no configuration.
     Bad(ConfigFault),
-    /// Memory is wanting.
+    /// No memory is left.
     OutOfMemory,
 }
 
@@ -43,7 +43,7 @@ pub(crate) enum Unset {
 /// # Errors
 ///
 /// `Read` where the source failed; `Bad` with the least fault where the input is no configuration; `OutOfMemory` where
-/// memory is wanting.
+/// no memory is left.
 pub(crate) fn read_setting<S: Source>(alloc: Global, source: &mut S) -> Result<Setting, Unset>
     ensures reads { (octets : Octets) → S.left source.old ≡ Some octets
         → IsSettingOf octets result }
@@ -57,12 +57,25 @@ pub(crate) fn read_setting<S: Source>(alloc: Global, source: &mut S) -> Result<S
     match read_text(alloc, source) {
         Err(TextError::Read) => Err(Unset::Read),
         Err(TextError::OutOfMemory) => Err(Unset::OutOfMemory),
-        Ok(text) => match read_config(alloc, &text) {
-            Ok((listen, config)) => Ok(Setting { listen, config }),
+        Ok(text) => match setting_of(alloc, &text) {
+            Ok(setting) => Ok(setting),
             Err(ConfigError::Fault(fault)) => Err(Unset::Bad(fault)),
             Err(ConfigError::OutOfMemory) => Err(Unset::OutOfMemory),
         },
     }
+}
+
+/// The setting that a text has.
+fn setting_of(alloc: Global, text: &[u8]) -> Result<Setting, ConfigError>
+    ensures { IsSetting text.now result }
+{
+    let (listen, config) = read_config(alloc, text)?;
+    let downstream = read_downstream(alloc, text)?;
+    Ok(Setting {
+        listen,
+        config,
+        downstream,
+    })
 }
 
 /// Reads the configuration from an input and serves it. Where the input is no configuration, the line `bad config <number>`

@@ -7,6 +7,7 @@ ghost use Rattle.dz_serve.specs.Workers.{HasLinked, IsSeated};
 
 use crate::together::held;
 use crate::tools::Tool;
+use dz_config::Downstream;
 use dz_desk::{Ear, Reading};
 use dz_header::ReplyBuffer;
 use dz_io::{Acceptor, Clock};
@@ -17,20 +18,27 @@ use std::snapshot::Snapshot;
 use std::sync::Wait;
 use std::thread::Promise;
 
-/// What a link worker works with.
+/// What a link worker works with; zones are sent to these addresses.
 #[derive(Drop)]
 pub(crate) struct Linking<A, C> {
     pub reading: Reading,
     pub acceptor: ManuallyDrop<A>,
     pub clock: C,
     pub buffer: ReplyBuffer,
+    pub downstream: Downstream,
 }
 
 impl<A, C> Linking<A, C> {
-    pub fn new(reading: Reading, acceptor: A, tool: Tool<C>) -> Linking<A, C>
+    pub fn new(
+        reading: Reading,
+        acceptor: A,
+        tool: Tool<C>,
+        downstream: Downstream,
+    ) -> Linking<A, C>
         ensures reading { result.reading ≡ reading }
         ensures acceptor { manually_drop_value result.acceptor ≡ acceptor }
         ensures clock { result.clock ≡ tool.clock }
+        ensures downstream { result.downstream ≡ downstream }
     {
         let Tool { clock, buffer } = tool;
         Linking {
@@ -38,6 +46,7 @@ impl<A, C> Linking<A, C> {
             acceptor: held(acceptor),
             clock,
             buffer,
+            downstream,
         }
     }
 }
@@ -63,7 +72,7 @@ impl<E: Ear, A: Acceptor, C: Clock> Promise<Linked<A, C>> for Links<E, Linking<A
     ghost use Rattle.dz_io.specs.Ports.{accepts};
     ghost use Rattle.dz_serve.specs.Workers.{HasLinked};
 
-    ghost kept_by = { λ p d. HasLinked d.end E.may_fail
+    ghost kept_by = { λ p d. HasLinked d.end p.before.value.downstream E.may_fail
         (C.may_give p.before.value.clock) p.before.value.reading d.reading
         (accepts (A.links (manually_drop_value p.before.value.acceptor))
         (A.out (manually_drop_value p.before.value.acceptor))
@@ -82,7 +91,8 @@ pub(crate) fn link<E: Ear, A: Acceptor, C: Clock, R: Wait>(
 ) -> Linked<A, C>
     requires seated { IsSeated E.publisher work.reading }
     requires none { A.out (manually_drop_value work.acceptor) ≡ None }
-    ensures { HasLinked result.end E.may_fail (C.may_give work.clock) work.reading result.reading
+    ensures { HasLinked result.end work.downstream
+        E.may_fail (C.may_give work.clock) work.reading result.reading
         (accepts (A.links (manually_drop_value work.acceptor))
         (A.out (manually_drop_value work.acceptor))
         (A.is_closed (manually_drop_value work.acceptor))
@@ -98,6 +108,7 @@ pub(crate) fn link<E: Ear, A: Acceptor, C: Clock, R: Wait>(
         acceptor,
         mut clock,
         mut buffer,
+        downstream,
     } = work;
     let mut acceptor = ManuallyDrop::into_inner(acceptor);
     let end = serve_links(
@@ -106,6 +117,7 @@ pub(crate) fn link<E: Ear, A: Acceptor, C: Clock, R: Wait>(
         &mut reading,
         &mut acceptor,
         &mut clock,
+        downstream.as_slice(),
         &mut buffer,
     );
     Linked {

@@ -24,6 +24,7 @@ use crate::together::Crew;
 use crate::tools::{Tools, make_tools};
 use crate::transferring::Transferred;
 use crate::working::{Gear, Seats, end_crew, run_crew, teach};
+use dz_config::Downstream;
 use dz_desk::{Desk, Reading};
 use dz_io::{Clock, Peer, Ports, Sink};
 use dz_member::Config;
@@ -33,11 +34,12 @@ use std::mem::ManuallyDrop;
 use std::sync::Wait;
 use std::thread::Threads;
 
-/// Where a server listens, and what it serves.
+/// Where a server listens, what it serves, and the addresses to which it sends zones.
 #[derive(Drop)]
 pub struct Setting {
     pub listen: Peer,
     pub config: Config,
+    pub downstream: Downstream,
 }
 
 /// How serving ended, with the output and the desk.
@@ -78,7 +80,7 @@ pub fn serve<
         (is_write_fault result.end) }
     ensures served { result.desk.publisher.list ≢ []
         → IsListOf setting.config result.desk.publisher.list
-        × IsRun result.end ((k : K) × HasRisen 0 (K.faults k)) (C.may_give clock.now)
+        × IsRun result.end setting.downstream ((k : K) × HasRisen 0 (K.faults k)) (C.may_give clock.now)
         result.desk.publisher.list
         (opened_at setting.listen
         (rows (P.datagrams ports.old) (P.acceptors ports.old) (P.dialers ports.old)))
@@ -95,7 +97,11 @@ pub fn serve<
         → HasRisen (P.faults ports.old) (P.faults ports.new) }
     ensures later { P.faults ports.old ≤ P.faults ports.new }
 {
-    let Setting { listen, config } = setting;
+    let Setting {
+        listen,
+        config,
+        downstream,
+    } = setting;
     let Ok(tools) = make_tools(alloc, clock) else {
         return unserved(ServeEnd::NoMemory, output, desk);
     };
@@ -127,6 +133,7 @@ pub fn serve<
                 readings,
                 devices,
                 tools,
+                downstream,
             },
             ports,
             clock,
@@ -148,6 +155,7 @@ struct Rig<D, A, L, C> {
     readings: Vec<Reading>,
     devices: Devices<D, A, L>,
     tools: Tools<C>,
+    downstream: Downstream,
 }
 
 /// Runs a crew over a provisioner that has begun, and gives the devices back.
@@ -202,8 +210,8 @@ fn serve_over<
     ensures logged { IsLogged result.desk.publisher.list (K.held result.output)
         (is_write_fault result.end) }
     ensures served { 0 < length provisioner.core.list →
-        IsRun result.end ((k : K) × HasRisen 0 (K.faults k)) (C.may_give clock.now)
-        result.desk.publisher.list
+        IsRun result.end rig.downstream ((k : K) × HasRisen 0 (K.faults k))
+        (C.may_give clock.now) result.desk.publisher.list
         (rows (P.datagrams ports.old) (P.acceptors ports.old) (P.dialers ports.old))
         (rows (P.datagrams ports.new) (P.acceptors ports.new) (P.dialers ports.new)) }
     ensures input { (result.end ≢ ServeEnd.BadInput) × (result.end ≢ ServeEnd.ReadFault) }
@@ -218,6 +226,7 @@ fn serve_over<
         mut readings,
         devices,
         tools,
+        downstream,
     } = rig;
     let seats = Seats {
         listening: teach(rt, &provisioner, take_pair::<J>(&mut readings)),
@@ -233,6 +242,7 @@ fn serve_over<
             seats,
             devices,
             tools,
+            downstream,
         },
     );
     let parts = end_crew(rt, shared, &crew);
@@ -340,7 +350,7 @@ fn part_transferred<L>(pair: Pair<Transferred<L>>, readings: &mut Vec<Reading>) 
     }
 }
 
-/// Puts a reading behind the others.
+/// Puts a reading after the others.
 fn give_back(readings: &mut Vec<Reading>, reading: Reading) {
     match readings.push(reading) {
         Ok(()) => {}

@@ -1,6 +1,7 @@
 //! How serving ends.
 
 ghost use Rattle.std.specs.Prelude.{◌≡◌, ◌≢◌, ◌⊎◌, true, false};
+ghost use Rattle.dz_query.specs.Links.{starved_at};
 ghost use Rattle.dz_serve.specs.Ends.{has_closed, is_whole, is_write_fault};
 
 use crate::pair::Pair;
@@ -32,14 +33,17 @@ pub(crate) struct Ends {
     pub transfers: Pair<Transfers>,
 }
 
-/// The end after these: a fault of the log stands before one of the devices. Where neither is there, memory was wanting for
-/// any dial, since a catalog is due at each moment until its first job.
+/// The end after these: a fault of the log stands before one of the devices, and that before a link that was starved of memory.
+/// Where none of them is there and no dial was made, there was no memory for it, since a catalog is due at each moment until
+/// its first job.
 pub(crate) fn judge(log_failed: bool, ends: &Ends) -> ServeEnd
     ensures log { is_write_fault result ≡ log_failed }
     ensures session_one { result ≡ ServeEnd.Done → is_whole ends.now.sessions.first ≡ true }
     ensures session_two { result ≡ ServeEnd.Done → is_whole ends.now.sessions.second ≡ true }
     ensures links_one { result ≡ ServeEnd.Done → has_closed ends.now.links.first ≡ true }
     ensures links_two { result ≡ ServeEnd.Done → has_closed ends.now.links.second ≡ true }
+    ensures fed_one { result ≡ ServeEnd.Done → starved_at ends.now.links.first ≡ false }
+    ensures fed_two { result ≡ ServeEnd.Done → starved_at ends.now.links.second ≡ false }
     ensures stopped_one { result ≡ ServeEnd.Done
         → ends.now.transfers.first.end ≡ TransferEnd.Stopped }
     ensures stopped_two { result ≡ ServeEnd.Done
@@ -66,6 +70,12 @@ pub(crate) fn judge(log_failed: bool, ends: &Ends) -> ServeEnd
     }
     if !has_closed(ends.links.second) {
         return ServeEnd::PortFault;
+    }
+    if has_starved(ends.links.first) {
+        return ServeEnd::NoMemory;
+    }
+    if has_starved(ends.links.second) {
+        return ServeEnd::NoMemory;
     }
     judge_transfers(&ends.transfers)
 }
@@ -107,7 +117,16 @@ fn has_closed(end: LinksEnd) -> bool
     ensures { result ≡ has_closed end }
 {
     match end {
-        LinksEnd::Closed => true,
-        LinksEnd::Failed => false,
+        LinksEnd::Closed { .. } => true,
+        LinksEnd::Failed { .. } => false,
+    }
+}
+
+/// Whether a link was starved of memory.
+fn has_starved(end: LinksEnd) -> bool
+    ensures { result ≡ starved_at end }
+{
+    match end {
+        LinksEnd::Closed { starved } | LinksEnd::Failed { starved } => starved,
     }
 }

@@ -25,7 +25,7 @@ const CONFIG: &[u8] = b"listen = \"192.0.2.10:53\"\n\
 const QUERY: &[u8] = b"\x00\x91\x00\x00\x00\x01\x00\x00\x00\x00\x00\x00\
     \x07example\x00\x00\x06\x00\x01";
 
-/// The same behind its length.
+/// The same after its length.
 const FRAMED_QUERY: &[u8] = b"\x00\x19\x00\x91\x00\x00\x00\x01\x00\x00\x00\x00\x00\x00\
     \x07example\x00\x00\x06\x00\x01";
 

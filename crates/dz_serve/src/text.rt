@@ -13,7 +13,7 @@ use std::alloc::Global;
 pub(crate) enum TextError {
     /// The source failed.
     Read,
-    /// Memory is wanting.
+    /// No memory is left.
     OutOfMemory,
 }
 
@@ -21,7 +21,7 @@ pub(crate) enum TextError {
 ///
 /// # Errors
 ///
-/// `Read` where the source failed, `OutOfMemory` where memory is wanting.
+/// `Read` where the source failed, `OutOfMemory` where no memory is left.
 pub(crate) fn read_text<S: Source>(alloc: Global, source: &mut S) -> Result<Vec<u8>, TextError>
     ensures text { IfOk result (λ v. IsText v.items (S.left source.old) (S.left source.new)) }
     ensures cause { HasCauseOf (S.faults source.old) (S.faults source.new) result TextError.Read }

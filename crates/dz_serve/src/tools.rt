@@ -26,7 +26,7 @@ pub(crate) struct Tool<C> {
 ///
 /// # Errors
 ///
-/// `AllocError` where memory is wanting.
+/// `AllocError` where no memory is left.
 pub(crate) fn make_tools<C: Clock + Drop>(alloc: Global, clock: &C) -> Result<Tools<C>, AllocError>
     ensures listening_one { IfOk result
         (λ t. C.may_give t.listening.first.clock ≡ C.may_give clock.now) }

@@ -17,6 +17,7 @@ use crate::pair::Pair;
 use crate::together::{Crew, Task, Tasks, run_together};
 use crate::tools::{Tool, Tools};
 use crate::transferring::{Dialling, Transferred, Transferring, transfer};
+use dz_config::Downstream;
 use dz_desk::{Publisher, Reading};
 use dz_io::{Acceptor, Clock, Datagrams, Dialer, Sink};
 use dz_provision::{Jobs, Naming, Parts, Provisioner, Shared};
@@ -39,6 +40,7 @@ pub(crate) struct Gear<D, A, L, C> {
     pub seats: Seats,
     pub devices: Devices<D, A, L>,
     pub tools: Tools<C>,
+    pub downstream: Downstream,
 }
 
 /// Shows two readings the list of a provisioner.
@@ -114,7 +116,7 @@ where
         (D.faults (manually_drop_value result.datagrams.second.device))
         result.datagrams.second.reading.sights
         (C.given result.datagrams.second.clock)) }
-    ensures linking_one { HasLinked result.links.first.end
+    ensures linking_one { HasLinked result.links.first.end gear.downstream
         B.may_fail (C.may_give gear.tools.linking.first.clock) gear.seats.linking.first
         result.links.first.reading
         (accepts (A.links gear.devices.acceptors.first) (A.out gear.devices.acceptors.first)
@@ -124,7 +126,7 @@ where
         (A.is_closed (manually_drop_value result.links.first.acceptor))
         (A.faults (manually_drop_value result.links.first.acceptor)))
         (C.given gear.tools.linking.first.clock) (C.given result.links.first.clock) }
-    ensures linking_two { HasLinked result.links.second.end
+    ensures linking_two { HasLinked result.links.second.end gear.downstream
         B.may_fail (C.may_give gear.tools.linking.second.clock) gear.seats.linking.second
         result.links.second.reading
         (accepts (A.links gear.devices.acceptors.second) (A.out gear.devices.acceptors.second)
@@ -155,6 +157,7 @@ where
         seats,
         devices,
         tools,
+        downstream,
     } = gear;
     let Devices {
         datagrams,
@@ -168,7 +171,7 @@ where
     let Pair {
         first: three,
         second: four,
-    } = seat_linkers(seats.linking, acceptors, tools.linking);
+    } = seat_linkers(seats.linking, acceptors, tools.linking, downstream);
     let Pair {
         first: five,
         second: six,
@@ -227,7 +230,7 @@ where
                     run: move || -> Linked<A, C>
                         requires seated { IsSeated B.publisher three.reading }
                         requires none { A.out (manually_drop_value three.acceptor) ≡ None }
-                        ensures { HasLinked result.end B.may_fail
+                        ensures { HasLinked result.end three.downstream B.may_fail
                             (C.may_give three.clock) three.reading result.reading
                             (accepts (A.links (manually_drop_value three.acceptor))
                             (A.out (manually_drop_value three.acceptor))
@@ -248,7 +251,7 @@ where
                     run: move || -> Linked<A, C>
                         requires seated { IsSeated B.publisher four.reading }
                         requires none { A.out (manually_drop_value four.acceptor) ≡ None }
-                        ensures { HasLinked result.end B.may_fail
+                        ensures { HasLinked result.end four.downstream B.may_fail
                             (C.may_give four.clock) four.reading result.reading
                             (accepts (A.links (manually_drop_value four.acceptor))
                             (A.out (manually_drop_value four.acceptor))
@@ -319,16 +322,19 @@ fn seat_linkers<A, C>(
     seats: Pair<Reading>,
     acceptors: Pair<A>,
     tools: Pair<Tool<C>>,
+    downstream: Downstream,
 ) -> Pair<Linking<A, C>>
     ensures first { IsMadeOf seats.first acceptors.first tools.first.clock
         result.first.reading (manually_drop_value result.first.acceptor) result.first.clock }
+    ensures first_downstream { result.first.downstream ≡ downstream }
     ensures second { IsMadeOf seats.second acceptors.second tools.second.clock
         result.second.reading (manually_drop_value result.second.acceptor) result.second.clock }
+    ensures second_downstream { result.second.downstream ≡ downstream }
 {
     let Pair { first, second } = acceptors;
     Pair {
-        first: Linking::new(seats.first, first, tools.first),
-        second: Linking::new(seats.second, second, tools.second),
+        first: Linking::new(seats.first, first, tools.first, downstream.copied()),
+        second: Linking::new(seats.second, second, tools.second, downstream),
     }
 }
 

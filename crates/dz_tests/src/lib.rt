@@ -25,6 +25,8 @@ mod messages;
 #[cfg(test)]
 mod names;
 #[cfg(test)]
+mod outward;
+#[cfg(test)]
 mod provision;
 #[cfg(test)]
 mod query;

@@ -13,7 +13,10 @@ use dz_io::{
 };
 use dz_name::Name;
 use dz_notify::Heard;
-use dz_query::{LinksEnd, SessionEnd, StreamEnd, serve_datagrams, serve_links, serve_stream};
+use dz_query::{
+    LinksEnd, SessionEnd, StreamEnd, serve_datagrams, serve_links, serve_stream,
+    serve_stream_outward,
+};
 use std::alloc::{AllocError, Global};
 use std::marker::{Brand, PhantomData};
 use std::process::Abort;
@@ -348,6 +351,67 @@ fn a_call_that_fails_ends_the_session_over_a_link(rt: HostRuntime) -> Result<(),
     Ok(())
 }
 
+/// A request for the whole zone example. with ID 90.
+const TRANSFER: [u8; 25] = *b"\0\x90\0\0\0\x01\0\0\0\0\0\0\x07example\0\0\xfc\0\x01";
+
+/// Its reply where the zone isn't served: NOTAUTH (RFC 5936 section 2.2.1).
+const NOT_AUTH: [u8; 25] = *b"\0\x90\x80\x09\0\x01\0\0\0\0\0\0\x07example\0\0\xfc\0\x01";
+
+/// Its reply where the address isn't listed: NOTIMP.
+const NOT_IMP: [u8; 25] = *b"\0\x90\x80\x04\0\x01\0\0\0\0\0\0\x07example\0\0\xfc\0\x01";
+
+/// The addresses of peers 2 and 1.
+const LISTED: [[u8; 4]; 2] = [[192, 0, 2, 2], [192, 0, 2, 1]];
+
+/// Serves a link of peer 1, where these addresses are listed.
+fn serve_outward_by<R: Wait, J: OfDesk>(
+    rt: &R,
+    worker: &mut Worker,
+    link: &mut MemoryLink,
+    downstream: &[[u8; 4]],
+) -> StreamEnd
+    requires { (worker.old.reading.is_out ≡ false) × (worker.old.reading.book ≡ J.book) }
+{
+    let Worker {
+        reading,
+        clock,
+        buffer,
+    } = worker;
+    let ear = Early::<J> { of: PhantomData };
+    serve_stream_outward(rt, &ear, reading, link, clock, &peer(1), downstream, buffer)
+}
+
+/// Serves a link that asks for a zone and then for an address, where these addresses are listed.
+fn play_outward<R: Abort + Wait>(
+    rt: &R,
+    alloc: Global,
+    downstream: &[[u8; 4]],
+) -> (StreamEnd, MemoryLink) {
+    let (publisher, mut worker) = open(rt, alloc);
+    let Ok(octets) = stream_of(rt, alloc, &[TRANSFER, query(1)]) else {
+        panic!(rt; "out of memory");
+    };
+    let mut link = MemoryLink::new(alloc, octets, Vec::new(alloc));
+    let end = serve_outward_by::<R, Brand>(rt, &mut worker, &mut link, downstream);
+    publisher.close(rt);
+    (end, link)
+}
+
+#[test]
+fn a_zone_is_refused_by_whether_the_address_is_listed(rt: HostRuntime) -> Result<(), Fail> {
+    let alloc = rt.alloc();
+    let listed = stream_of(&rt, alloc, &[NOT_AUTH, refused(1)])?;
+    let (end, link) = play_outward(&rt, alloc, &LISTED);
+    assert_eq!(rt;
+        (end, link.written()),
+        (StreamEnd::Ended, listed.as_slice())
+    );
+    let other = stream_of(&rt, alloc, &[NOT_IMP, refused(1)])?;
+    let (end, link) = play_outward(&rt, alloc, &[]);
+    assert_eq!(rt; (end, link.written()), (StreamEnd::Ended, other.as_slice()));
+    Ok(())
+}
+
 /// Serves the links of an acceptor.
 fn serve_links_by<R: Wait, J: OfDesk>(
     rt: &R,
@@ -363,7 +427,7 @@ fn serve_links_by<R: Wait, J: OfDesk>(
         buffer,
     } = worker;
     let ear = Early::<J> { of: PhantomData };
-    serve_links(rt, &ear, reading, acceptor, clock, buffer)
+    serve_links(rt, &ear, reading, acceptor, clock, &[], buffer)
 }
 
 /// Two links, of peers 1 and 2, that give one query each; calls of these numbers fail, and of the first link these.
@@ -415,7 +479,7 @@ fn expect_answered(
 fn links_are_served_one_after_the_other(rt: HostRuntime) -> Result<(), Fail> {
     let alloc = rt.alloc();
     let (end, acceptor) = play_links(&rt, alloc, &[], &[]);
-    assert_eq!(rt; end, LinksEnd::Closed);
+    assert_eq!(rt; end, LinksEnd::Closed { starved: false });
     let back = acceptor.back();
     assert_eq!(rt; back.len(), 2);
     expect_answered(&rt, alloc, &back[0], 1)?;
@@ -427,7 +491,7 @@ fn links_are_served_one_after_the_other(rt: HostRuntime) -> Result<(), Fail> {
 fn a_link_that_fails_comes_back_and_the_next_is_served(rt: HostRuntime) -> Result<(), Fail> {
     let alloc = rt.alloc();
     let (end, acceptor) = play_links(&rt, alloc, &[], &[0]);
-    assert_eq!(rt; end, LinksEnd::Closed);
+    assert_eq!(rt; end, LinksEnd::Closed { starved: false });
     let back = acceptor.back();
     assert_eq!(rt; back.len(), 2);
     assert_eq!(rt;
@@ -441,6 +505,6 @@ fn a_link_that_fails_comes_back_and_the_next_is_served(rt: HostRuntime) -> Resul
 #[test]
 fn an_acceptor_that_fails_ends_the_service(rt: HostRuntime) {
     let (end, acceptor) = play_links(&rt, rt.alloc(), &[1], &[]);
-    assert_eq!(rt; end, LinksEnd::Failed);
+    assert_eq!(rt; end, LinksEnd::Failed { starved: false });
     assert_eq!(rt; (acceptor.back().len(), acceptor.faults()), (1, 1));
 }

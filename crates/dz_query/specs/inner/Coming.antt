@@ -39,13 +39,13 @@ HasCome came.Ended buffer before after left = IsPart before after × IsAtEnd lef
 HasCome came.Failed buffer before after left = IsPart before after
 
 -- whole messages were read, and their replies written
-pub record IsFlowing (may_fail : Type 0) (may_give : ℕ → Bool) (from : ℕ) (list : List Entry) (peer : Peer) (before now : Flow) : Type 0 where
+pub record IsFlowing (downstream : List Octets) (may_fail : Type 0) (may_give : ℕ → Bool) (from : ℕ) (list : List Entry) (peer : Peer) (before now : Flow) : Type 0 where
   pub served : List Served
   pub messages : List Octets
   pub short : AreShort messages
   pub are : requests served ≡ map (λ message. packet message peer) messages
   pub turns : AreInTurn may_fail may_give true from list served
   pub read : Gains (stream messages) before.read now.read
-  pub written : Gains (framed list served) before.written now.written
+  pub written : Gains (framed downstream list served) before.written now.written
   pub given : IsSome now.moments → Gains (moments served) before.moments now.moments
   pub sights : HasRisenBy (length served) before.sights now.sights

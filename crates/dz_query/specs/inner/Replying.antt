@@ -41,7 +41,7 @@ texts_of answered.Silent w = []
 texts_of (answered.Written count) w = sent_of fate.Sent w.octets
 texts_of answered.Unheard w = []
 
--- a reply that was written, so many octets that they fit behind their length
+-- a reply that was written, so many octets that they fit after their length
 pub record IsShortText (count : ℕ) (w : Writing) : Type 0 where
   pub text : Octets
   pub written : w.octets ≡ Some text

@@ -19,12 +19,12 @@ returns-clause-served g c some =
     let j = c.judge-end.ensures in
     let one = listened_run _ _ _ _ _ _ _ _ _ _ _ _ some c.teach.ensures.first_seen e.listening_one c.requires.listening_one c.requires.datagrams_one r.listening_one in
     let two = listened_run _ _ _ _ _ _ _ _ _ _ _ _ some c.teach.ensures.second_seen e.listening_two c.requires.listening_two c.requires.datagrams_two r.listening_two in
-    let three = linked_run _ _ _ _ _ _ _ _ _ _ _ _ some c.teach-2.ensures.first_seen e.linking_one c.requires.linking_one c.requires.acceptors_one r.linking_one in
-    let four = linked_run _ _ _ _ _ _ _ _ _ _ _ _ some c.teach-2.ensures.second_seen e.linking_two c.requires.linking_two c.requires.acceptors_two r.linking_two in
+    let three = linked_run _ _ _ _ _ _ _ _ _ _ _ _ _ some c.teach-2.ensures.first_seen e.linking_one c.requires.linking_one c.requires.acceptors_one r.linking_one in
+    let four = linked_run _ _ _ _ _ _ _ _ _ _ _ _ _ some c.teach-2.ensures.second_seen e.linking_two c.requires.linking_two c.requires.acceptors_two r.linking_two in
     let five = transferred_run _ _ _ _ _ _ _ _ some c.teach-3.ensures.first_seen e.transferring_one c.requires.dialers_one r.transferring_one in
     let six = transferred_run _ _ _ _ _ _ _ _ some c.teach-3.ensures.second_seen e.transferring_two c.requires.dialers_two r.transferring_two in
     let d = c.close_dialers.ensures.datagrams ∙ (c.close_acceptors.ensures.datagrams ∙ (rw (c.part_listened-datagrams.ensures.first, c.part_listened-datagrams.ensures.second) at c.close_datagrams.ensures.back)) in
     let a = c.close_dialers.ensures.acceptors ∙ (rw (c.part_linked-acceptors.ensures.first, c.part_linked-acceptors.ensures.second, c.close_datagrams.ensures.acceptors) at c.close_acceptors.ensures.back) in
     let l = rw (c.part_transferred-dialers.ensures.first, c.part_transferred-dialers.ensures.second, c.close_acceptors.ensures.dialers, c.close_datagrams.ensures.dialers) at c.close_dialers.ensures.back in
-    is_run _ _ _ _ _ _ _ _ _ _ _ _ _ _ _ _ _ _ d a l one two three four five six
-    (λ is. (j.session_one is, j.session_two is, j.links_one is, j.links_two is, j.dialed is))
+    is_run _ _ _ _ _ _ _ _ _ _ _ _ _ _ _ _ _ _ _ _ _ d a l one two three four five six
+    (λ is. (j.session_one is, j.session_two is, j.links_one is, j.links_two is, j.fed_one is, j.fed_two is, j.dialed is))

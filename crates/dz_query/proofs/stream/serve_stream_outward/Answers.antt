@@ -1,0 +1,71 @@
+use Rattle.std.proofs.Common.{rules, ◌≡◌, ◌≤◌, true, take, length, refl}
+use Rattle.dz_io.specs.Device.{Gains}
+use Rattle.dz_io.specs.Packets.{Packet, packet}
+use Rattle.dz_message.specs.Frame.{frame}
+use Rattle.dz_desk.proofs.PrefixLemmas.{prefix_trans}
+use Rattle.dz_query.specs.Sent.{asks_for_zone}
+use Rattle.dz_query.specs.inner.Sending.{fate_in}
+use Rattle.dz_query.proofs.StreamLemmas.{goes_on, ends, fails, breaks, starves}
+use Rattle.dz_query.proofs.stream.serve_stream_outward.Goals as goal
+
+pub returns-in-Ended-clause-stream : goal.returns-in-Ended-clause-stream
+returns-in-Ended-clause-stream g c =
+    let held : g.L.Sink.held c.read_message.new.source ≡ g.L.Sink.held c.messages.link = search rules in
+    ends _ _ _ _ _ _ _ _ _ c.in-Ended.ensures.came.0 held refl refl c.messages.invariant.3
+
+pub returns-in-Failed-clause-stream : goal.returns-in-Failed-clause-stream
+returns-in-Failed-clause-stream g c =
+    let held : g.L.Sink.held c.read_message.new.source ≡ g.L.Sink.held c.messages.link = search rules in
+    fails _ _ _ _ _ _ _ _ _ c.in-Failed.ensures.came held refl refl c.messages.invariant.3
+
+pub returns-in-Err-clause-stream : goal.returns-in-Err-clause-stream
+returns-in-Err-clause-stream g c =
+    let i = c.messages.invariant in
+    let e = c.in-Message.ensures in
+    let answer = c.answer_or_send in
+    let message = take c.in-Message.size c.as_slice-octets.result.now in
+    let request : Packet = packet message c.args.peer.now in
+    let held : g.L.Sink.held c.read_message.new.source ≡ g.L.Sink.held c.messages.link = search rules in
+    let may : g.C.Clock.may_give c.args.clock.now c.now.result ≡ true = search rules in
+    let fits : length message ≤ 65535 = search rules in
+    let asks : asks_for_zone c.args.downstream.now request ≡ true = search rules in
+    let read : Gains (frame message) (g.L.Source.given c.messages.link) (g.L.Source.given c.read_message.new.source) = rw c.as_slice-octets.ensures.value e.came.1 in
+    starves _ _ _ _ _ _ _ _ _ _ message c.now.result answer.ensures.seen may asks fits read held c.now.ensures.given answer.ensures.sights i.3
+
+pub returns-in-Err-write_sending-clause-stream : goal.returns-in-Err-write_sending-clause-stream
+returns-in-Err-write_sending-clause-stream g c =
+    let i = c.messages.invariant in
+    let e = c.in-Message.ensures in
+    let answer = c.answer_or_send in
+    let s = c.in-Ok.ensures.sending in
+    let message = take c.in-Message.size c.as_slice-octets.result.now in
+    let held : g.L.Sink.held c.read_message.new.source ≡ g.L.Sink.held c.messages.link = search rules in
+    let given : g.L.Source.given c.write_sending.new.sink ≡ g.L.Source.given c.read_message.new.source = search rules in
+    let may : g.C.Clock.may_give c.args.clock.now c.now.result ≡ true = search rules in
+    let fits : length message ≤ 65535 = search rules in
+    let read : Gains (frame message) (g.L.Source.given c.messages.link) (g.L.Source.given c.write_sending.new.sink) = rw (given, c.as_slice-octets.ensures.value) e.came.1 in
+    let written = rw (s.goes, held) at c.in-Err-write_sending.ensures.err in
+    breaks _ _ _ _ _ _ _ _ _ _ message c.now.result (fate_in c.in-Ok.sending) answer.ensures.seen may s.excused fits read written c.now.ensures.given answer.ensures.sights i.3
+
+pub messages-preserved : goal.messages-preserved
+messages-preserved g c =
+    let i = c.messages.invariant in
+    let e = c.in-Message.ensures in
+    let answer = c.answer_or_send in
+    let s = c.in-Ok.ensures.sending in
+    let message = take c.in-Message.size c.as_slice-octets.result.now in
+    let held : g.L.Sink.held c.read_message.new.source ≡ g.L.Sink.held c.messages.link = search rules in
+    let given : g.L.Source.given c.write_sending.new.sink ≡ g.L.Source.given c.read_message.new.source = search rules in
+    let may : g.C.Clock.may_give c.args.clock.now c.now.result ≡ true = search rules in
+    let fits : length message ≤ 65535 = search rules in
+    let read : Gains (frame message) (g.L.Source.given c.messages.link) (g.L.Source.given c.write_sending.new.sink) = rw (given, c.as_slice-octets.ensures.value) e.came.1 in
+    let written = rw (s.goes, held) at c.in-Ok-write_sending.ensures.all in (
+      search rules,
+      search rules,
+      prefix_trans _ _ _ i.2 answer.ensures.seen,
+      goes_on _ _ _ _ _ _ _ _ _ _ message c.now.result (fate_in c.in-Ok.sending) answer.ensures.seen may s.excused fits read written c.now.ensures.given answer.ensures.sights i.3,
+      search rules,
+      search rules,
+      search rules,
+      search rules,
+    )
