@@ -10,6 +10,7 @@
 #   make interop     compares replies with those of the servers that are installed (python3)
 #   make downstream  has the servers that are installed take zones from catzd (python3)
 #   make validate    has unbound and delv validate the replies for signed zones (python3)
+#   make producer    has the servers that are installed serve a catalog that catzd makes (python3)
 #
 # There is no `make clean`: what lies in crates/*/out are proofs, which took hours.
 
@@ -30,6 +31,7 @@ CONFDIR = $(SYSCONFDIR)/catzd
 SAMPLES = knot.conf nsd.conf named.conf pdns.conf pdns-zones.conf catzd.toml \
 	catalog.example.zone a.example.zone b.example.zone c.example.zone
 TEXTS   = OPERATING.md USING.md INTEROP.md PERFORMANCE.md
+SCRIPTS = zonefile.py
 
 all:
 	cd crates/catzd && $(RT) run -- rehearse 10
@@ -41,6 +43,7 @@ install:
 	@test -x $(PROGRAM) || { echo "there is no $(PROGRAM): run make first" >&2; exit 1; }
 	$(INSTALL) -d "$(DESTDIR)$(SBINDIR)" "$(DESTDIR)$(MANDIR)/man8" "$(DESTDIR)$(MANDIR)/man5"
 	$(INSTALL) -d "$(DESTDIR)$(UNITDIR)" "$(DESTDIR)$(DOCDIR)/samples" "$(DESTDIR)$(DOCDIR)/docs"
+	$(INSTALL) -d "$(DESTDIR)$(DOCDIR)/contrib"
 	$(INSTALL) -d "$(DESTDIR)$(CONFDIR)"
 	$(INSTALL) -m 755 $(PROGRAM) "$(DESTDIR)$(SBINDIR)/catzd"
 	$(INSTALL) -m 644 man/catzd.8 "$(DESTDIR)$(MANDIR)/man8/catzd.8"
@@ -51,6 +54,8 @@ install:
 	for one in $(SAMPLES); do \
 		$(INSTALL) -m 644 samples/$$one "$(DESTDIR)$(DOCDIR)/samples/$$one" || exit 1; done
 	for one in $(TEXTS); do $(INSTALL) -m 644 docs/$$one "$(DESTDIR)$(DOCDIR)/docs/$$one" || exit 1; done
+	for one in $(SCRIPTS); do \
+		$(INSTALL) -m 755 contrib/$$one "$(DESTDIR)$(DOCDIR)/contrib/$$one" || exit 1; done
 	test -e "$(DESTDIR)$(CONFDIR)/catzd.toml" || \
 		$(INSTALL) -m 644 samples/catzd.toml "$(DESTDIR)$(CONFDIR)/catzd.toml"
 
@@ -59,7 +64,8 @@ uninstall:
 	rm -f "$(DESTDIR)$(MANDIR)/man8/catzd.8" "$(DESTDIR)$(MANDIR)/man5/catzd.toml.5"
 	for one in $(SAMPLES); do rm -f "$(DESTDIR)$(DOCDIR)/samples/$$one"; done
 	for one in $(TEXTS); do rm -f "$(DESTDIR)$(DOCDIR)/docs/$$one"; done
-	-rmdir "$(DESTDIR)$(DOCDIR)/samples" "$(DESTDIR)$(DOCDIR)/docs" "$(DESTDIR)$(DOCDIR)"
+	for one in $(SCRIPTS); do rm -f "$(DESTDIR)$(DOCDIR)/contrib/$$one"; done
+	-rmdir "$(DESTDIR)$(DOCDIR)/samples" "$(DESTDIR)$(DOCDIR)/docs" "$(DESTDIR)$(DOCDIR)/contrib" "$(DESTDIR)$(DOCDIR)"
 
 check-man:
 	$(PYTHON) tests/man/check.py
@@ -82,4 +88,7 @@ downstream:
 validate:
 	$(PYTHON) tests/interop/validate.py
 
-.PHONY: all check install uninstall check-man check-docs bench interop downstream validate
+producer:
+	$(PYTHON) tests/interop/producer.py
+
+.PHONY: all check install uninstall check-man check-docs bench interop downstream validate producer

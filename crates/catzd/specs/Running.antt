@@ -20,6 +20,9 @@ use Rattle.dz_words.specs.declared.words.Command.{Command}
 use Rattle.dz_words.specs.declared.words.Command.TheVariants as commands
 use Rattle.dz_words.specs.declared.words.WordsError.{WordsError}
 use Rattle.dz_words.specs.declared.words.WordsError.TheVariants as errors_of_words
+use Rattle.dz_produce.specs.Producing.{Runs}
+use Rattle.dz_produce.specs.declared.saying.ProduceEnd.{ProduceEnd}
+use Rattle.dz_produce.specs.declared.saying.ProduceEnd.TheVariants as produce_ends
 use Rattle.dz_serve.specs.declared.status.ServeEnd.{ServeEnd}
 use Rattle.dz_serve.specs.declared.status.ServeEnd.TheVariants as serve_ends
 use Rattle.dz_name.specs.Words.{Octets}
@@ -31,6 +34,12 @@ status_of (Ok endings.BadInput) = BadInput
 status_of (Err errors.Read) = ReadFault
 status_of (Err errors.Write) = WriteFault
 status_of (Err errors.OutOfMemory) = NoMemory
+
+-- the status of a run of `produce`
+abbrev pub status_of_produce : Result ProduceEnd ScriptError → Status
+status_of_produce (Ok produce_ends.Done) = Done
+status_of_produce (Ok produce_ends.BadInput) = BadInput
+status_of_produce (Err error) = status_of (Err error)
 
 -- the status of serving
 abbrev pub status_after : ServeEnd → Status
@@ -49,6 +58,10 @@ Answers input status left before after = (result : Result End ScriptError) × (s
 abbrev pub Replays : Octets → Status → Option Octets → Option Octets → Option Octets → Type 0
 Replays input status left before after = (result : Result End ScriptError) × (state : replaying.State) × (status ≡ status_of result) × IsRun replay_rules (opening []) input result state left before after
 
+-- the same of `produce`
+abbrev pub Produces : Octets → Status → Option Octets → Option Octets → Option Octets → Type 0
+Produces input status left before after = (result : Result ProduceEnd ScriptError) × (status ≡ status_of_produce result) × Runs input result left before after
+
 -- the list that the events of a script make
 abbrev pub list_of_script : Octets → List Entry
 list_of_script input = list_in (said_of replay_rules (opening []) input).state
@@ -65,15 +78,16 @@ abbrev pub Says : Octets → Status → Status → Option Octets → Option Octe
 Says text own status before after = ((status ≡ own) × Gains text before after) ⊎ ((status ≡ WriteFault) × GainsPrefix text before after)
 
 abbrev pub usage : Octets
-usage = codes "usage: catzd answer | replay | rehearse N | serve\n"
+usage = codes "usage: catzd answer | replay | rehearse N | serve | produce\n"
 
--- what the words decide, whatever the input: words that are none of the four forms say a line of their own; the commands
+-- what the words decide, whatever the input: words that are none of the five forms say a line of their own; the commands
 -- never say Usage
 abbrev pub Decides : Result Command WordsError → Status → Option Octets → Option Octets → Type 0
 Decides (Ok commands.Answer) status before after = status ≢ Usage
 Decides (Ok commands.Replay) status before after = status ≢ Usage
 Decides (Ok commands.Serve) status before after = status ≢ Usage
 Decides (Ok (commands.Rehearse number)) status before after = status ≢ Usage
+Decides (Ok commands.Produce) status before after = status ≢ Usage
 Decides (Err errors_of_words.Usage) status before after = Says usage Usage status before after
 
 -- the status tells of no fault and of no want of memory

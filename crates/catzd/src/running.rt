@@ -3,7 +3,7 @@
 ghost use Rattle.std.specs.Prelude.{◌≡◌, ◌≢◌, ◌≤◌, ℕ, [], Some, Ok, Err, IfSome};
 ghost use Rattle.dz_io.specs.Counts.{HasRisen};
 ghost use Rattle.dz_name.specs.Words.{Octets};
-ghost use Rattle.catzd.specs.Running.{status_of, status_after, Answers, Replays, Says, Decides, IsWithoutFault, HasEnded, HasCauseIn, IsNewDesk, list_of_script};
+ghost use Rattle.catzd.specs.Running.{status_of, status_after, status_of_produce, Answers, Replays, Produces, Says, Decides, IsWithoutFault, HasEnded, HasCauseIn, IsNewDesk, list_of_script};
 ghost use Rattle.dz_serve.specs.Command.{IsServe};
 ghost use Rattle.dz_serve.specs.Rows.{rows};
 ghost use Rattle.catzd.specs.Taken.{CanStart};
@@ -19,6 +19,7 @@ use crate::script::run_answering;
 use dz_desk::{Desk, Reading};
 use dz_header::ReplyBuffer;
 use dz_io::{Clock, Ports, ScriptError, Sink, Source, run_script};
+use dz_produce::{ProduceEnd, run_producing};
 use dz_provision::Naming;
 use dz_serve::{ServeEnd, Served, serve_input};
 use dz_words::{Command, Words, WordsError, read_words};
@@ -31,7 +32,7 @@ use std::thread::Threads;
 #[derive(Clone, Copy, Debug, PartialEq, Eq)]
 pub enum Status {
     Done = 0,
-    /// The words are none of the four forms.
+    /// The words are none of the five forms.
     Usage = 2,
     /// A line of the input is bad.
     BadInput = 3,
@@ -66,6 +67,10 @@ pub struct Ended<K> {
 /// `rehearse N` runs `replay` on a generated script with so many zones, and writes a summary of what that writes. What is
 /// taken is published at the desk.
 ///
+/// `produce` reads lines: first `catalog <apex> <serial>`, then the member nodes of a catalog zone (RFC 9432), and changes
+/// of it, each under a serial of its own. It writes the catalog as the stream of an AXFR (RFC 5936) in hex, and each change
+/// as that of an IXFR (RFC 1995). A bad line ends it.
+///
 /// `serve` reads a configuration as TOML. It opens the ports, makes transfers, answers requests and hears NOTIFY, each
 /// worker in a thread of its own, until the devices close and the clock stops it, and writes the log. What is taken is
 /// published at the desk. Where the input is no configuration, it writes `bad config <number>`.
@@ -91,6 +96,9 @@ pub fn run<R: Threads + Wait + Sync, S: Source, K: Sink + Send, P: Ports, C: Clo
     ensures published { command_of words.now ≡ Ok Command.Replay →
         (octets : Octets) → S.left input.old ≡ Some octets → result.status ≡ Status.Done →
         result.desk.publisher.list ≡ list_of_script octets }
+    ensures ends_produce { command_of words.now ≡ Ok Command.Produce →
+        (octets : Octets) → S.left input.old ≡ Some octets →
+        Produces octets result.status (S.left input.new) (K.held output) (K.held result.output) }
     ensures rehearses { (number : ℕ) → command_of words.now ≡ Ok (Command.Rehearse number) →
         Rehearses number result.status (K.held output) (K.held result.output) }
     ensures rehearsed { (number : ℕ) → command_of words.now ≡ Ok (Command.Rehearse number) →
@@ -110,7 +118,7 @@ pub fn run<R: Threads + Wait + Sync, S: Source, K: Sink + Send, P: Ports, C: Clo
         (K.held result.output) }
     ensures usage { result.status ≡ Status.Usage → command_of words.now ≡ Err WordsError.Usage }
     ensures unread { command_of words.now ≢ Ok Command.Answer
-        → command_of words.now ≢ Ok Command.Replay →
+        → command_of words.now ≢ Ok Command.Replay → command_of words.now ≢ Ok Command.Produce →
         command_of words.now ≢ Ok Command.Serve → input.new ≡ input.old }
     ensures done { ((number : ℕ) → command_of words.now ≢ Ok (Command.Rehearse number)) →
         (octets : Octets) → S.left input.old ≡ Some octets →
@@ -156,9 +164,13 @@ fn run_command<S: Source, K: Sink>(
     ensures ends { command ≡ Ok Command.Answer →
         (octets : Octets) → S.left input.old ≡ Some octets →
         Answers octets result (S.left input.new) (K.held output.old) (K.held output.new) }
+    ensures ends_produce { command ≡ Ok Command.Produce →
+        (octets : Octets) → S.left input.old ≡ Some octets →
+        Produces octets result (S.left input.new) (K.held output.old) (K.held output.new) }
     ensures words { Decides command result (K.held output.old) (K.held output.new) }
     ensures usage { result ≡ Status.Usage → command ≡ Err WordsError.Usage }
-    ensures unread { command ≢ Ok Command.Answer → input.new ≡ input.old }
+    ensures unread { command ≢ Ok Command.Answer → command ≢ Ok Command.Produce
+        → input.new ≡ input.old }
     ensures done { (octets : Octets) → S.left input.old ≡ Some octets →
         result ≡ Status.Done → S.left input.new ≡ Some [] }
     ensures ports { result ≢ Status.PortFault }
@@ -169,9 +181,10 @@ fn run_command<S: Source, K: Sink>(
 {
     match command {
         Ok(Command::Answer) => answer(alloc, input, output),
+        Ok(Command::Produce) => produce(alloc, input, output),
         Ok(Command::Replay | Command::Serve | Command::Rehearse(_)) => unreachable!(),
         Err(WordsError::Usage) => say(
-            b"usage: catzd answer | replay | rehearse N | serve\n",
+            b"usage: catzd answer | replay | rehearse N | serve | produce\n",
             Status::Usage,
             output,
         ),
@@ -310,6 +323,31 @@ pub fn answer<S: Source, K: Sink>(alloc: Global, input: &mut S, output: &mut K) 
             let mut answering = Answering::new(buffer);
             status_of(run_answering(alloc, &mut answering, input, output))
         }
+    }
+}
+
+/// Runs the command `produce` on an input, whose text it writes to the output.
+pub fn produce<S: Source, K: Sink>(alloc: Global, input: &mut S, output: &mut K) -> Status
+    ensures ends { (octets : Octets) → S.left input.old ≡ Some octets →
+        Produces octets result (S.left input.new) (K.held output.old) (K.held output.new) }
+    ensures other { (result ≢ Status.Usage) × (result ≢ Status.PortFault) }
+    ensures done { (octets : Octets) → S.left input.old ≡ Some octets →
+        result ≡ Status.Done → S.left input.new ≡ Some [] }
+    ensures read_cause { HasCauseIn (S.faults input.old)
+        (S.faults input.new) result Status.ReadFault }
+    ensures write_cause { HasCauseIn (K.faults output.old)
+        (K.faults output.new) result Status.WriteFault }
+{
+    status_of_produce(run_producing(alloc, input, output))
+}
+
+fn status_of_produce(run: Result<ProduceEnd, ScriptError>) -> Status
+    ensures { result ≡ status_of_produce run }
+{
+    match run {
+        Ok(ProduceEnd::Done) => Status::Done,
+        Ok(ProduceEnd::BadInput) => Status::BadInput,
+        Err(error) => status_of(Err(error)),
     }
 }
 

@@ -17,11 +17,12 @@ fn read(alloc: Global, texts: &[&str]) -> Result<Option<Command>, AllocError> {
 }
 
 #[test]
-fn the_four_forms_are_commands(rt: HostRuntime) -> Result<(), AllocError> {
+fn the_five_forms_are_commands(rt: HostRuntime) -> Result<(), AllocError> {
     let alloc = rt.alloc();
     assert_eq!(rt; read(alloc, &["answer"])?, Some(Command::Answer));
     assert_eq!(rt; read(alloc, &["replay"])?, Some(Command::Replay));
     assert_eq!(rt; read(alloc, &["serve"])?, Some(Command::Serve));
+    assert_eq!(rt; read(alloc, &["produce"])?, Some(Command::Produce));
     assert_eq!(rt;
         read(alloc, &["rehearse", "1"])?,
         Some(Command::Rehearse(1))

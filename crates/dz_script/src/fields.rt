@@ -9,7 +9,7 @@ use std::marker::Model;
 
 /// The fields that are left of a text. Contracts see the list of them.
 #[derive(Drop)]
-pub(crate) struct Fields<'a> {
+pub struct Fields<'a> {
     rest: Option<&'a [u8]>,
     separator: u8,
 }

@@ -4,7 +4,7 @@ use Rattle.std.specs.Str.{bytes_eq}
 use Rattle.dz_name.specs.Words.{Octets}
 use Rattle.dz_member.specs.Number.{number_of}
 use Rattle.dz_words.specs.declared.words.Command.{Command}
-use Rattle.dz_words.specs.declared.words.Command.TheVariants.{Answer, Replay, Rehearse, Serve}
+use Rattle.dz_words.specs.declared.words.Command.TheVariants.{Answer, Replay, Rehearse, Serve, Produce}
 use Rattle.dz_words.specs.declared.words.WordsError.{WordsError}
 use Rattle.dz_words.specs.declared.words.WordsError.TheVariants.{Usage}
 
@@ -13,6 +13,7 @@ one_word word =
     if bytes_eq word (codes "answer") then Ok Answer
     else if bytes_eq word (codes "replay") then Ok Replay
     else if bytes_eq word (codes "serve") then Ok Serve
+    else if bytes_eq word (codes "produce") then Ok Produce
     else Err Usage
 
 -- a rehearsal has a number from 1 on
@@ -23,7 +24,8 @@ rehearsal_of (Some number) = if nat_lt 0 number then Ok (Rehearse number) else E
 abbrev pub two_words : Octets → Octets → Result Command WordsError
 two_words word number = if bytes_eq word (codes "rehearse") then rehearsal_of (number_of 1000 number) else Err Usage
 
--- the four forms are `answer`; `replay`; `rehearse` and a decimal number from 1 to 1000 without leading zeros; `serve`
+-- the five forms are `answer`; `replay`; `produce`; `rehearse` and a decimal number from 1 to 1000 without leading zeros;
+-- `serve`
 abbrev pub command_of : List Octets → Result Command WordsError
 command_of [] = Err Usage
 command_of (word ∷ []) = one_word word

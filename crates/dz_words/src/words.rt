@@ -34,21 +34,23 @@ pub enum Command {
     Rehearse(u16),
     /// Serve.
     Serve,
+    /// Make a catalog and its changes.
+    Produce,
 }
 
 /// Why words are no command.
 #[derive(Clone, Copy, Debug, PartialEq, Eq)]
 pub enum WordsError {
-    /// They are none of the four forms.
+    /// They are none of the five forms.
     Usage,
 }
 
-/// The command that the words are. The four forms are `answer`; `replay`; `rehearse` and a number from 1 to 1000
-/// without leading zeros; `serve`. No other word, option or spelling is taken.
+/// The command that the words are. The five forms are `answer`; `replay`; `produce`; `rehearse` and a number from
+/// 1 to 1000 without leading zeros; `serve`. No other word, option or spelling is taken.
 ///
 /// # Errors
 ///
-/// `Usage` where the words are none of the four forms.
+/// `Usage` where the words are none of the five forms.
 pub fn read_words(words: &Words) -> Result<Command, WordsError>
     ensures { result ≡ command_of words.now }
 {
@@ -68,6 +70,8 @@ fn one_word(word: &[u8]) -> Result<Command, WordsError>
         Ok(Command::Replay)
     } else if word == b"serve".as_slice() {
         Ok(Command::Serve)
+    } else if word == b"produce".as_slice() {
+        Ok(Command::Produce)
     } else {
         Err(WordsError::Usage)
     }
