@@ -11,6 +11,7 @@
 #   make downstream  has the servers that are installed take zones from catzd (python3)
 #   make validate    has unbound and delv validate the replies for signed zones (python3)
 #   make producer    has the servers that are installed serve a catalog that catzd makes (python3)
+#   make signed      has catzd take signed transfers from the servers that are installed (python3)
 #
 # There is no `make clean`: what lies in crates/*/out are proofs, which took hours.
 
@@ -57,7 +58,7 @@ install:
 	for one in $(SCRIPTS); do \
 		$(INSTALL) -m 755 contrib/$$one "$(DESTDIR)$(DOCDIR)/contrib/$$one" || exit 1; done
 	test -e "$(DESTDIR)$(CONFDIR)/catzd.toml" || \
-		$(INSTALL) -m 644 samples/catzd.toml "$(DESTDIR)$(CONFDIR)/catzd.toml"
+		$(INSTALL) -m 600 samples/catzd.toml "$(DESTDIR)$(CONFDIR)/catzd.toml"
 
 uninstall:
 	rm -f "$(DESTDIR)$(SBINDIR)/catzd" "$(DESTDIR)$(UNITDIR)/catzd.service"
@@ -91,4 +92,7 @@ validate:
 producer:
 	$(PYTHON) tests/interop/producer.py
 
-.PHONY: all check install uninstall check-man check-docs bench interop downstream validate producer
+signed:
+	$(PYTHON) tests/interop/signed_transfers.py
+
+.PHONY: all check install uninstall check-man check-docs bench interop downstream validate producer signed

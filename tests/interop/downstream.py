@@ -104,17 +104,6 @@ def wait(port, zone, version, limit=90):
     return ask.Asker(port).wait(f"www.{zone}.", has_version(version), limit=limit, pause=0.01)
 
 
-def shown(notes):
-    """Notes in their order, with how often each comes in a row."""
-    runs = []
-    for note in notes:
-        if runs and runs[-1][0] == note:
-            runs[-1][1] += 1
-        else:
-            runs.append([note, 1])
-    return ", ".join(note if count == 1 else f"{note} ({count} times)" for note, count in runs) or "nothing"
-
-
 class Run:
     """The primary, catzd, and the peers after it."""
 
@@ -217,7 +206,7 @@ class Run:
             for zone, moment in moments.items():
                 _, _, equal = self.differs(kind.label, zone, port)
                 self.say(kind.label, f"{zone}: had it {moment - begun:.2f} s after its start, {equal}; "
-                                     f"asked: {shown(self.tap.of(zone))}")
+                                     f"asked: {tap.shown(self.tap.of(zone))}")
             self.change(peer, port)
         except ask.TooLate as error:
             self.fault(kind.label, f"nothing came of {error}")
@@ -247,7 +236,7 @@ class Run:
             has = f" with{'out' if peer.needs_unset else ''} `{peer.setting}`" if is_set else ""
             since = "that" if is_set and peer.needs_unset else "catzd"
             self.say(peer.label, f"{zone}{has}: had a change by {way} {arrived - moment:.2f} s after {since}, {equal}; "
-                                 f"asked: {shown(notes)}")
+                                 f"asked: {tap.shown(notes)}")
             self.judge_queries(peer, zone, notes)
 
     def see_refused(self, peer, zone):
@@ -256,7 +245,7 @@ class Run:
         while notes.count("IXFR over TCP NOTIMP") < 3 and time.monotonic() < end:
             time.sleep(0.1)
             notes += self.tap.of(zone)
-        self.say(peer.label, f"{zone} with `{peer.setting}`: stays at the version before; asked: {shown(sorted(notes))}")
+        self.say(peer.label, f"{zone} with `{peer.setting}`: stays at the version before; asked: {tap.shown(sorted(notes))}")
         if notes.count("IXFR over TCP NOTIMP") < 3 or any(note.startswith("AXFR") for note in notes):
             self.fault(peer.label, f"{zone} was expected to be asked for by IXFR alone")
         peer.unset()

@@ -1,4 +1,8 @@
-"""Other servers as primaries of a catalog and its members: how each is configured, started, and told of a change."""
+"""Other servers as primaries of a catalog and its members: how each is configured, started, and told of a change.
+
+With a `key` (tsig.Key) they give zones only to who signs with it, and with `signs_notify` they sign NOTIFY with it too.
+"""
+import os
 import pathlib
 import shutil
 import signal
@@ -104,7 +108,7 @@ class Daemon:
     def __init__(self, folder, port, address="127.0.0.1"):
         self.folder, self.port, self.address = pathlib.Path(folder), port, address
         self.folder.mkdir(parents=True)
-        self.log, self.process = open(self.folder / "log", "wb"), None
+        self.log, self.process, self.environment = open(self.folder / "log", "wb"), None, {}
 
     @classmethod
     def is_installed(cls):
@@ -119,7 +123,7 @@ class Daemon:
 
     def start(self):
         self.process = subprocess.Popen(self.words(), cwd=self.folder, stdin=subprocess.DEVNULL, stdout=self.log,
-                                        stderr=self.log)
+                                        stderr=self.log, env={**os.environ, **self.environment})
         return self
 
     def is_running(self):
@@ -137,12 +141,14 @@ class Daemon:
 class Peer(Daemon):
     """A primary of zones, given as texts, which notifies a port of 127.0.0.1."""
     has_differences = True  # whether it answers IXFR with differences
+    signs_always = False  # whether it signs NOTIFY wherever it has a key
     has_digests = False  # whether it makes the ZONEMD records of a.test, which catzd then requires
     refusals = ()  # lines of catzd's log that are expected of its transfers
 
-    def __init__(self, folder, port, secondary, texts=None, address="127.0.0.1"):
+    def __init__(self, folder, port, secondary, texts=None, address="127.0.0.1", key=None, signs_notify=False):
         super().__init__(folder, port, address)
         self.secondary, self.zones = secondary, texts or member_texts()
+        self.key, self.notify_key = key, key if signs_notify else None
         for zone, text in self.zones.items():
             self.write(zone, text)
 
@@ -171,13 +177,13 @@ database:
 log:
   - target: stderr
     any: info
-remote:
+{self.keys()}remote:
   - id: catzd
     address: 127.0.0.1@{self.secondary}
-acl:
+{self.line("    key: ", self.notify_key)}acl:
   - id: transfer
     address: 127.0.0.1
-    action: transfer
+{self.line("    key: ", self.key)}    action: transfer
 template:
   - id: default
     storage: {self.folder}
@@ -187,6 +193,17 @@ template:
     zonefile-load: difference
 zone:
 {zones}""")]
+
+    @staticmethod
+    def line(front, key):
+        return f"{front}{key.name}\n" if key else ""
+
+    def keys(self):
+        return "" if self.key is None else f"""key:
+  - id: {self.key.name}
+    algorithm: {self.key.algorithm}
+    secret: {self.key.base64}
+"""
 
     def reload(self, zone):
         self.run("knotc", "-c", "knot.conf", "zone-reload", zone)
@@ -202,10 +219,11 @@ class Nsd(Peer):
         zones = "".join(f"""zone:
     name: {one}
     zonefile: {one}.zone
-    notify: 127.0.0.1@{self.secondary} NOKEY
-    provide-xfr: 127.0.0.1 NOKEY
+    notify: 127.0.0.1@{self.secondary} {self.name_of(self.notify_key)}
+    provide-xfr: 127.0.0.1 {self.name_of(self.key)}
     store-ixfr: yes
     create-ixfr: yes
+    ixfr-size: 100000000
 """ for one in self.zones)
         return ["nsd", "-d", "-c", self.config("nsd.conf", f"""server:
     ip-address: {self.address}@{self.port}
@@ -221,7 +239,18 @@ class Nsd(Peer):
 remote-control:
     control-enable: yes
     control-interface: {self.folder}/control
-{zones}""")]
+{self.keys()}{zones}""")]
+
+    @staticmethod
+    def name_of(key):
+        return key.name if key else "NOKEY"
+
+    def keys(self):
+        return "" if self.key is None else f"""key:
+    name: {self.key.name}
+    algorithm: {self.key.algorithm}
+    secret: {self.key.base64}
+"""
 
     def reload(self, zone):
         self.run("nsd-control", "-c", "nsd.conf", "reload", zone)
@@ -232,7 +261,9 @@ class Bind(Peer):
 
     def words(self):
         zones = "".join(f'zone "{one}" {{ type primary; file "{one}.zone"; }};\n' for one in self.zones)
-        return ["named", "-g", "-c", self.config("named.conf", f"""options {{
+        allowed = f'key "{self.key.name}"' if self.key else "127.0.0.1"
+        signed = f' key "{self.notify_key.name}"' if self.notify_key else ""
+        return ["named", "-g", "-c", self.config("named.conf", f"""{self.keys()}options {{
     directory "{self.folder}";
     listen-on port {self.port} {{ {self.address}; }};
     listen-on-v6 {{ none; }};
@@ -241,24 +272,32 @@ class Bind(Peer):
     lock-file none;
     recursion no;
     dnssec-validation no;
-    allow-transfer {{ 127.0.0.1; }};
+    allow-transfer {{ {allowed}; }};
     notify explicit;
     notify-delay 0;
-    also-notify {{ 127.0.0.1 port {self.secondary}; }};
+    also-notify {{ 127.0.0.1 port {self.secondary}{signed}; }};
     ixfr-from-differences yes;
     max-ixfr-ratio unlimited;
+    max-journal-size unlimited;
     minimal-responses yes;
     check-integrity no;
 }};
 controls {{}};
 {zones}""")]
 
+    def keys(self):
+        return "" if self.key is None else f"""key "{self.key.name}" {{
+    algorithm {self.key.algorithm};
+    secret "{self.key.base64}";
+}};
+"""
+
     def reload(self, zone):
         self.process.send_signal(signal.SIGHUP)
 
 
 class PowerDns(Peer):
-    label, programs, has_differences = "PowerDNS", ("pdns_server", "pdns_control"), False
+    label, programs, has_differences, signs_always = "PowerDNS", ("pdns_server", "pdns_control"), False, True
 
     def words(self):
         self.config("zones.conf", "".join(
@@ -269,7 +308,7 @@ local-address={self.address}
 local-port={self.port}
 socket-dir={self.folder}
 primary=yes
-allow-axfr-ips=127.0.0.0/8
+allow-axfr-ips={"" if self.key else "127.0.0.0/8"}
 only-notify=127.0.0.0/8
 dname-processing=yes
 also-notify=127.0.0.1:{self.secondary}
@@ -279,8 +318,21 @@ negquery-cache-ttl=0
 zone-cache-refresh-interval=0
 daemon=no
 guardian=no
+{f"bind-dnssec-db={self.folder}/keys.db" if self.key else ""}
 """)
+        if self.key:
+            self.put_keys()
         return ["pdns_server", f"--config-dir={self.folder}"]
+
+    def put_keys(self):
+        """The key, and which zones it may have, stand in a database."""
+        def util(*words):
+            self.run("pdnsutil", f"--config-dir={self.folder}", *words)
+
+        util("create-bind-db", f"{self.folder}/keys.db")
+        util("import-tsig-key", self.key.name, self.key.algorithm, self.key.base64)
+        for zone in self.zones:
+            util("activate-tsig-key", zone, self.key.name, "primary")
 
     def reload(self, zone):
         self.run("pdns_control", f"--config-dir={self.folder}", "bind-reload-now", zone)

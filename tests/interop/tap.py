@@ -4,11 +4,23 @@ import socket
 import struct
 import threading
 
+import tsig
 import wire
 
 CODES = {wire.NOERROR: "NOERROR", wire.SERVFAIL: "SERVFAIL", wire.NOTIMP: "NOTIMP", wire.REFUSED: "REFUSED",
          wire.NOTAUTH: "NOTAUTH"}
 KINDS = {wire.SOA: "SOA", wire.IXFR: "IXFR", wire.AXFR: "AXFR", wire.NS: "NS"}
+
+
+def shown(notes):
+    """Notes in their order, with how often each comes in a row."""
+    runs = []
+    for note in notes:
+        if runs and runs[-1][0] == note:
+            runs[-1][1] += 1
+        else:
+            runs.append([note, 1])
+    return ", ".join(note if count == 1 else f"{note} ({count} times)" for note, count in runs) or "nothing"
 
 
 class Tap:
@@ -37,9 +49,10 @@ class Tap:
     def _note(self, question, reply, transport):
         owner, at = wire.read_name(question, 12)
         kind = struct.unpack_from(">H", question, at)[0]
-        code = reply[3] & 15
+        code, is_notify = reply[3] & 15, question[2] >> 3 & 15 == 4
+        words = ["signed"] * (tsig.split(question)[1] is not None) + ["NOTIFY" if is_notify else KINDS.get(kind, str(kind))]
         with self.lock:
-            self.noted.append((owner.lower(), f"{KINDS.get(kind, kind)} over {transport} {CODES.get(code, code)}"))
+            self.noted.append((owner.lower(), f"{' '.join(words)} over {transport} {CODES.get(code, code)}"))
 
     def _hear_datagrams(self):
         while True:
@@ -71,7 +84,12 @@ class Tap:
     def _pass_stream(self, client):
         """Carries octets both ways until one side ends."""
         asked, questions, replies = {}, Frames(), Frames()
-        with client, socket.create_connection(self.behind) as server, selectors.DefaultSelector() as selector:
+        try:
+            server = socket.create_connection(self.behind)
+        except OSError:
+            client.close()
+            return
+        with client, server, selectors.DefaultSelector() as selector:
             selector.register(client, selectors.EVENT_READ, (server, questions))
             selector.register(server, selectors.EVENT_READ, (client, replies))
             try:

@@ -23,7 +23,7 @@ WRITERS = ("catzd", "dz_serve", "dz_provision", "dz_report")
 OTHER_PAGE = "docs/USING.md"
 
 # What the man page calls a value, by the definition that gives it; other values have the names of the definitions.
-NAMES = {"serial_in": "serial", "fault_number": "number", "peer_text": "primary"}
+NAMES = {"serial_in": "serial", "fault_number": "number", "number_of": "number", "peer_text": "primary"}
 
 
 class Unread(Exception):
@@ -270,7 +270,7 @@ def compare():
     all_of.same("policy", policies(), CONFIGURATION, nested)
     shown = {"CATALOGS": "1 to {} tables", "CATALOG_GROUPS": "Up to {} tables", "PRIMARIES": "1 to {} addresses",
              "WORD_OCTETS": "1 to {} characters", "TEXT_OCTETS": "{} octets",
-             "DOWNSTREAM": "0 to {} addresses"}
+             "DOWNSTREAM": "0 to {} addresses", "SECRET_OCTETS": "1 to {} octets"}
     all_of.same("limit", limits(), CONFIGURATION, list(shown))
     for name, number in limits().items():
         all_of.has(f"the limit {name}", shown.get(name, name + " {}").format(f"{int(number):,}"), CONFIGURATION)

@@ -4,14 +4,17 @@ use Rattle.std.specs.Prelude.{if◌then◌else◌, slice_get, IfOk}
 use Rattle.std.proofs.lemmas.List.{take_all}
 use Rattle.dz_name.specs.Words.{Name, Octets}
 use Rattle.dz_message.specs.Frame.{messages_in}
-use Rattle.dz_take.specs.Outcome.{decided, or_incomplete}
+use Rattle.dz_take.specs.Outcome.{decided, or_incomplete, outcome}
 use Rattle.dz_take.specs.Transfer.{Decision, refused}
 use Rattle.dz_take.specs.declared.outcome.TakeFault.TheVariants.{Incomplete}
+use Rattle.dz_history.specs.Signed.{tsig_in}
+use Rattle.dz_history.specs.State.{key_at}
 use Rattle.dz_job.specs.Job.{JobOf, transfer_for}
 use Rattle.dz_job.specs.declared.verdict.Verdict.{Verdict}
 use Rattle.dz_job.specs.declared.verdict.Verdict.TheVariants.{Published, Confirmed, Refused, PolicyRefused, Stale, OutOfMemory}
-use Rattle.dz_fleet.specs.Core.{Core, ended_of, failure_of, others, after_failure, after_refusal, is_old_serial, after_success, verdict_from, verdict_of, used_of, after_end, after_verdict, settled, failed_core, IsOffered}
+use Rattle.dz_fleet.specs.Core.{Core, ended_of, failure_of, others, after_failure, after_refusal, is_old_serial, after_success, screened, state_of, tsig_of, verdict_from, verdict_of, used_of, after_end, after_verdict, settled, failed_core, IsOffered}
 use Rattle.dz_job.specs.declared.verdict.Failure.{Failure}
+use Rattle.dz_fleet.proofs.TakeLemmas.{screened_refused}
 use Rattle.dz_stream.specs.Stream.{IsReadOf}
 use Rattle.dz_report.specs.Lines.{verdict_lines, failure_line}
 use Rattle.dz_io.specs.Script.{Turn, goes_on, ends}
@@ -60,22 +63,45 @@ refused_same : (c : Core) (job : JobOf) (a b : Octets) (now : ℕ) (position : O
 refused_same c job a b now (Some position) = refl
 refused_same c job a b now None = refl
 
-verdict_same : (c : Core) (job : JobOf) (octets read : Octets) → IsReadOf (transfer_for job) octets read → verdict_of c job read ≡ verdict_of c job octets
+verdict_by : (c : Core) (job : JobOf) (a b : Octets) → tsig_of c job a ≡ tsig_of c job b → outcome (transfer_for job) a ≡ outcome (transfer_for job) b → verdict_of c job a ≡ verdict_of c job b
 unfolding verdict_of
-verdict_same c job octets read is = ap (λ (d : Decision). verdict_from c job d (ended_of c job)) is.outcome
+verdict_by c job a b same is = λ i. verdict_from c job (screened (same i) (is i)) (ended_of c job)
 
-verdict_incomplete : (c : Core) (job : JobOf) (octets : Octets) → decided (transfer_for job) (messages_in octets) ≡ None → verdict_of c job octets ≡ verdict_from c job (refused Incomplete) (ended_of c job)
+used_same : (job : JobOf) (octets read : Octets) → IsReadOf (transfer_for job) octets read → IsSome (decided (transfer_for job) (messages_in octets)) → used_of job read ≡ used_of job octets
+used_same job octets read is some =
+    let all : used_of job read ≡ read = ap (λ n. take n read) is.all ∙ take_all (length read) read (omega arith) in
+    all ∙ is.used some
+
+tsig_same : (c : Core) (job : JobOf) (octets read : Octets) → IsReadOf (transfer_for job) octets read → IsSome (decided (transfer_for job) (messages_in octets)) → tsig_of c job read ≡ tsig_of c job octets
+unfolding tsig_of
+tsig_same c job octets read is some =
+    ap (λ (o : Octets). tsig_in (key_at (state_of c) job.flight.zone) (transfer_for job) o job.flight.moment) (used_same job octets read is some)
+
+verdict_incomplete : (c : Core) (job : JobOf) (octets : Octets) → outcome (transfer_for job) octets ≡ refused Incomplete → verdict_of c job octets ≡ verdict_from c job (refused Incomplete) (ended_of c job)
 unfolding verdict_of
-verdict_incomplete c job octets none = ap (λ (d : Option Decision). verdict_from c job (or_incomplete d) (ended_of c job)) none
+verdict_incomplete c job octets is =
+    ap (λ (d : Decision). verdict_from c job (screened (tsig_of c job octets) d) (ended_of c job)) is
+    ∙ ap (λ (d : Decision). verdict_from c job d (ended_of c job)) (screened_refused (tsig_of c job octets) Incomplete)
+
+none_incomplete : (job : JobOf) (octets : Octets) → decided (transfer_for job) (messages_in octets) ≡ None → outcome (transfer_for job) octets ≡ refused Incomplete
+none_incomplete job octets none = ap or_incomplete none
+
+same_by : (c : Core) (job : JobOf) (octets read : Octets) (decision : Option Decision) → IsReadOf (transfer_for job) octets read → decided (transfer_for job) (messages_in octets) ≡ decision → verdict_of c job read ≡ verdict_of c job octets
+same_by c job octets read (Some decision) is decides = verdict_by c job read octets (tsig_same c job octets read is (rw decides refl)) is.outcome
+same_by c job octets read None is none =
+    let incomplete = none_incomplete job octets none in
+    verdict_incomplete c job read (is.outcome ∙ incomplete) ∙ sym (verdict_incomplete c job octets incomplete)
+
+verdict_same : (c : Core) (job : JobOf) (octets read : Octets) → IsReadOf (transfer_for job) octets read → verdict_of c job read ≡ verdict_of c job octets
+verdict_same c job octets read is = same_by c job octets read (decided (transfer_for job) (messages_in octets)) is refl
 
 settled_by : (c : Core) (job : JobOf) (octets read : Octets) (now : ℕ) (decision : Option Decision) → IsReadOf (transfer_for job) octets read → decided (transfer_for job) (messages_in octets) ≡ decision → settled c job read now ≡ settled c job octets now
 settled_by c job octets read now (Some decision) is decides =
     let some : IsSome (decided (transfer_for job) (messages_in octets)) = rw decides refl in
-    let all : used_of job read ≡ read = ap (λ n. take n read) is.all ∙ take_all (length read) read (omega arith) in
     ap (λ (v : Verdict). after_verdict c job (used_of job read) now v) (verdict_same c job octets read is)
-    ∙ ap (λ (o : Octets). after_verdict c job o now (verdict_of c job octets)) (all ∙ is.used some)
+    ∙ ap (λ (o : Octets). after_verdict c job o now (verdict_of c job octets)) (used_same job octets read is some)
 settled_by c job octets read now None is none =
-    let incomplete = verdict_incomplete c job octets none in
+    let incomplete = verdict_incomplete c job octets (none_incomplete job octets none) in
     ap (λ (v : Verdict). after_verdict c job (used_of job read) now v) (verdict_same c job octets read is ∙ incomplete)
     ∙ refused_same c job (used_of job read) (used_of job octets) now (ended_of c job)
     ∙ ap (λ (v : Verdict). after_verdict c job (used_of job octets) now v) (sym incomplete)

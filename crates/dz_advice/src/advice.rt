@@ -24,9 +24,12 @@ pub enum Expected {
     Within,
     /// Each catalog once, and each word of a catalog once.
     Once,
+    /// Secrets that can be used.
+    Secrets,
 }
 
-/// The line of a configuration at which something is to be mended, and what was expected there.
+/// The line of a configuration at which something is to be mended, and what was expected there. It has nothing of the
+/// text, and so no secret.
 #[derive(Clone, Copy, Debug, PartialEq, Eq)]
 pub struct Advice {
     /// The line, from 1.
@@ -63,6 +66,11 @@ impl fmt::Display for Advice {
             Expected::Once => write!(
                 f,
                 "line {line}: expected each catalog once, and in each each word once"
+            ),
+            Expected::Secrets => write!(
+                f,
+                "line {line}: expected each secret to be {}",
+                Key::Secret.takes()
             ),
         }
     }
@@ -126,6 +134,7 @@ fn of_lines(text: &[u8], fault: ConfigFault) -> Option<Advice> {
         line: 1,
         expected: match fault {
             ConfigFault::Twice => Expected::Once,
+            ConfigFault::BadSecret => Expected::Secrets,
             _ => Expected::Within,
         },
     }))

@@ -1,5 +1,5 @@
 //! The keys of a configuration, and what each takes.
-use dz_member::{is_word, read_host, read_peer, read_policy};
+use dz_member::{SECRET_OCTETS, is_word, read_host, read_peer, read_policy};
 use dz_name::Name;
 
 /// A table of a configuration.
@@ -28,7 +28,7 @@ impl Place {
         match self {
             Place::Document =>
                 "listen or downstream in front of every table, or a table [[catalog]] or [[catalog.group]]",
-            Place::Catalog => "name, policy or primaries",
+            Place::Catalog => "name, policy, primaries, key or secret",
             Place::Group => "word, policy or primaries",
         }
     }
@@ -42,6 +42,9 @@ pub enum Key {
     Name,
     Policy,
     Primaries,
+    /// `key`, the name of a catalog's key.
+    KeyName,
+    Secret,
     Word,
 }
 
@@ -52,6 +55,8 @@ impl Key {
             (Place::Document, "listen") => Some(Key::Listen),
             (Place::Document, "downstream") => Some(Key::Downstream),
             (Place::Catalog, "name") => Some(Key::Name),
+            (Place::Catalog, "key") => Some(Key::KeyName),
+            (Place::Catalog, "secret") => Some(Key::Secret),
             (Place::Group, "word") => Some(Key::Word),
             (Place::Catalog | Place::Group, "policy") => Some(Key::Policy),
             (Place::Catalog | Place::Group, "primaries") => Some(Key::Primaries),
@@ -67,6 +72,8 @@ impl Key {
             Key::Name => "name",
             Key::Policy => "policy",
             Key::Primaries => "primaries",
+            Key::KeyName => "key",
+            Key::Secret => "secret",
             Key::Word => "word",
         }
     }
@@ -79,6 +86,9 @@ impl Key {
             Key::Name => "a domain name in quotes, \"catalog.example.\"",
             Key::Policy => "\"off\", \"present\" or \"require\"",
             Key::Primaries => "1 to 8 addresses in brackets, [\"192.0.2.1\", \"192.0.2.2:5353\"]",
+            Key::KeyName => "a domain name in quotes, \"key.example.\"",
+            Key::Secret =>
+                "1 to 64 octets in hexadecimal in quotes; base64, as other servers write it, is converted by base64 -d | xxd -p -c 256",
             Key::Word => "1 to 255 octets of visible ASCII in quotes",
         }
     }
@@ -89,9 +99,18 @@ impl Key {
         match self {
             Key::Listen | Key::Primaries => read_peer(octets).is_some(),
             Key::Downstream => read_host(octets).is_some(),
-            Key::Name => Name::parse(octets).is_ok(),
+            Key::Name | Key::KeyName => Name::parse(octets).is_ok(),
             Key::Policy => read_policy(octets).is_some(),
+            Key::Secret => is_secret(octets),
             Key::Word => is_word(octets),
         }
     }
+}
+
+/// Whether a text is 1 to 64 octets in hexadecimal.
+fn is_secret(octets: &[u8]) -> bool {
+    !octets.is_empty()
+        && octets.len() <= 2 * SECRET_OCTETS
+        && octets.len() % 2 == 0
+        && octets.iter().all(|octet| octet.is_ascii_hexdigit())
 }

@@ -15,6 +15,8 @@ pub(crate) struct Reading {
     has_name: bool,
     has_policy: bool,
     has_primaries: bool,
+    has_key: bool,
+    has_secret: bool,
 }
 
 impl Reading {
@@ -28,6 +30,8 @@ impl Reading {
             has_name: false,
             has_policy: false,
             has_primaries: false,
+            has_key: false,
+            has_secret: false,
         }
     }
 
@@ -61,6 +65,8 @@ impl Reading {
         self.has_name = false;
         self.has_policy = false;
         self.has_primaries = false;
+        self.has_key = false;
+        self.has_secret = false;
     }
 
     /// A key has a value.
@@ -71,6 +77,8 @@ impl Reading {
             Key::Name | Key::Word => self.has_name = true,
             Key::Policy => self.has_policy = true,
             Key::Primaries => self.has_primaries = true,
+            Key::KeyName => self.has_key = true,
+            Key::Secret => self.has_secret = true,
         }
     }
 
@@ -82,6 +90,8 @@ impl Reading {
             Place::Group if !self.has_name => Key::Word,
             Place::Catalog | Place::Group if !self.has_policy => Key::Policy,
             Place::Catalog | Place::Group if !self.has_primaries => Key::Primaries,
+            Place::Catalog if self.has_secret && !self.has_key => Key::KeyName,
+            Place::Catalog if self.has_key && !self.has_secret => Key::Secret,
             _ => return None,
         };
         Some(Advice {

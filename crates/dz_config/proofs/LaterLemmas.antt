@@ -4,18 +4,18 @@ use Rattle.std.specs.Prelude.{Option, Some, None, Result, Ok, Err, nat_le, nat_l
 use Rattle.std.specs.List.{fold, list_any}
 use Rattle.std.specs.Option.{option_and_then, option_map_or}
 use Rattle.dz_io.specs.declared.peer.Peer.{Peer}
-use Rattle.dz_member.specs.Config.{is_within_limits, has_each_once}
+use Rattle.dz_member.specs.Config.{is_within_limits, has_each_once, has_secrets}
 use Rattle.dz_member.specs.declared.config.CatalogSettings.{CatalogSettings}
 use Rattle.dz_name.specs.Text.{name_of_text}
 use Rattle.dz_name.specs.Words.{Name}
 use Rattle.toml.specs.Data.{Data, Members, get_member, as_str, as_array, as_table}
 use Rattle.dz_config.specs.Config.{IsDocument, IsFaultOf}
-use Rattle.dz_config.specs.Document.{is_key, keys_of, known, wanted, list_of, text_at, values_at, name_read, name_from, policy_from, peer_from, primary_of, primaries_of, group_in, group_of, groups_from, catalog_in, catalog_of, catalogs_of, host_from, downstream_host, hosts_from, addresses_of, settings_of, judged, said_of, config_of}
+use Rattle.dz_config.specs.Document.{is_key, keys_of, known, wanted, list_of, text_at, values_at, name_read, name_from, policy_from, peer_from, primary_of, primaries_of, group_in, group_of, groups_from, secret_from, key_in, key_from, catalog_in, catalog_of, catalogs_of, host_from, downstream_host, hosts_from, addresses_of, settings_of, judged, said_of, config_of}
 use Rattle.dz_member.specs.Peer.{policy_of, host_of, peer_of}
 use Rattle.dz_config.specs.Reading.{Reading, number_of, least, both, made, read_in, more, gathered}
 use Rattle.dz_config.specs.declared.config.Said.{Said}
 use Rattle.dz_config.specs.declared.fault.ConfigFault.{ConfigFault}
-use Rattle.dz_config.specs.declared.fault.ConfigFault.TheVariants.{NotToml, UnknownKey, UnknownPolicy, BadPeer, OutOfLimits, Twice}
+use Rattle.dz_config.specs.declared.fault.ConfigFault.TheVariants.{NotToml, UnknownKey, UnknownPolicy, BadPeer, OutOfLimits, Twice, BadSecret}
 use Rattle.dz_config.specs.declared.keys.Place.{Place}
 use Rattle.dz_config.specs.declared.keys.Place.TheVariants.{Document, Catalog, Group}
 
@@ -102,12 +102,23 @@ unfolding later
 of_groups_from None table = tt
 of_groups_from (Some value) table = of_in (λ values. gathered (map group_of values)) (values_at (codes "group") table) (λ values. of_all group_of values of_group) (of_values (codes "group") table)
 
+of_key_in : (table : Members) → later (key_in table)
+of_key_in table =
+    of_made _ _ (of_both _ _ (of_in name_from (text_at (codes "key") table) (λ text. of_name_read (name_of_text text)) (of_text (codes "key") table)) (of_made secret_from (text_at (codes "secret") table) (of_text (codes "secret") table)))
+
+of_key_from : (name secret : Option Data) (table : Members) → later (key_from name secret table)
+unfolding later
+of_key_from None None table = tt
+of_key_from None (Some secret) table = of_made Some (key_in table) (of_key_in table)
+of_key_from (Some name) secret table = of_made Some (key_in table) (of_key_in table)
+
 of_catalog_in : (table : Members) → later (catalog_in table)
 of_catalog_in table =
     of_made _ _
     (of_both _ _ (of_known Catalog table)
     (of_both _ _ (of_in name_from (text_at (codes "name") table) (λ text. of_name_read (name_of_text text)) (of_text (codes "name") table))
-    (of_both _ _ (of_policy_at table) (of_both _ _ (of_primaries table) (of_groups_from (get_member (codes "group") table) table)))))
+    (of_both _ _ (of_policy_at table) (of_both _ _ (of_primaries table) (of_both _ _ (of_groups_from (get_member (codes "group") table) table)
+    (of_key_from (get_member (codes "key") table) (get_member (codes "secret") table) table))))))
 
 of_catalog : (value : Data) → later (catalog_of value)
 of_catalog value = of_in catalog_in (wanted (as_table value)) of_catalog_in (of_wanted (as_table value))
@@ -134,15 +145,16 @@ of_settings table =
     (of_both _ _ (of_in peer_from (text_at (codes "listen") table) of_peer (of_text (codes "listen") table))
     (of_both _ _ (of_catalogs table) (of_hosts_from (get_member (codes "downstream") table) table))))
 
-of_tests : (a b d : Bool) (said : Said) → later (if not a then Err OutOfLimits else if b then Err OutOfLimits else if not d then Err Twice else Ok said)
+of_tests : (a b d s : Bool) (said : Said) → later (if not a then Err OutOfLimits else if b then Err OutOfLimits else if not d then Err Twice else if not s then Err BadSecret else Ok said)
 unfolding later
-of_tests false b d said = λ e. cc
-of_tests true true d said = λ e. cc
-of_tests true false false said = λ e. cc
-of_tests true false true said = tt
+of_tests false b d s said = λ e. cc
+of_tests true true d s said = λ e. cc
+of_tests true false false s said = λ e. cc
+of_tests true false true false said = λ e. cc
+of_tests true false true true said = tt
 
 of_judged : (settings : Peer × (List CatalogSettings × List Peer)) → later (judged settings)
-of_judged settings = of_tests (is_within_limits settings.1.0) (nat_lt 16 (length settings.1.1)) (has_each_once settings.1.0) (record { listen = settings.0; config = settings.1.0; downstream = addresses_of settings.1.1 })
+of_judged settings = of_tests (is_within_limits settings.1.0) (nat_lt 16 (length settings.1.1)) (has_each_once settings.1.0) (has_secrets settings.1.0) (record { listen = settings.0; config = settings.1.0; downstream = addresses_of settings.1.1 })
 
 never : {X : Type 0} (r : Reading X) → later r → r ≡ Err NotToml → ⊥
 unfolding later

@@ -1,29 +1,34 @@
 -- Meaning: the configuration that a document has, or the least fault of it. A document is a table as TOML defines it
 -- (TOML 1.1): however it is written, by headers, dotted keys or inline tables.
-use Rattle.std.specs.Prelude.{Bool, ◌||◌, not, nat_lt, List, [], ◌∷◌, length, map, codes, Option, Some, None, Result, Ok, Err, if◌then◌else◌}
+use Rattle.std.specs.Prelude.{Bool, ◌||◌, not, nat_le, nat_lt, List, [], ◌∷◌, length, map, codes, Option, Some, None, Result, Ok, Err, if◌then◌else◌}
 use Rattle.std.specs.List.{list_any}
 use Rattle.std.specs.Option.{option_and_then, option_map_or}
 use Rattle.std.specs.Str.{bytes_eq}
 use Rattle.dz_io.specs.declared.peer.Peer.{Peer}
-use Rattle.dz_member.specs.Config.{is_within_limits, has_each_once}
+use Rattle.dz_member.specs.Config.{is_within_limits, has_each_once, has_secrets}
 use Rattle.dz_member.specs.declared.config.CatalogSettings.{CatalogSettings}
 use Rattle.dz_member.specs.declared.config.GroupSettings.{GroupSettings}
 use Rattle.dz_member.specs.declared.config.Policy.{Policy}
+use Rattle.dz_member.specs.declared.key.Key.{Key}
+use Rattle.dz_member.specs.declared.limits.TheConstants.{SECRET_OCTETS}
 use Rattle.dz_name.specs.Text.{name_of_text}
 use Rattle.dz_name.specs.Words.{Name, Octets}
+use Rattle.hex.specs.Hex.{decode_of}
+use Rattle.hex.specs.declared.error.FromHexError.{FromHexError}
 use Rattle.toml.specs.Data.{Data, Items, no_items, item, Members, no_members, member, get_member, as_str, as_array, as_table}
 use Rattle.dz_member.specs.Peer.{host_of, peer_of, policy_of}
 use Rattle.dz_config.specs.Reading.{Reading, both, made, read_in, gathered}
 use Rattle.dz_config.specs.declared.downstream.TheConstants.{DOWNSTREAM}
 use Rattle.dz_config.specs.declared.config.Said.{Said}
-use Rattle.dz_config.specs.declared.fault.ConfigFault.TheVariants.{UnknownKey, MissingValue, BadName, UnknownPolicy, BadPeer, OutOfLimits, Twice}
+use Rattle.dz_config.specs.declared.fault.ConfigFault.TheVariants.{UnknownKey, MissingValue, BadName, UnknownPolicy, BadPeer, OutOfLimits, Twice, BadSecret}
 use Rattle.dz_config.specs.declared.keys.Place.{Place}
 use Rattle.dz_config.specs.declared.keys.Place.TheVariants.{Document, Catalog, Group}
 
 -- the keys of the document, of a catalog and of a group
 abbrev pub is_key : Place → Octets → Bool
 is_key Document key = bytes_eq key (codes "listen") || (bytes_eq key (codes "catalog") || bytes_eq key (codes "downstream"))
-is_key Catalog key = bytes_eq key (codes "name") || (bytes_eq key (codes "policy") || (bytes_eq key (codes "primaries") || bytes_eq key (codes "group")))
+is_key Catalog key =
+    bytes_eq key (codes "name") || (bytes_eq key (codes "policy") || (bytes_eq key (codes "primaries") || (bytes_eq key (codes "group") || (bytes_eq key (codes "key") || bytes_eq key (codes "secret")))))
 is_key Group key = bytes_eq key (codes "word") || (bytes_eq key (codes "policy") || bytes_eq key (codes "primaries"))
 
 abbrev pub keys_of : Members → List Octets
@@ -86,12 +91,37 @@ groups_from (Some value) table = read_in (λ values. gathered (map group_of valu
 abbrev pub groups_of : Members → Reading (List GroupSettings)
 groups_of table = groups_from (get_member (codes "group") table) table
 
+-- the octets of a secret in hex; a text that isn't hex, and one of more than 64 octets, reads as the secret of no octets,
+-- which is refused after everything else
+abbrev pub secret_kept : Octets → Octets
+secret_kept octets = if nat_le (length octets) SECRET_OCTETS then octets else []
+
+abbrev pub secret_read : Result Octets FromHexError → Octets
+secret_read (Ok octets) = secret_kept octets
+secret_read (Err error) = []
+
+abbrev pub secret_from : Octets → Octets
+secret_from text = secret_read (decode_of text)
+
+-- the key of a catalog: a name and a secret, or neither
+abbrev pub key_in : Members → Reading Key
+key_in table =
+    made (λ p. record { name = p.0; secret = p.1 }) (both (read_in name_from (text_at (codes "key") table)) (made secret_from (text_at (codes "secret") table)))
+
+abbrev pub key_from : Option Data → Option Data → Members → Reading (Option Key)
+key_from None None table = Ok None
+key_from None (Some secret) table = made Some (key_in table)
+key_from (Some name) secret table = made Some (key_in table)
+
+abbrev pub key_of : Members → Reading (Option Key)
+key_of table = key_from (get_member (codes "key") table) (get_member (codes "secret") table) table
+
 -- a catalog
 abbrev pub catalog_in : Members → Reading CatalogSettings
 catalog_in table =
-    made (λ p. record { name = p.1.0; policy = p.1.1.0; primaries = p.1.1.1.0; groups = p.1.1.1.1 })
+    made (λ p. record { name = p.1.0; policy = p.1.1.0; primaries = p.1.1.1.0; groups = p.1.1.1.1.0; key = p.1.1.1.1.1 })
     (both (known Catalog table)
-    (both (read_in name_from (text_at (codes "name") table)) (both (read_in policy_from (text_at (codes "policy") table)) (both (primaries_of table) (groups_of table)))))
+    (both (read_in name_from (text_at (codes "name") table)) (both (read_in policy_from (text_at (codes "policy") table)) (both (primaries_of table) (both (groups_of table) (key_of table))))))
 
 abbrev pub catalog_of : Data → Reading CatalogSettings
 catalog_of value = read_in catalog_in (wanted (as_table value))
@@ -124,12 +154,13 @@ settings_of table =
 abbrev pub addresses_of : List Peer → List Octets
 addresses_of hosts = map (λ p. p.address) hosts
 
--- counts and words are judged last, and then whether a catalog or a word stands twice
+-- counts and words are judged after all that, then whether a catalog or a word stands twice, and last the secrets
 abbrev pub judged : Peer × (List CatalogSettings × List Peer) → Reading Said
 judged settings =
     if not (is_within_limits settings.1.0) then Err OutOfLimits
     else if nat_lt DOWNSTREAM (length settings.1.1) then Err OutOfLimits
     else if not (has_each_once settings.1.0) then Err Twice
+    else if not (has_secrets settings.1.0) then Err BadSecret
     else Ok (record { listen = settings.0; config = settings.1.0; downstream = addresses_of settings.1.1 })
 
 -- what a document says, or its least fault

@@ -2,7 +2,7 @@
 use Rattle.std.specs.Prelude.{ℕ, nat_le, List, [], ◌∷◌, ◌++◌, Result, Ok, Err, if◌then◌else◌}
 use Rattle.std.specs.List.{fold}
 use Rattle.dz_config.specs.declared.fault.ConfigFault.{ConfigFault}
-use Rattle.dz_config.specs.declared.fault.ConfigFault.TheVariants.{NotToml, UnknownKey, MissingValue, BadName, UnknownPolicy, BadPeer, OutOfLimits, Twice}
+use Rattle.dz_config.specs.declared.fault.ConfigFault.TheVariants.{NotToml, UnknownKey, MissingValue, BadName, UnknownPolicy, BadPeer, OutOfLimits, Twice, BadSecret}
 
 abbrev pub Reading : Type 0 → Type 0
 Reading X = Result X ConfigFault
@@ -17,6 +17,7 @@ number_of UnknownPolicy = 5
 number_of BadPeer = 6
 number_of OutOfLimits = 7
 number_of Twice = 8
+number_of BadSecret = 9
 
 abbrev pub least : ConfigFault → ConfigFault → ConfigFault
 least f g = if nat_le (number_of f) (number_of g) then f else g

@@ -73,7 +73,7 @@ fn read_table(alloc: Global, table: &Table) -> Result<Said, ConfigError>
     }
 }
 
-/// Settings whose counts and words are within their limits, and in which nothing stands twice.
+/// Settings whose counts and words are within their limits, in which nothing stands twice, and whose secrets can be used.
 fn judge(settings: (Peer, (Config, Peers))) -> Result<Said, ConfigFault>
     ensures { result ≡ judged settings }
 {
@@ -86,6 +86,9 @@ fn judge(settings: (Peer, (Config, Peers))) -> Result<Said, ConfigFault>
         Some(downstream) => {
             if !config.has_each_once() {
                 return Err(ConfigFault::Twice);
+            }
+            if !config.has_secrets() {
+                return Err(ConfigFault::BadSecret);
             }
             Ok(Said {
                 listen,

@@ -1,8 +1,8 @@
 //! The settings in a document's tables, or the least of the faults found in them.
 
-ghost use Rattle.std.specs.Prelude.{◌≡◌, IfOk, map, codes};
+ghost use Rattle.std.specs.Prelude.{◌≡◌, IfOk, Some, [], map, codes};
 ghost use Rattle.toml.specs.View.{view, table_view};
-ghost use Rattle.dz_config.specs.Document.{text_at, name_from, policy_from, peer_from, primary_of, primaries_of, group_in, group_of, groups_of, catalog_in, catalog_of, catalogs_of, host_from, downstream_host, hosts_of, settings_of};
+ghost use Rattle.dz_config.specs.Document.{text_at, name_from, policy_from, peer_from, primary_of, primaries_of, group_in, group_of, groups_of, secret_kept, secret_from, key_in, key_of, catalog_in, catalog_of, catalogs_of, host_from, downstream_host, hosts_of, settings_of};
 ghost use Rattle.dz_config.specs.Reading.{both, made, read_in, gathered};
 
 use crate::fault::ConfigFault;
@@ -11,10 +11,11 @@ use crate::reading::{both, more};
 use crate::tree::{table_of, text_at, text_of, value_at, values_at};
 use dz_io::Peer;
 use dz_member::{
-    CatalogSettings, Config, GroupSettings, Groups, Peers, Policy, read_host, read_peer,
-    read_policy,
+    CatalogSettings, Config, GroupSettings, Groups, Key, Peers, Policy, Secret, read_host,
+    read_peer, read_policy,
 };
 use dz_name::{Name, Octets};
+use hex::FromHexError;
 use std::alloc::{AllocError, Global};
 use toml::{Table, Value};
 
@@ -198,20 +199,108 @@ fn groups_at(alloc: Global, table: &Table) -> Result<Result<Groups, ConfigFault>
     }
 }
 
+/// The secret of no octets, which no key may have.
+fn no_secret() -> Secret
+    ensures { result ≡ [] }
+{
+    match Secret::from_slice(&[]) {
+        Some(secret) => secret,
+        None => unreachable!(),
+    }
+}
+
+/// The secret of these octets; that of no octets where they are too many.
+fn secret_kept(octets: &[u8]) -> Secret
+    ensures { result ≡ secret_kept octets.now }
+{
+    match Secret::from_slice(octets) {
+        Some(secret) => secret,
+        None => no_secret(),
+    }
+}
+
+/// The secret of a text in hex; that of no octets where it is no such.
+fn secret_from(alloc: Global, text: &str) -> Result<Secret, AllocError>
+    ensures { IfOk result (λ o. o ≡ secret_from text.now) }
+{
+    match hex::decode(alloc, text.as_bytes()) {
+        Ok(octets) => Ok(secret_kept(octets.as_slice())),
+        Err(FromHexError::OutOfMemory) => Err(AllocError),
+        Err(_) => Ok(no_secret()),
+    }
+}
+
+/// The secret of a catalog.
+fn secret_at(alloc: Global, table: &Table) -> Result<Result<Secret, ConfigFault>, AllocError>
+    ensures { IfOk result (λ r. r
+        ≡ made secret_from (text_at (codes "secret") (table_view table.now))) }
+{
+    match text_at(table, "secret") {
+        Err(fault) => Ok(Err(fault)),
+        Ok(text) => Ok(Ok(secret_from(alloc, text)?)),
+    }
+}
+
+/// The name of a key.
+fn key_name_at(table: &Table) -> Result<Name, ConfigFault>
+    ensures { result ≡ read_in name_from (text_at (codes "key") (table_view table.now)) }
+{
+    match text_at(table, "key") {
+        Ok(text) => name_from(text),
+        Err(fault) => Err(fault),
+    }
+}
+
+/// A key of its parts.
+fn key_from(parts: Result<(Name, Secret), ConfigFault>) -> Result<Option<Key>, ConfigFault>
+    ensures { result ≡ made Some (made (λ p. record { name = p.0; secret = p.1 }) parts) }
+{
+    match parts {
+        Ok((name, secret)) => Ok(Some(Key { name, secret })),
+        Err(fault) => Err(fault),
+    }
+}
+
+/// The key of a table that has a name or a secret of one.
+fn key_in(alloc: Global, table: &Table) -> Result<Result<Option<Key>, ConfigFault>, AllocError>
+    ensures { IfOk result (λ r. r ≡ made Some (key_in (table_view table.now))) }
+{
+    let secret = secret_at(alloc, table)?;
+    let parts = both(key_name_at(table), secret);
+    Ok(key_from(parts))
+}
+
+/// The key of a catalog; none where it has neither a name nor a secret of one.
+fn key_at(alloc: Global, table: &Table) -> Result<Result<Option<Key>, ConfigFault>, AllocError>
+    ensures { IfOk result (λ r. r ≡ key_of (table_view table.now)) }
+{
+    if value_at(table, "key").is_none() && value_at(table, "secret").is_none() {
+        return Ok(Ok(None));
+    }
+    key_in(alloc, table)
+}
+
 /// A catalog of its parts.
 fn catalog_from(
-    parts: Result<((), (Name, (Policy, (Peers, Groups)))), ConfigFault>,
+    parts: Result<((), (Name, (Policy, (Peers, (Groups, Option<Key>))))), ConfigFault>,
 ) -> Result<CatalogSettings, ConfigFault>
     ensures { result ≡ made (λ p.
-        record { name = p.1.0; policy = p.1.1.0; primaries = p.1.1.1.0; groups = p.1.1.1.1 })
+        record {
+          name = p.1.0;
+          policy = p.1.1.0;
+          primaries = p.1.1.1.0;
+          groups = p.1.1.1.1.0;
+          key = p.1.1.1.1.1;
+        })
         parts }
 {
     match parts {
-        Ok(((), (name, (policy, (primaries, groups))))) => Ok(CatalogSettings {
+        Ok(((), (name, (policy, (primaries, (groups, key)))))) => Ok(CatalogSettings {
             name,
             policy,
             primaries,
             groups,
+            key,
         }),
         Err(fault) => Err(fault),
     }
@@ -226,8 +315,10 @@ fn catalog_in(
 {
     let primaries = primaries_at(alloc, table)?;
     let groups = groups_at(alloc, table)?;
+    let key = key_at(alloc, table)?;
     let known = known(Place::Catalog, table);
-    let hosts = both(primaries, groups);
+    let rest = both(groups, key);
+    let hosts = both(primaries, rest);
     let fetched = both(policy_at(table), hosts);
     let parts = both(name_at(table), fetched);
     let all = both(known, parts);

@@ -25,10 +25,12 @@ pub enum ConfigFault {
     OutOfLimits,
     /// A catalog stands twice, or a word twice in one catalog.
     Twice,
+    /// A secret isn't hex of 1 to 64 octets.
+    BadSecret,
 }
 
 impl ConfigFault {
-    /// The number of the fault, from 1 to 8.
+    /// The number of the fault, from 1 to 9.
     pub fn number(self) -> u8
         ensures { result ≡ number_of self }
     {
@@ -41,6 +43,7 @@ impl ConfigFault {
             ConfigFault::BadPeer => 6,
             ConfigFault::OutOfLimits => 7,
             ConfigFault::Twice => 8,
+            ConfigFault::BadSecret => 9,
         }
     }
 }

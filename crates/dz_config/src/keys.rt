@@ -35,6 +35,8 @@ fn is_key(place: Place, key: &[u8]) -> bool
                 || key == b"policy".as_slice()
                 || key == b"primaries".as_slice()
                 || key == b"group".as_slice()
+                || key == b"key".as_slice()
+                || key == b"secret".as_slice()
         }
         Place::Group => {
             key == b"word".as_slice()

@@ -1,5 +1,4 @@
 pub mod GainLemmas
 pub mod FrameLemmas
 pub mod TakingLemmas
-pub mod QueryLemmas
 pub mod FetchLemmas

@@ -1,19 +1,17 @@
--- Meaning: the query of a job, over TCP behind its length (RFC 5936 section 2.1, RFC 1995 section 3, RFC 1035
--- section 4.2.2).
-use Rattle.std.specs.Prelude.{Option}
-use Rattle.std.specs.Option.{option_and_then}
+-- Meaning: the query of a job as it is sent, over TCP after its length (RFC 1035 section 4.2.2), and signed where the
+-- job has a key (RFC 8945 section 5.1).
+use Rattle.std.specs.Prelude.{ℕ, Option, Some, None}
 use Rattle.dz_name.specs.Words.{Octets}
-use Rattle.dz_record.specs.Record.{Record}
-use Rattle.dz_zone.specs.Version.{apex_soa}
 use Rattle.dz_message.specs.Frame.{frame}
-use Rattle.dz_message.specs.Query.{query_octets}
-use Rattle.dz_take.specs.Form.{base_of}
-use Rattle.dz_job.specs.Job.{JobOf}
+use Rattle.dz_member.specs.declared.key.Key.{Key}
+use Rattle.dz_tsig.specs.Signing.{signed}
+use Rattle.dz_take.specs.Query.{asked_octets}
+use Rattle.dz_job.specs.Job.{JobOf, transfer_for}
 
--- where differences are asked for, the SOA record of the version that they lead on from
-abbrev pub soa_asked : JobOf → Option Record
-soa_asked job = option_and_then apex_soa (base_of job.flight.ask job.held)
+-- a query of a moment
+abbrev pub sent_to : Option Key → Octets → ℕ → Octets
+sent_to None query moment = query
+sent_to (Some key) query moment = signed key query moment
 
--- with the job's ID, for its zone
 abbrev pub query_of : JobOf → Octets
-query_of job = frame (query_octets job.flight.id job.flight.zone (soa_asked job))
+query_of job = frame (sent_to job.key (asked_octets (transfer_for job)) job.flight.moment)

@@ -41,7 +41,7 @@ use Rattle.dz_fleet.proofs.SoundLemmas.{among_stands, sound_landed, sound_end, s
 use Rattle.dz_fleet.proofs.EndLemmas.{waiting, ends_idle, ends_turn, placed_at}
 use Rattle.dz_fleet.proofs.StartLemmas.{opened_kept}
 use Rattle.dz_fleet.proofs.HandLemmas.{room, first_idle, job_is, sent_by, due_core}
-use Rattle.dz_fleet.proofs.TakeLemmas.{stands_some, follows, Tells, tells, aftermath_is}
+use Rattle.dz_fleet.proofs.TakeLemmas.{MayJoin, stands_some, follows, Tells, tells, aftermath_is}
 use Rattle.dz_fleet.proofs.TakenLemmas.{own_from, values_same}
 use Rattle.dz_fleet.proofs.SettleLemmas.{settled_by}
 use Rattle.dz_fleet.proofs.WakeLemmas.{same_busy}
@@ -144,16 +144,25 @@ module _ (c : Core) (job : JobOf) (now : ℕ) (ok : IsWell c) (among : IsAmong j
   well_refused false none = well_refusal none
 
 -- ---- a transfer is taken
--- a job that is the core's is one
+-- a job that is the core's is one, whatever its key is
+abbrev keyless : (f : Flight) (h : Option Zone) → JobOf
+keyless f h = record { flight = f; held = h; key = None }
+
+keyless_valid : (job : JobOf) → IsJob job → IsJob (keyless job.flight job.held)
+keyless_valid job v = record { own = v.own; asks = v.asks; moment = v.moment }
+
+keyed_valid : (job : JobOf) → IsJob (keyless job.flight job.held) → IsJob job
+keyed_valid job v = record { own = v.own; asks = v.asks; moment = v.moment }
+
 job_valid : (c : Core) (job : JobOf) → IsSound c → IsFlying c job → stands (state_of c) job.flight.zone job.flight.incarnation ≡ true → IsJob job
 job_valid c job ok fly stood =
     let s = state_of c in
-    let P : Flight → Type 0 = λ f. stands s f.zone f.incarnation ≡ true → IsJob record { flight = f; held = held_at s f.zone } in
-    let all = all_weaker (IsSent c.list c.tickets) (λ (j : JobOf). P j.flight) c.flight (λ j sent up. subst (λ h. IsJob record { flight = j.flight; held = h }) (sent.held up) sent.valid) ok.sent in
-    subst (λ h. IsJob record { flight = job.flight; held = h }) (sym (fly.held stood)) (among_all P job.flight c.flight fly.there all stood)
+    let P : Flight → Type 0 = λ f. stands s f.zone f.incarnation ≡ true → IsJob (keyless f (held_at s f.zone)) in
+    let all = all_weaker (IsSent c.list c.tickets) (λ (j : JobOf). P j.flight) c.flight (λ j sent up. subst (λ h. IsJob (keyless j.flight h)) (sent.held up) (keyless_valid j sent.valid)) ok.sent in
+    keyed_valid job (subst (λ h. IsJob (keyless job.flight h)) (sym (fly.held stood)) (among_all P job.flight c.flight fly.there all stood))
 
 module _ (c : Core) (job : JobOf) (octets : Octets) (ok : IsWell c) (fly : IsFlying c job) (none : ended_of c job ≡ None) (used : octets_used (transfer_for job) octets ≡ length octets)
-    (approved : IsApproved (policy_at (state_of c) job.flight.zone) (outcome (transfer_for job) octets)) (aftermath : Aftermath) (is : aftermath ≡ aftermath_in c job octets) where
+    (approved : MayJoin c job octets) (aftermath : Aftermath) (is : aftermath ≡ aftermath_in c job octets) where
   abbrev later : State
   later = step (state_of c) (entry_for job octets)
 

@@ -129,8 +129,8 @@ none_some (Some ps) e some = absurd (cc)
 pub no_primaries : {A : Type 0} (h s : State) (zone : List (List ℕ)) → h ≡ s → primaries_at h zone ≡ None → IsSome (primaries_at s zone) → A
 no_primaries h s zone same e some = none_some (primaries_at s zone) (subst (λ x. primaries_at x zone ≡ None) same e) some
 
-pub flying_is : (job : JobOf) (f : Flying) → f.flight ≡ job.flight → option_map arc_value f.held.value ≡ job.held → job_in f ≡ job
-flying_is job f e g = rw (e, g) refl
+pub flying_is : (job : JobOf) (f : Flying) → f.flight ≡ job.flight → option_map arc_value f.held.value ≡ job.held → f.key.value ≡ job.key → job_in f ≡ job
+flying_is job f e g k = rw (e, g, k) refl
 
 last_at : (jobs : List JobOf) (job : JobOf) → slice_get (jobs ++ job ∷ []) (length jobs) ≡ Some job
 last_at [] job = refl

@@ -1,5 +1,5 @@
 -- A transfer that is taken, and the verdict of one.
-use Rattle.std.proofs.Common.{◌≡◌, ℕ, ◌+◌, ◌^◌, ◌<◌, ◌≤◌, Bool, true, false, List, [], ◌∷◌, length, refl, sym, ◌∙◌, ap, subst, arith, Some, None}
+use Rattle.std.proofs.Common.{◌≡◌, ℕ, ◌+◌, ◌^◌, ◌<◌, ◌≤◌, Bool, true, false, List, [], ◌∷◌, take, length, refl, sym, ◌∙◌, ap, subst, arith, Some, None}
 use Rattle.std.specs.Prelude.{Option, is_some, ◌==◌, IsSome, if◌then◌else◌}
 use Rattle.std.specs.Option.{option_map_or}
 use Rattle.dz_zone.specs.Version.{Zone}
@@ -10,7 +10,13 @@ use Rattle.dz_take.specs.Outcome.{outcome, octets_used}
 use Rattle.dz_take.specs.Transfer.{Decision, up_to_date, new, refused}
 use Rattle.dz_history.specs.declared.aftermath.Aftermath.{Aftermath}
 use Rattle.dz_history.specs.declared.aftermath.Aftermath.TheVariants.{Member}
-use Rattle.dz_history.specs.State.{State, stands, held_at, policy_at, incarnation_at}
+use Rattle.dz_history.specs.State.{State, stands, held_at, key_at, policy_at, incarnation_at}
+use Rattle.dz_history.specs.Signed.{tsig_in}
+use Rattle.dz_take.specs.declared.outcome.TakeFault.{TakeFault}
+use Rattle.dz_take.specs.declared.outcome.TakeFault.TheVariants.{Tsig}
+use Rattle.dz_tsig.specs.declared.fault.TsigFault.{TsigFault}
+use Rattle.dz_fleet.specs.inner.Judging.{Stands}
+use Rattle.std.proofs.Math.Seq.{take-length}
 use Rattle.dz_history.specs.After.{step, taken, transfer_of, decision_of, aftermath_of}
 use Rattle.dz_history.specs.Legal.{IsApproved, CanFollow}
 use Rattle.dz_history.proofs.ListLemmas.{count_is}
@@ -18,7 +24,7 @@ use Rattle.dz_history.proofs.StateLemmas.{same_alone}
 use Rattle.dz_job.specs.Job.{JobOf, IsJob, transfer_for, taken_for, serial_in}
 use Rattle.dz_job.specs.declared.verdict.Verdict.{Verdict}
 use Rattle.dz_job.specs.declared.verdict.Verdict.TheVariants.{Published, Confirmed, Refused, PolicyRefused, Stale, OutOfMemory}
-use Rattle.dz_fleet.specs.Core.{Core, state_of, ended_of, entry_for, is_accepted, verdict_from, verdict_of}
+use Rattle.dz_fleet.specs.Core.{Core, state_of, ended_of, entry_for, is_accepted, screened, tsig_of, used_of, verdict_from, verdict_of}
 use Rattle.dz_fleet.specs.Weighing.{renewed_for, is_taken, aftermath_in}
 use Rattle.dz_fleet.specs.Sound.{IsAmong, IsSound, IsFlying}
 use Rattle.dz_fleet.proofs.SoundLemmas.{among_stands}
@@ -57,17 +63,36 @@ pub room_more : (c : Core) (job : JobOf) → IsSound c → IsAmong job.flight c.
 room_more c job ok among = omega (arith, among_some job c.flight among, ok.drawn, ok.most)
 
 -- ---- verdicts
-pub verdict_is : (c : Core) (job : JobOf) (octets : List ℕ) (d : Decision) (o : Option ℕ) → outcome (transfer_for job) octets ≡ d → ended_of c job ≡ o → verdict_of c job octets ≡ verdict_from c job d o
+pub verdict_is : (c : Core) (job : JobOf) (octets : List ℕ) (t : Option TsigFault) (d : Decision) (o : Option ℕ) → tsig_of c job octets ≡ t → outcome (transfer_for job) octets ≡ d → ended_of c job ≡ o
+    → verdict_of c job octets ≡ verdict_from c job (screened t d) o
 unfolding verdict_of
-verdict_is c job octets d o e f = rw (e, f) refl
+verdict_is c job octets t d o s e f = rw (s, e, f) refl
 
-pub verdict_new : (c : Core) (job : JobOf) (octets : List ℕ) (zone : Zone) → outcome (transfer_for job) octets ≡ new zone → ended_of c job ≡ None → is_accepted (policy_at (state_of c) job.flight.zone) zone ≡ true
+pub screened_refused : (t : Option TsigFault) (fault : TakeFault) → screened t (refused fault) ≡ refused fault
+screened_refused None fault = refl
+screened_refused (Some f) fault = refl
+
+-- what is refused for its own sake
+pub verdict_refused : (c : Core) (job : JobOf) (octets : List ℕ) (fault : TakeFault) → outcome (transfer_for job) octets ≡ refused fault → ended_of c job ≡ None → verdict_of c job octets ≡ Refused fault
+verdict_refused c job octets fault e f = verdict_is c job octets (tsig_of c job octets) (refused fault) None refl e f ∙ ap (λ d. verdict_from c job d None) (screened_refused (tsig_of c job octets) fault)
+
+-- what is refused for its signatures
+screened_stands : (f : TsigFault) (d : Decision) → Stands d → screened (Some f) d ≡ refused (Tsig f)
+screened_stands f up_to_date s = refl
+screened_stands f (new zone) s = refl
+screened_stands f (refused fault) s = absurd s
+
+pub verdict_unsigned : (c : Core) (job : JobOf) (octets : List ℕ) (f : TsigFault) → Stands (outcome (transfer_for job) octets) → tsig_of c job octets ≡ Some f → ended_of c job ≡ None
+    → verdict_of c job octets ≡ Refused (Tsig f)
+verdict_unsigned c job octets f s e g = verdict_is c job octets (Some f) (outcome (transfer_for job) octets) None e refl g ∙ ap (λ d. verdict_from c job d None) (screened_stands f (outcome (transfer_for job) octets) s)
+
+pub verdict_new : (c : Core) (job : JobOf) (octets : List ℕ) (zone : Zone) → tsig_of c job octets ≡ None → outcome (transfer_for job) octets ≡ new zone → ended_of c job ≡ None → is_accepted (policy_at (state_of c) job.flight.zone) zone ≡ true
     → verdict_of c job octets ≡ Published (length c.list) (serial_in (Some zone)) (aftermath_of (state_of c) job.flight.zone (new zone))
-verdict_new c job octets zone e f g = verdict_is c job octets (new zone) None e f ∙ rw g refl
+verdict_new c job octets zone t e f g = verdict_is c job octets None (new zone) None t e f ∙ rw g refl
 
-pub verdict_policy : (c : Core) (job : JobOf) (octets : List ℕ) (zone : Zone) → outcome (transfer_for job) octets ≡ new zone → ended_of c job ≡ None → is_accepted (policy_at (state_of c) job.flight.zone) zone ≡ false
+pub verdict_policy : (c : Core) (job : JobOf) (octets : List ℕ) (zone : Zone) → tsig_of c job octets ≡ None → outcome (transfer_for job) octets ≡ new zone → ended_of c job ≡ None → is_accepted (policy_at (state_of c) job.flight.zone) zone ≡ false
     → verdict_of c job octets ≡ PolicyRefused (standing zone.apex zone.records)
-verdict_policy c job octets zone e f g = verdict_is c job octets (new zone) None e f ∙ rw g refl
+verdict_policy c job octets zone t e f g = verdict_is c job octets None (new zone) None t e f ∙ rw g refl
 
 pub there_where_taken : (c : Core) (job : JobOf) (octets : List ℕ) (v : Verdict) → is_some (renewed_for c job octets v) ≡ is_taken v
 there_where_taken c job octets (Published position serial aftermath) = refl
@@ -77,12 +102,17 @@ there_where_taken c job octets (PolicyRefused standing) = refl
 there_where_taken c job octets (Stale position) = refl
 there_where_taken c job octets OutOfMemory = refl
 
+-- a transfer may join the list: it is approved, and signed where it is to be
+pub record MayJoin (c : Core) (job : JobOf) (octets : List ℕ) : Type 0 where
+  pub approved : IsApproved (policy_at (state_of c) job.flight.zone) (outcome (transfer_for job) octets)
+  pub signed : tsig_of c job octets ≡ None
+
 -- what a verdict tells
 pub record Tells (c : Core) (job : JobOf) (octets : List ℕ) (v : Verdict) : Type 0 where
   pub standing : ((n : ℕ) → v ≡ Stale n → ⊥) → ended_of c job ≡ None
   pub ended : (n : ℕ) → v ≡ Stale n → ended_of c job ≡ Some n
   pub memory : v ≡ OutOfMemory → ⊥
-  pub approved : is_taken v ≡ true → IsApproved (policy_at (state_of c) job.flight.zone) (outcome (transfer_for job) octets)
+  pub approved : is_taken v ≡ true → MayJoin c job octets
   pub published : (p s : ℕ) (a : Aftermath) → v ≡ Published p s a → a ≡ aftermath_of (state_of c) job.flight.zone (outcome (transfer_for job) octets)
   pub confirmed : (p s : ℕ) → v ≡ Confirmed p s → Member ≡ aftermath_of (state_of c) job.flight.zone (outcome (transfer_for job) octets)
 
@@ -90,17 +120,17 @@ approved_by : (policy : Option Policy) (zone : Zone) → is_accepted policy zone
 approved_by None zone h = absurd (cc)
 approved_by (Some p) zone h = h
 
-tells_new : (c : Core) (job : JobOf) (octets : List ℕ) (zone : Zone) (b : Bool) → outcome (transfer_for job) octets ≡ new zone → ended_of c job ≡ None → is_accepted (policy_at (state_of c) job.flight.zone) zone ≡ b
+tells_new : (c : Core) (job : JobOf) (octets : List ℕ) (zone : Zone) (b : Bool) → tsig_of c job octets ≡ None → outcome (transfer_for job) octets ≡ new zone → ended_of c job ≡ None → is_accepted (policy_at (state_of c) job.flight.zone) zone ≡ b
     → Tells c job octets (if b then Published (length c.list) (serial_in (Some zone)) (aftermath_of (state_of c) job.flight.zone (new zone)) else PolicyRefused (standing zone.apex zone.records))
-tells_new c job octets zone true e f g = record {
+tells_new c job octets zone true t e f g = record {
   standing = λ h. f;
   ended = λ n h. absurd (cc);
   memory = λ h. absurd (cc);
-  approved = λ h. rw e (approved_by (policy_at (state_of c) job.flight.zone) zone g);
+  approved = λ h. record { approved = rw e (approved_by (policy_at (state_of c) job.flight.zone) zone g); signed = t };
   published = λ p s a h. rw e (let same : aftermath_of (state_of c) job.flight.zone (new zone) ≡ a = cc in sym same);
   confirmed = λ p s h. absurd (cc);
 }
-tells_new c job octets zone false e f g = record {
+tells_new c job octets zone false t e f g = record {
   standing = λ h. f;
   ended = λ n h. absurd (cc);
   memory = λ h. absurd (cc);
@@ -109,8 +139,8 @@ tells_new c job octets zone false e f g = record {
   confirmed = λ p s h. absurd (cc);
 }
 
-tells_from : (c : Core) (job : JobOf) (octets : List ℕ) (d : Decision) (o : Option ℕ) → outcome (transfer_for job) octets ≡ d → ended_of c job ≡ o → Tells c job octets (verdict_from c job d o)
-tells_from c job octets d (Some n) e f = record {
+tells_from : (c : Core) (job : JobOf) (octets : List ℕ) (d : Decision) (o : Option ℕ) → tsig_of c job octets ≡ None → outcome (transfer_for job) octets ≡ d → ended_of c job ≡ o → Tells c job octets (verdict_from c job d o)
+tells_from c job octets d (Some n) t e f = record {
   standing = λ h. absurd (h n refl);
   ended = λ m h. f ∙ (let same : n ≡ m = cc in ap Some same);
   memory = λ h. absurd (cc);
@@ -118,15 +148,15 @@ tells_from c job octets d (Some n) e f = record {
   published = λ p s a h. absurd (cc);
   confirmed = λ p s h. absurd (cc);
 }
-tells_from c job octets up_to_date None e f = record {
+tells_from c job octets up_to_date None t e f = record {
   standing = λ h. f;
   ended = λ n h. absurd (cc);
   memory = λ h. absurd (cc);
-  approved = λ h. rw e tt;
+  approved = λ h. record { approved = rw e tt; signed = t };
   published = λ p s a h. absurd (cc);
   confirmed = λ p s h. rw e (sym (same_alone (state_of c) job.flight.zone));
 }
-tells_from c job octets (refused fault) None e f = record {
+tells_from c job octets (refused fault) None t e f = record {
   standing = λ h. f;
   ended = λ n h. absurd (cc);
   memory = λ h. absurd (cc);
@@ -134,16 +164,48 @@ tells_from c job octets (refused fault) None e f = record {
   published = λ p s a h. absurd (cc);
   confirmed = λ p s h. absurd (cc);
 }
-tells_from c job octets (new zone) None e f = tells_new c job octets zone (is_accepted (policy_at (state_of c) job.flight.zone) zone) e f refl
+tells_from c job octets (new zone) None t e f = tells_new c job octets zone (is_accepted (policy_at (state_of c) job.flight.zone) zone) t e f refl
+
+-- a verdict of a transfer that is refused
+tells_refused : (c : Core) (job : JobOf) (octets : List ℕ) (fault : TakeFault) (o : Option ℕ) → ended_of c job ≡ o → Tells c job octets (verdict_from c job (refused fault) o)
+tells_refused c job octets fault (Some n) f = record {
+  standing = λ h. absurd (h n refl);
+  ended = λ m h. f ∙ (let same : n ≡ m = cc in ap Some same);
+  memory = λ h. absurd (cc);
+  approved = λ h. absurd (cc);
+  published = λ p s a h. absurd (cc);
+  confirmed = λ p s h. absurd (cc);
+}
+tells_refused c job octets fault None f = record {
+  standing = λ h. f;
+  ended = λ n h. absurd (cc);
+  memory = λ h. absurd (cc);
+  approved = λ h. absurd (cc);
+  published = λ p s a h. absurd (cc);
+  confirmed = λ p s h. absurd (cc);
+}
+
+tells_by : (c : Core) (job : JobOf) (octets : List ℕ) (t : Option TsigFault) (d : Decision) → tsig_of c job octets ≡ t → outcome (transfer_for job) octets ≡ d → Tells c job octets (verdict_from c job (screened t d) (ended_of c job))
+tells_by c job octets None d s e = tells_from c job octets d (ended_of c job) s e refl
+tells_by c job octets (Some f) (refused fault) s e = tells_refused c job octets fault (ended_of c job) refl
+tells_by c job octets (Some f) up_to_date s e = tells_refused c job octets (Tsig f) (ended_of c job) refl
+tells_by c job octets (Some f) (new zone) s e = tells_refused c job octets (Tsig f) (ended_of c job) refl
 
 pub tells : (c : Core) (job : JobOf) (octets : List ℕ) → Tells c job octets (verdict_of c job octets)
 unfolding verdict_of
-tells c job octets = tells_from c job octets (outcome (transfer_for job) octets) (ended_of c job) refl refl
+tells c job octets = tells_by c job octets (tsig_of c job octets) (outcome (transfer_for job) octets) refl refl
 
 -- ---- a transfer that is taken can follow
+signed_is : (c : Core) (job : JobOf) (octets : List ℕ) → octets_used (transfer_for job) octets ≡ length octets → job.held ≡ held_at (state_of c) job.flight.zone → tsig_of c job octets ≡ None
+    → tsig_in (key_at (state_of c) job.flight.zone) (transfer_of (state_of c) (taken_for job octets)) octets job.flight.moment ≡ None
+unfolding tsig_of
+signed_is c job octets used held none =
+    let all : used_of job octets ≡ octets = ap (λ n. take n octets) used ∙ take-length octets in
+    rw (transfer_is (state_of c) job octets held) (ap (λ o. tsig_in (key_at (state_of c) job.flight.zone) (transfer_for job) o job.flight.moment) (sym all) ∙ none)
+
 pub follows : (c : Core) (job : JobOf) (octets : List ℕ) → IsSound c → IsFlying c job → IsJob job → ended_of c job ≡ None → octets_used (transfer_for job) octets ≡ length octets
-    → IsApproved (policy_at (state_of c) job.flight.zone) (outcome (transfer_for job) octets) → CanFollow (state_of c) (entry_for job octets)
-follows c job octets ok fly valid none used approved =
+    → MayJoin c job octets → CanFollow (state_of c) (entry_for job octets)
+follows c job octets ok fly valid none used joins =
     let stood = among_stands c job ok fly.there none in
     let held = fly.held stood in (
       omega (arith, count_is c.list ok.legal, ok.begun),
@@ -152,7 +214,8 @@ follows c job octets ok fly valid none used approved =
         asks = subst (CanAsk job.flight.ask) held valid.asks;
         used = rw (transfer_is (state_of c) job octets held) used;
         moment = valid.moment;
-        approved = rw (decision_is (state_of c) job octets held) approved;
+        approved = rw (decision_is (state_of c) job octets held) joins.approved;
+        signed = signed_is c job octets used held joins.signed;
       },
     )
 

@@ -16,7 +16,7 @@ use Rattle.dz_schedule.specs.Schedule.{is_first}
 use Rattle.dz_take.specs.declared.ask.Ask.{Ask}
 use Rattle.dz_take.specs.declared.ask.Ask.TheVariants.{Axfr, Ixfr}
 use Rattle.dz_take.specs.declared.outcome.TakeFault.{TakeFault}
-use Rattle.dz_take.specs.declared.outcome.TakeFault.TheVariants.{OldSerial}
+use Rattle.dz_take.specs.declared.outcome.TakeFault.TheVariants.{OldSerial, Tsig}
 use Rattle.dz_take.specs.Outcome.{outcome, octets_used}
 use Rattle.dz_take.specs.Transfer.{Decision, up_to_date, new}
 use Rattle.dz_take.specs.Transfer as transfer
@@ -24,7 +24,9 @@ use Rattle.dz_history.specs.declared.aftermath.Aftermath.{Aftermath}
 use Rattle.dz_history.specs.declared.aftermath.Aftermath.TheVariants.{Member}
 use Rattle.dz_history.specs.declared.entry.Entry.{Entry}
 use Rattle.dz_history.specs.declared.entry.Entry.TheVariants.{Setup, Transfer}
-use Rattle.dz_history.specs.State.{State, held_at, policy_at, primaries_at}
+use Rattle.dz_history.specs.State.{State, held_at, key_at, policy_at, primaries_at}
+use Rattle.dz_history.specs.Signed.{tsig_in}
+use Rattle.dz_tsig.specs.declared.fault.TsigFault.{TsigFault}
 use Rattle.dz_history.specs.After.{after, step, aftermath_of}
 use Rattle.dz_history.specs.Ended.{ended}
 pub use Rattle.dz_history.specs.Heard.{heard_from}
@@ -99,7 +101,7 @@ flight_for c now seat v = record {
 }
 
 abbrev pub job_for : Core → ℕ → Seat → ValuesOf → JobOf
-job_for c now seat v = record { flight = flight_for c now seat v; held = held_at (state_of c) seat.zone }
+job_for c now seat v = record { flight = flight_for c now seat v; held = held_at (state_of c) seat.zone; key = key_at (state_of c) seat.zone }
 
 unfoldable pub job_at : Core → ℕ → ℕ → JobOf
 job_at c now place = job_for c now (seat_at (state_of c) place) (value_at c.values place)
@@ -198,8 +200,19 @@ verdict_from c job (new zone) None =
 abbrev pub used_of : JobOf → Octets → Octets
 used_of job octets = take (octets_used (transfer_for job) octets) octets
 
+-- whether they are signed, where the zone's catalog has a key
+unfoldable pub tsig_of : Core → JobOf → Octets → Option TsigFault
+tsig_of c job octets = tsig_in (key_at (state_of c) job.flight.zone) (transfer_for job) (used_of job octets) job.flight.moment
+
+-- what comes of a transfer once it is known whether it is signed; one that is refused anyway keeps its fault
+abbrev pub screened : Option TsigFault → Decision → Decision
+screened None decision = decision
+screened (Some f) (transfer.refused fault) = transfer.refused fault
+screened (Some f) up_to_date = transfer.refused (Tsig f)
+screened (Some f) (new zone) = transfer.refused (Tsig f)
+
 unfoldable pub verdict_of : Core → JobOf → Octets → Verdict
-verdict_of c job octets = verdict_from c job (outcome (transfer_for job) octets) (ended_of c job)
+verdict_of c job octets = verdict_from c job (screened (tsig_of c job octets) (outcome (transfer_for job) octets)) (ended_of c job)
 
 -- what a verdict makes of the core; want of memory counts as a failure
 abbrev pub after_end : Core → JobOf → ℕ → Option ℕ → Core

@@ -3,3 +3,4 @@ pub mod Flying
 pub mod Kept
 pub mod Renewing
 pub mod Same
+pub mod Judging

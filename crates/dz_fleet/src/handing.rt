@@ -16,6 +16,7 @@ use crate::flight::Flying;
 use crate::places::{place_of, seat_at};
 use dz_io::Peer;
 use dz_job::{Flight, Job};
+use dz_member::Key;
 use dz_name::Name;
 use dz_notify::Heard;
 use dz_take::Ask;
@@ -106,6 +107,7 @@ impl Fleet {
         let values = self.schedule.at(place);
         let (zone, incarnation) = seat_at(&self.holdings, place);
         let held = shared(self.holdings.held(&zone))?;
+        let key = copied(self.holdings.key(&zone));
         let ticket = self.tickets + 1;
         let flight = Flight {
             ticket,
@@ -116,7 +118,7 @@ impl Fleet {
             primary: self.primary(&zone, values.turn()),
             moment: now,
         };
-        Ok(Job::new(flight, held))
+        Ok(Job::new(flight, held, key))
     }
 
     /// The primary of this number.
@@ -143,9 +145,11 @@ impl Fleet {
     {
         // what is known of a job is known of the one that flies
         job.held();
+        job.key();
         let flying = Flying {
             flight: *job.flight(),
             held: Snapshot::of(job.shared()),
+            key: Snapshot::of(job.shared_key()),
             ended: None,
         };
         match self.flying.push(flying) {
@@ -216,6 +220,16 @@ fn shared(held: Option<&Arc<Version>>) -> Result<Option<Arc<Version>>, AllocErro
     match held {
         None => Ok(None),
         Some(version) => Ok(Some(Arc::try_clone(version)?)),
+    }
+}
+
+/// The key itself.
+fn copied(key: Option<&Key>) -> Option<Key>
+    ensures { result ≡ option_map (λ r. r.now) key.entry }
+{
+    match key {
+        None => None,
+        Some(key) => Some(*key),
     }
 }
 

@@ -12,9 +12,10 @@ ghost use Rattle.dz_history.specs.State.{policy_at, held_at};
 ghost use Rattle.dz_history.specs.After.{step, aftermath_of};
 ghost use Rattle.dz_job.specs.Job.{JobOf, transfer_for};
 ghost use Rattle.dz_job.specs.Job.{serial_in};
-ghost use Rattle.dz_fleet.specs.Core.{Core, state_of, ended_of, entry_for, is_accepted, verdict_of};
+ghost use Rattle.dz_fleet.specs.Core.{Core, state_of, ended_of, entry_for, is_accepted, tsig_of, verdict_of};
 ghost use Rattle.dz_fleet.specs.Weighing.{Fits, is_taken, renewal_for, renewed_for, values_for};
 ghost use Rattle.dz_fleet.specs.Sound.{IsFlying};
+ghost use Rattle.dz_fleet.specs.inner.Judging.{Stands};
 ghost use Rattle.dz_fleet.specs.inner.Renewing.{renewed_by};
 
 use crate::carrying::relisted;
@@ -23,7 +24,8 @@ use crate::weighed::{Renewal, Weighed};
 use dz_history::{Aftermath, Entry, Holdings, Taken};
 use dz_job::{Job, Verdict};
 use dz_name::{Name, Octets};
-use dz_take::{Finished, Outcome};
+use dz_take::{Finished, Outcome, TakeFault};
+use dz_tsig::{TsigFault, check_stream, request_mac};
 use dz_zone::Version;
 use dz_zonemd::{Standing, accepts};
 use std::alloc::{AllocError, Global};
@@ -93,8 +95,77 @@ impl Fleet {
     {
         match finished.outcome() {
             Outcome::Refused(fault) => Ok((Verdict::Refused(*fault), Renewal::Same)),
+            Outcome::UpToDate => self.judge_otherwise(alloc, job, finished),
+            Outcome::New(_) => self.judge_otherwise(alloc, job, finished),
+        }
+    }
+
+    /// The same of a transfer that isn't refused for its own sake.
+    fn judge_otherwise(
+        &self,
+        alloc: Global,
+        job: &Job,
+        finished: &Finished,
+    ) -> Result<(Verdict, Renewal), AllocError>
+        requires flying { IsFlying self.now job.now }
+        requires standing { ended_of self.now job.now ≡ None }
+        requires transfer { finished.now.transfer ≡ transfer_for job.now }
+        requires comes { Stands (outcome finished.now.transfer finished.now.octets) }
+        ensures verdict { IfOk result (λ r. r.0 ≡ verdict_of self.now job.now finished.now.octets) }
+        ensures renewed { IfOk result
+            (λ r. renewed_by r.1 ≡ renewed_for self.now job.now finished.now.octets r.0) }
+    {
+        match self.tsig_fault(alloc, job, finished)? {
+            Some(fault) => Ok((Verdict::Refused(TakeFault::Tsig(fault)), Renewal::Same)),
+            None => self.judge_signed(alloc, job, finished),
+        }
+    }
+
+    /// The same of a transfer that is signed where it is to be.
+    fn judge_signed(
+        &self,
+        alloc: Global,
+        job: &Job,
+        finished: &Finished,
+    ) -> Result<(Verdict, Renewal), AllocError>
+        requires flying { IsFlying self.now job.now }
+        requires standing { ended_of self.now job.now ≡ None }
+        requires transfer { finished.now.transfer ≡ transfer_for job.now }
+        requires comes { Stands (outcome finished.now.transfer finished.now.octets) }
+        requires signed { tsig_of self.now job.now finished.now.octets ≡ None }
+        ensures verdict { IfOk result (λ r. r.0 ≡ verdict_of self.now job.now finished.now.octets) }
+        ensures renewed { IfOk result
+            (λ r. renewed_by r.1 ≡ renewed_for self.now job.now finished.now.octets r.0) }
+    {
+        match finished.outcome() {
+            Outcome::Refused(_) => unreachable!(),
             Outcome::UpToDate => self.judge_same(alloc, job, finished),
             Outcome::New(version) => self.judge_new(alloc, job, finished, version),
+        }
+    }
+
+    /// What is wrong with the signatures of a transfer, where the zone's catalog has a key.
+    #[tactic(auto, unfolding(crate::specs::Core::tsig_of))]
+    fn tsig_fault(
+        &self,
+        alloc: Global,
+        job: &Job,
+        finished: &Finished,
+    ) -> Result<Option<TsigFault>, AllocError>
+        requires transfer { finished.now.transfer ≡ transfer_for job.now }
+        ensures { IfOk result (λ f. f ≡ tsig_of self.now job.now finished.now.octets) }
+    {
+        match self.holdings.key(job.zone()) {
+            None => Ok(None),
+            Some(key) => {
+                let query = job.query(alloc)?;
+                let mac = request_mac(key, query.as_slice(), job.moment());
+                let octets = finished.octets().as_slice();
+                match check_stream(key, &mac, octets, job.moment()) {
+                    Ok(()) => Ok(None),
+                    Err(fault) => Ok(Some(fault)),
+                }
+            }
         }
     }
 
@@ -109,6 +180,7 @@ impl Fleet {
         requires standing { ended_of self.now job.now ≡ None }
         requires transfer { finished.now.transfer ≡ transfer_for job.now }
         requires same { outcome finished.now.transfer finished.now.octets ≡ up_to_date }
+        requires signed { tsig_of self.now job.now finished.now.octets ≡ None }
         ensures verdict { IfOk result (λ r. r.0 ≡ verdict_of self.now job.now finished.now.octets) }
         ensures renewed { IfOk result
             (λ r. renewed_by r.1 ≡ renewed_for self.now job.now finished.now.octets r.0) }
@@ -133,6 +205,7 @@ impl Fleet {
         requires standing { ended_of self.now job.now ≡ None }
         requires transfer { finished.now.transfer ≡ transfer_for job.now }
         requires new { outcome finished.now.transfer finished.now.octets ≡ new version.now }
+        requires signed { tsig_of self.now job.now finished.now.octets ≡ None }
         ensures verdict { IfOk result (λ r. r.0 ≡ verdict_of self.now job.now finished.now.octets) }
         ensures renewed { IfOk result
             (λ r. renewed_by r.1 ≡ renewed_for self.now job.now finished.now.octets r.0) }

@@ -1,5 +1,5 @@
 -- Judge: the lines of the script, as a reader of scripts takes them.
-use Rattle.std.specs.Prelude.{◌≡◌, ◌≤◌, ℕ, ◌++◌, List, [], ◌∷◌, Some, map, filter, flat_map, codes, if◌then◌else◌}
+use Rattle.std.specs.Prelude.{◌≡◌, ◌≤◌, ℕ, ◌++◌, List, [], ◌∷◌, Some, None, map, filter, flat_map, codes, if◌then◌else◌}
 use Rattle.std.specs.List.{AllByRecursion}
 use Rattle.dz_io.specs.Lines.{lines_of, content, IsClosedLine}
 use Rattle.dz_io.specs.declared.peer.Peer.{Peer}
@@ -30,7 +30,7 @@ host address = record { address = address; port = 53 }
 -- the catalog, whose policy is `present`, and its group `strict`, whose policy is `require`
 abbrev pub setting_lines : List Line
 setting_lines =
-    Catalog (record { name = cat_test; policy = Present; primaries = host (192 ∷ 0 ∷ 2 ∷ 1 ∷ []) ∷ []; groups = [] })
+    Catalog (record { name = cat_test; policy = Present; primaries = host (192 ∷ 0 ∷ 2 ∷ 1 ∷ []) ∷ []; groups = []; key = None })
     ∷ Group cat_test (record { word = codes "strict"; policy = Require; primaries = host (192 ∷ 0 ∷ 2 ∷ 2 ∷ []) ∷ [] })
     ∷ []
 

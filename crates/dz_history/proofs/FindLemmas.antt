@@ -36,3 +36,16 @@ place_read p f (d ∷ rest) k y e h =
     let xs = d ∷ rest in
     let there : slice_get xs k ≡ Some (get_or xs k d) = slice_get-get_or xs k d (place_within p xs k e) in
     sym (read_from f (slice_get xs k) y h (get_or xs k d) there) ∙ ap (option_and_then f) (place_found p xs k (get_or xs k d) (sym e) there)
+
+-- the same of a function that may have none of what stands there
+told_from : {X Y : Type 0} (f : X → Option Y) (o : Option X) (y : Option Y) → IfSome o (λ x. f x ≡ y) → (x : X) → o ≡ Some x → f x ≡ y
+told_from f None y h x e = absurd (cc)
+told_from f (Some z) y h x e = let s : z ≡ x = cc in rw s at h
+
+pub place_told : {X Y : Type 0} (p : X → Bool) (f : X → Option Y) (xs : List X) (k : ℕ) (y : Option Y) → Some k ≡ position p xs → IfSome (slice_get xs k) (λ x. f x ≡ y)
+    → y ≡ option_and_then f (find p xs)
+place_told p f [] k y e h = absurd (omega (arith, place_within p [] k e))
+place_told p f (d ∷ rest) k y e h =
+    let xs = d ∷ rest in
+    let there : slice_get xs k ≡ Some (get_or xs k d) = slice_get-get_or xs k d (place_within p xs k e) in
+    sym (told_from f (slice_get xs k) y h (get_or xs k d) there) ∙ ap (option_and_then f) (place_found p xs k (get_or xs k d) (sym e) there)

@@ -17,16 +17,18 @@ use Rattle.dz_catalog.specs.declared.fault.CatalogError.TheVariants.{Broken, Out
 use Rattle.dz_take.specs.Fit.{Fits}
 use Rattle.dz_take.specs.Outcome.{outcome}
 use Rattle.dz_take.proofs.FitLemmas.{outcomes_fit}
+use Rattle.dz_member.specs.declared.key.Key.{Key}
 use Rattle.dz_member.specs.declared.listing.Node.{Node}
+use Rattle.dz_member.specs.Key.{IsKey}
 use Rattle.dz_member.specs.declared.listing.Broken.{Broken as Reason}
 use Rattle.dz_member.specs.Fold.{FoldOf, IsFold}
 use Rattle.dz_member.specs.Process.{process}
-use Rattle.dz_member.specs.Membership.{MemberOf, settings_at, policy_of, primaries_of}
+use Rattle.dz_member.specs.Membership.{MemberOf, settings_at, key_of, policy_of, primaries_of}
 use Rattle.dz_table.specs.Slot.{SlotOf, IsSlot}
 use Rattle.dz_table.specs.Table.{put, slot_of}
 use Rattle.dz_history.specs.declared.aftermath.Aftermath.TheVariants.{Member}
 use Rattle.dz_history.specs.After.{counted, taken, taken_from, catalog_after, member_after, aftermath_of, aftermath_from, catalog_aftermath, slot_after, relisted, listed, with_version, refreshed}
-use Rattle.dz_history.specs.State.{State, IsState, catalog_at, member_at, incarnation_at, incarnation_from, held_at, held_from, policy_at, policy_from, primaries_at, primaries_from}
+use Rattle.dz_history.specs.State.{State, IsState, catalog_at, member_at, incarnation_at, incarnation_from, held_at, held_from, policy_at, policy_from, primaries_at, primaries_from, key_at, key_from}
 use Rattle.dz_history.proofs.FindLemmas.{found_passes, place_within, place_passes}
 use Rattle.dz_history.proofs.BegunLemmas.{processed_begun, all_later}
 use Rattle.dz_history.proofs.SlotLemmas.{slots_zones, put_zones}
@@ -67,6 +69,22 @@ primaries_catalog s zone number e = ap (primaries_from s zone) (sym e)
 pub primaries_member : (s : State) (zone : List (List ℕ)) → None ≡ catalog_at s zone → primaries_at s zone ≡ option_and_then (primaries_of s.fold.config) (member_at s zone)
 unfolding primaries_at
 primaries_member s zone e = ap (primaries_from s zone) (sym e)
+
+pub key_catalog : (s : State) (zone : List (List ℕ)) (number : ℕ) → Some number ≡ catalog_at s zone → key_at s zone ≡ (settings_at s.fold.config number).key
+unfolding key_at
+key_catalog s zone number e = ap (key_from s zone) (sym e)
+
+pub key_member : (s : State) (zone : List (List ℕ)) → None ≡ catalog_at s zone → key_at s zone ≡ option_and_then (key_of s.fold.config) (member_at s zone)
+unfolding key_at
+key_member s zone e = ap (key_from s zone) (sym e)
+
+-- a key that can be used is used where it is the same
+pub usable_as : (a b : Option Key) → a ≡ b → ForSome b IsKey → ForSome a IsKey
+usable_as a b e h = rw e h
+
+pub usable_none : (a : Option Key) → a ≡ None → ForSome a IsKey
+usable_none None e x is = absurd (cc)
+usable_none (Some key) e x is = absurd (cc)
 
 -- the version of a catalog is of the zone that has its name
 named : (o : Option Zone) (name zone : List (List ℕ)) → ForSome o (λ z. z.apex ≡ name) → name ≡ zone → IsOfZone zone o

@@ -21,7 +21,7 @@ abbrev zone : Name
 zone = codes "example" ∷ []
 
 abbrev settings : List CatalogSettings
-settings = record { name = one; policy = Off; primaries = record { address = 192 ∷ 0 ∷ 2 ∷ 1 ∷ []; port = 53 } ∷ []; groups = [] } ∷ []
+settings = record { name = one; policy = Off; primaries = record { address = 192 ∷ 0 ∷ 2 ∷ 1 ∷ []; port = 53 } ∷ []; groups = []; key = None } ∷ []
 
 abbrev node : Octets → Node
 node label = record { label = label; zone = zone; coo = None; groups = [] }

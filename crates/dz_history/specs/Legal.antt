@@ -10,7 +10,8 @@ use Rattle.dz_take.specs.Taken.{CanAsk}
 use Rattle.dz_history.specs.declared.entry.Taken.{Taken}
 use Rattle.dz_history.specs.declared.entry.Entry.{Entry}
 use Rattle.dz_history.specs.declared.entry.Entry.TheVariants.{Setup, Transfer}
-use Rattle.dz_history.specs.State.{State, nothing, held_at, policy_at, stands}
+use Rattle.dz_history.specs.Signed.{tsig_in}
+use Rattle.dz_history.specs.State.{State, nothing, held_at, key_at, policy_at, stands}
 use Rattle.dz_history.specs.After.{transfer_of, decision_of, step}
 
 -- a policy accepts what came of a transfer: the version as before, or a new one whose digest it approves (RFC 8976
@@ -21,14 +22,15 @@ IsApproved (Some policy) (new zone) = accepts policy (standing zone.apex zone.re
 IsApproved None (new zone) = ⊥
 IsApproved policy (refused fault) = ⊥
 
--- a transfer can be taken: its incarnation stands, differences are from a version that is held, all octets are used, and
--- what comes of them is approved
+-- a transfer can be taken: its incarnation stands, differences are from a version that is held, all octets are used, what
+-- comes of them is approved, and they are signed where the zone's catalog has a key
 pub record IsTakeable (s : State) (t : Taken) : Type 0 where
   pub stands : stands s t.zone t.incarnation ≡ true
   pub asks : CanAsk t.ask (held_at s t.zone)
   pub used : octets_used (transfer_of s t) t.octets ≡ length t.octets
   pub moment : t.moment < 2 ^ 40
   pub approved : IsApproved (policy_at s t.zone) (decision_of s t)
+  pub signed : tsig_in (key_at s t.zone) (transfer_of s t) t.octets t.moment ≡ None
 
 -- the first entry is a configuration, and no other is
 abbrev pub CanFollow : State → Entry → Type 0

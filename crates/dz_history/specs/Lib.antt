@@ -6,5 +6,6 @@ pub mod Laws
 pub mod Legal
 pub mod Life
 pub mod Places
+pub mod Signed
 pub mod State
 pub mod inner

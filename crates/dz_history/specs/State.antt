@@ -7,7 +7,8 @@ use Rattle.dz_io.specs.declared.peer.Peer.{Peer}
 use Rattle.dz_zone.specs.Version.{Zone}
 use Rattle.dz_member.specs.declared.config.CatalogSettings.{CatalogSettings}
 use Rattle.dz_member.specs.declared.config.Policy.{Policy}
-use Rattle.dz_member.specs.Membership.{MemberOf, settings_at, policy_of, primaries_of}
+use Rattle.dz_member.specs.declared.key.Key.{Key}
+use Rattle.dz_member.specs.Membership.{MemberOf, settings_at, key_of, policy_of, primaries_of}
 use Rattle.dz_member.specs.Fold.{FoldOf, IsFold, started, number_of, member_of}
 use Rattle.dz_table.specs.Slot.{SlotOf}
 use Rattle.dz_table.specs.Table.{slot_of}
@@ -63,6 +64,14 @@ primaries_from s zone None = option_and_then (primaries_of s.fold.config) (membe
 
 unfoldable pub primaries_at : State → Name → Option (List Peer)
 primaries_at s zone = primaries_from s zone (catalog_at s zone)
+
+-- the key that its transfers are signed with: its catalog's, whatever its group; none where the catalog has none
+abbrev pub key_from : State → Name → Option ℕ → Option Key
+key_from s zone (Some number) = (settings_at s.fold.config number).key
+key_from s zone None = option_and_then (key_of s.fold.config) (member_at s zone)
+
+unfoldable pub key_at : State → Name → Option Key
+key_at s zone = key_from s zone (catalog_at s zone)
 
 -- the table is that of the members, a version is of its zone, and zones began by an entry behind the configuration
 abbrev pub HasBegun : ℕ → MemberOf → Type 0

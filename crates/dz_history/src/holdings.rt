@@ -1,15 +1,16 @@
 //! What is assigned and held after a list of taken transfers.
 
 ghost use Rattle.std.specs.Prelude.{◌≡◌, Some, None, length, option_map, IfOk};
-ghost use Rattle.std.specs.Option.{option_and_then};
+ghost use Rattle.std.specs.Option.{option_and_then, ForSome};
 ghost use Rattle.std.specs.Arc.{arc_value};
 ghost use Rattle.dz_take.specs.Taken.{IsOfZone};
 ghost use Rattle.dz_member.specs.Config.{IsAllowed};
 ghost use Rattle.dz_member.specs.Fold.{IsFold};
-ghost use Rattle.dz_history.specs.State.{opened, catalog_at, incarnation_at, held_at, policy_at, primaries_at, stands, IsState};
+ghost use Rattle.dz_member.specs.Key.{IsKey};
+ghost use Rattle.dz_history.specs.State.{opened, catalog_at, incarnation_at, held_at, key_at, policy_at, primaries_at, stands, IsState};
 
 use crate::held::{Held, nothing_held, share_all};
-use dz_member::{Config, Fold, Peers, Policy};
+use dz_member::{Config, Fold, Key, Peers, Policy};
 use dz_name::Name;
 use dz_table::Table;
 use dz_zone::Version;
@@ -157,6 +158,20 @@ impl Holdings {
             Some(number) => Some(&self.fold.settings(number).primaries),
             None => match self.fold.place_of(zone) {
                 Some(place) => Some(self.fold.primaries(place)),
+                None => None,
+            },
+        }
+    }
+
+    /// The key that transfers of a zone are signed with: that of its catalog, if the catalog has one.
+    pub fn key(&self, zone: &Name) -> Option<&Key>
+        ensures key { option_map (λ r. r.now) result ≡ key_at self.now zone.now }
+        ensures usable { ForSome (key_at self.now zone.now) IsKey }
+    {
+        match self.fold.catalog_number(zone) {
+            Some(number) => self.fold.settings(number).key.as_ref(),
+            None => match self.fold.place_of(zone) {
+                Some(place) => self.fold.key(place),
                 None => None,
             },
         }

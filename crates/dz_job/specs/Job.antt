@@ -1,25 +1,33 @@
 -- Meaning: jobs of a secondary, each the transfer of a zone from one of its primaries.
-use Rattle.std.specs.Prelude.{◌≡◌, ℕ, ◌<◌, ◌^◌, Option}
-use Rattle.std.specs.Option.{option_map, option_map_or, option_and_then}
+use Rattle.std.specs.Prelude.{ℕ, ◌<◌, ◌^◌, Option}
+use Rattle.std.specs.Option.{ForSome, option_map, option_map_or, option_and_then}
 use Rattle.dz_name.specs.Words.{Octets}
 use Rattle.dz_record.specs.Record.{soa_of}
 use Rattle.dz_record.specs.declared.rr.Soa.{Soa}
 use Rattle.dz_zone.specs.Version.{Zone, apex_soa}
 use Rattle.dz_take.specs.Taken.{IsOfZone, CanAsk}
 use Rattle.dz_take.specs.Transfer.{Transfer}
+use Rattle.dz_member.specs.Key.{IsKey}
+use Rattle.dz_member.specs.declared.key.Key.{Key}
 use Rattle.dz_history.specs.declared.entry.Taken.{Taken}
 use Rattle.dz_job.specs.declared.flight.Flight.{Flight}
 
--- a job: what is asked of which primary at which moment, and the version that was held then
+-- a job: what is asked of which primary at which moment, the version that was held then, and the key of its catalog
 pub record JobOf : Type 0 where
   pub flight : Flight
   pub held : Option Zone
+  pub key : Option Key
 
 -- differences are asked for beside a held version alone, which is of the job's zone, and the moment is below 2^40
 pub record IsJob (job : JobOf) : Type 0 where
   pub own : IsOfZone job.flight.zone job.held
   pub asks : CanAsk job.flight.ask job.held
   pub moment : job.flight.moment < 2 ^ 40
+
+-- as it is kept: its key can be used
+pub record IsReady (job : JobOf) : Type 0 where
+  pub valid : IsJob job
+  pub usable : ForSome job.key IsKey
 
 -- the transfer that a job asks for, and the entry's transfer where its octets are taken
 abbrev pub transfer_for : JobOf → Transfer

@@ -1,11 +1,14 @@
 //! Jobs.
 
 ghost use Rattle.std.specs.Prelude.{◌≡◌, ◌==◌, option_map};
+ghost use Rattle.std.specs.Option.{ForSome};
 ghost use Rattle.std.specs.Arc.{arc_value};
-ghost use Rattle.dz_job.specs.Job.{IsJob};
+ghost use Rattle.dz_member.specs.Key.{IsKey};
+ghost use Rattle.dz_job.specs.Job.{IsJob, IsReady};
 
 use crate::flight::Flight;
 use dz_io::Peer;
+use dz_member::Key;
 use dz_name::Name;
 use dz_take::Ask;
 use dz_zone::Version;
@@ -18,28 +21,29 @@ use std::sync::Arc;
 pub struct Job {
     flight: Flight,
     held: Option<Arc<Version>>,
+    key: Option<Key>,
 }
 
 impl Model for Job {
     ghost use Rattle.std.specs.Prelude.{option_map};
     ghost use Rattle.std.specs.Arc.{arc_value};
-    ghost use Rattle.dz_job.specs.Job.{JobOf, IsJob};
+    ghost use Rattle.dz_job.specs.Job.{JobOf, IsReady};
 
     ghost Value = { JobOf };
 
-    ghost view = { λ j. record { flight = j.flight; held = option_map arc_value j.held } };
+    ghost view = { λ j. record { flight = j.flight; held = option_map arc_value j.held; key = j.key } };
 
-    ghost invariant = { λ j. IsJob
-        record { flight = j.flight; held = option_map arc_value j.held } };
+    ghost invariant = { λ j. IsReady
+        record { flight = j.flight; held = option_map arc_value j.held; key = j.key } };
 }
 
 impl Job {
     /// The job of these parts.
-    pub fn new(flight: Flight, held: Option<Arc<Version>>) -> Job
-        requires { IsJob record { flight = flight; held = option_map arc_value held } }
-        ensures { result ≡ record { flight = flight; held = option_map arc_value held } }
+    pub fn new(flight: Flight, held: Option<Arc<Version>>, key: Option<Key>) -> Job
+        requires { IsReady record { flight = flight; held = option_map arc_value held; key = key } }
+        ensures { result ≡ record { flight = flight; held = option_map arc_value held; key = key } }
     {
-        Job { flight, held }
+        Job { flight, held, key }
     }
 
     /// What it asks for.
@@ -113,6 +117,21 @@ impl Job {
         self.flight.moment
     }
 
+    /// The key that the query is signed with.
+    pub fn key(&self) -> Option<&Key>
+        ensures key { option_map (λ r. r.now) result ≡ self.now.key }
+        ensures usable { ForSome self.now.key IsKey }
+    {
+        self.key.as_ref()
+    }
+
+    /// The key as it is kept.
+    pub fn shared_key(&self) -> &Option<Key>
+        ensures { result.now ≡ self.now.key }
+    {
+        &self.key
+    }
+
     /// The version that was held, as it is kept.
     pub fn shared(&self) -> &Option<Arc<Version>>
         ensures { option_map arc_value result.now ≡ self.now.held }
@@ -122,7 +141,12 @@ impl Job {
 
     /// Lets a job go that is left where no event ends it.
     pub fn close(self) {
-        let Job { flight: _, held } = self;
+        let Job {
+            flight: _,
+            held,
+            key,
+        } = self;
         drop(held);
+        drop(key);
     }
 }

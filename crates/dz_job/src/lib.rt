@@ -3,8 +3,10 @@
 
 mod flight;
 mod job;
+mod query;
 mod verdict;
 
 pub use flight::Flight;
 pub use job::Job;
+pub use query::QUERY_OCTETS;
 pub use verdict::{Failure, Verdict};

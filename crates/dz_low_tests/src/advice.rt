@@ -43,6 +43,26 @@ const ROWS: &[(&[u8], usize, Expected)] = &[
         Expected::Value(Key::Downstream),
     ),
     (b"listen = \"192.0.2.10:53\"\n", 1, Expected::Within),
+    (
+        b"listen = \"192.0.2.10:53\"\n[[catalog]]\nname = \"cat1.example.\"\npolicy = \"off\"\nprimaries = [\"192.0.2.1\"]\nkey = \"key.example.\"\n",
+        2,
+        Expected::Present(Key::Secret),
+    ),
+    (
+        b"listen = \"192.0.2.10:53\"\n[[catalog]]\nname = \"cat1.example.\"\npolicy = \"off\"\nprimaries = [\"192.0.2.1\"]\nsecret = \"00\"\n",
+        2,
+        Expected::Present(Key::KeyName),
+    ),
+    (
+        b"listen = \"192.0.2.10:53\"\n[[catalog]]\nname = \"cat1.example.\"\npolicy = \"off\"\nprimaries = [\"192.0.2.1\"]\nkey = \"key.example.\"\nsecret = \"c2VjcmV0\"\n",
+        7,
+        Expected::Value(Key::Secret),
+    ),
+    (
+        b"listen = \"192.0.2.10:53\"\n[[catalog]]\nname = \"cat1.example.\"\npolicy = \"off\"\nprimaries = [\"192.0.2.1\"]\nkey = \"key.example.\"\nsecret = '0'\n",
+        1,
+        Expected::Secrets,
+    ),
 ];
 
 fn expect_advice(rt: &impl Abort, alloc: Global, text: &[u8], line: usize, expected: Expected) {
@@ -56,6 +76,21 @@ fn a_line_to_mend_is_told_with_what_was_expected(rt: HostRuntime) {
         expect_advice(&rt, rt.alloc(), text, *line, *expected);
     }
     assert_eq!(rt; advise(rt.alloc(), GOOD), None);
+}
+
+#[test]
+fn an_advice_shows_nothing_of_a_secret(rt: HostRuntime) {
+    let advice = Advice {
+        line: 7,
+        expected: Expected::Value(Key::Secret),
+    };
+    match format!(in rt.alloc(); "{advice}") {
+        Ok(text) => assert_eq!(rt;
+            text.as_str(),
+            "line 7: secret: expected 1 to 64 octets in hexadecimal in quotes; base64, as other servers write it, is converted by base64 -d | xxd -p -c 256"
+        ),
+        Err(_) => panic!(rt; "no memory"),
+    }
 }
 
 #[test]

@@ -122,6 +122,68 @@ fn sixteen_downstream_addresses_are_read_and_no_more(rt: HostRuntime) -> Result<
     Ok(())
 }
 
+/// The keys of a catalog with this name and this secret.
+fn key(alloc: Global, name: &[u8], secret: &[u8]) -> Result<Vec<u8>, AllocError> {
+    joined(alloc, &[b"key = '", name, b"'\nsecret = '", secret, b"'\n"])
+}
+
+#[test]
+fn a_key_is_read_with_its_secret(rt: HostRuntime) -> Result<(), Fail> {
+    let alloc = rt.alloc();
+    let key = key(alloc, b"Key.example", b"00fF7a")?;
+    let text = joined(alloc, &[LISTEN, CATALOG, key.as_slice()])?;
+    match read_config(alloc, text.as_slice()) {
+        Ok((_, config)) => match config.catalogs().first().and_then(|catalog| catalog.key) {
+            Some(found) => {
+                assert!(rt; found.name.same(&name(&rt, b"key.example.")));
+                assert_eq!(rt; found.secret.as_slice(), b"\0\xff\x7a".as_slice());
+            }
+            None => panic!(rt; "no key"),
+        },
+        Err(error) => panic!(rt; "{error:?}"),
+    }
+    Ok(())
+}
+
+#[test]
+fn a_bad_secret_counts_last(rt: HostRuntime) -> Result<(), Fail> {
+    let alloc = rt.alloc();
+    let half = key(alloc, b"key.example", b"0")?;
+    fails(
+        &rt,
+        alloc,
+        &[LISTEN, CATALOG, half.as_slice()],
+        ConfigFault::BadSecret,
+    )?;
+    fails(
+        &rt,
+        alloc,
+        &[LISTEN, CATALOG, half.as_slice(), CATALOG],
+        ConfigFault::Twice,
+    )?;
+    let none: &[u8] = b"[[catalog]]\nname = 'e'\npolicy = 'off'\nprimaries = []\n";
+    fails(
+        &rt,
+        alloc,
+        &[LISTEN, CATALOG, half.as_slice(), none],
+        ConfigFault::OutOfLimits,
+    )?;
+    let bad = key(alloc, b"a..b", b"0")?;
+    fails(
+        &rt,
+        alloc,
+        &[LISTEN, CATALOG, bad.as_slice()],
+        ConfigFault::BadName,
+    )?;
+    fails(
+        &rt,
+        alloc,
+        &[LISTEN, CATALOG, b"secret = '00'\n"],
+        ConfigFault::MissingValue,
+    )?;
+    Ok(())
+}
+
 #[test]
 fn each_fault_comes_and_the_least_wins(rt: HostRuntime) -> Result<(), Fail> {
     let alloc = rt.alloc();

@@ -33,6 +33,8 @@ mod request;
 #[cfg(test)]
 mod script;
 #[cfg(test)]
+mod tsig;
+#[cfg(test)]
 mod words;
 #[cfg(test)]
 mod zone;

@@ -14,6 +14,7 @@ pub mod PlaceLemmas
 pub mod ProcessLemmas
 pub mod RisingLemmas
 pub mod SearchLemmas
+pub mod SecretLemmas
 pub mod SortLemmas
 pub mod SpotLemmas
 pub mod WalkLemmas

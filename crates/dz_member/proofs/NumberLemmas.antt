@@ -2,7 +2,7 @@
 use Rattle.std.proofs.Common.{map, ◌≡◌, ℕ, ◌<◌, ◌≤◌, zero, suc, Bool, true, false, ◌||◌, ◌&&◌, not, List, [], ◌∷◌, length, get_or, refl, sym, ◌∙◌, ap, subst, arith, inl, inr}
 use Rattle.std.specs.Prelude.{Option, Some, None, position, slice_get, IfSome, nat_lt, nat_le, nat_eq}
 use Rattle.std.specs.Bool.{Decides}
-use Rattle.std.specs.Option.{option_map, option_eq, ForSome}
+use Rattle.std.specs.Option.{option_map, option_map_or, option_eq, ForSome}
 use Rattle.std.specs.List.{list_any, list_all}
 use Rattle.std.specs.Str.{bytes_eq}
 use Rattle.std.proofs.lemmas.Bool.{cases_Bool}
@@ -14,12 +14,14 @@ use Rattle.std.proofs.lemmas.List.Quantifiers.{position-Some}
 use Rattle.dz_name.specs.Words.{Name, Octets}
 use Rattle.dz_name.specs.Name.{same_name}
 use Rattle.dz_name.specs.Order.{same_decides}
+use Rattle.dz_member.specs.declared.key.Key.{Key}
+use Rattle.dz_member.specs.Key.{IsKey}
 use Rattle.dz_member.specs.declared.config.GroupSettings.{GroupSettings}
 use Rattle.dz_member.specs.declared.config.CatalogSettings.{CatalogSettings}
 use Rattle.dz_member.specs.Twice.{has_twice}
 use Rattle.dz_member.proofs.SearchLemmas.{place_found}
-use Rattle.dz_member.specs.Config.{is_count, is_catalog, is_within_limits, has_each_once, has_words_once, same_catalog, same_word, IsAllowed}
-use Rattle.dz_member.specs.Membership.{settings_at, group_at, group_of, settings_of, policy_in, primaries_in, policy_of, primaries_of, shown, IsNumbered}
+use Rattle.dz_member.specs.Config.{is_count, is_catalog, is_within_limits, has_each_once, has_secret, has_secrets, has_words_once, same_catalog, same_word, IsAllowed}
+use Rattle.dz_member.specs.Membership.{settings_at, group_at, group_of, settings_of, policy_in, primaries_in, policy_of, primaries_of, key_of, shown, IsNumbered}
 use Rattle.dz_member.specs.declared.membership.Membership.{Membership}
 use Rattle.dz_member.specs.Fold.{FoldOf, number_of, listing_of}
 
@@ -64,9 +66,12 @@ module _ {X : Type 0} (test : X → X → Bool) where
       ap suc (one_place flips xs i j d (right_false (list_any (λ y. test x y) xs) (has_twice test xs) e) (omega arith) (omega arith) t)
 
 -- ---- catalogs
+without_secrets : (catalogs : List CatalogSettings) → IsAllowed catalogs → (is_within_limits catalogs && has_each_once catalogs) ≡ true
+without_secrets catalogs h = first_of (is_within_limits catalogs && has_each_once catalogs) (has_secrets catalogs) h
+
 pub none_twice : (catalogs : List CatalogSettings) → IsAllowed catalogs → has_twice same_catalog catalogs ≡ false
 none_twice catalogs h =
-    let e = second_of (is_within_limits catalogs) (has_each_once catalogs) h in
+    let e = second_of (is_within_limits catalogs) (has_each_once catalogs) (without_secrets catalogs h) in
     not_true (has_twice same_catalog catalogs) (first_of (not (has_twice same_catalog catalogs)) (list_all has_words_once catalogs) e)
 
 catalog_flips : (x y : CatalogSettings) → same_catalog x y ≡ true → same_catalog y x ≡ true
@@ -115,18 +120,18 @@ le_from a b t = grind (arith, nat_tests)
 
 pub few_catalogs : (catalogs : List CatalogSettings) → IsAllowed catalogs → length catalogs ≤ 8
 few_catalogs catalogs h =
-    let w = first_of (is_within_limits catalogs) (has_each_once catalogs) h in
+    let w = first_of (is_within_limits catalogs) (has_each_once catalogs) (without_secrets catalogs h) in
     let n = first_of (is_count 8 (length catalogs)) (list_all is_catalog catalogs) w in
     le_from (length catalogs) 8 (second_of (nat_le 1 (length catalogs)) (nat_le (length catalogs) 8) n)
 
 pub catalog_at : (catalogs : List CatalogSettings) (k : ℕ) → IsAllowed catalogs → k < length catalogs → is_catalog (settings_at catalogs k) ≡ true
 catalog_at catalogs k h b =
-    let w = first_of (is_within_limits catalogs) (has_each_once catalogs) h in
+    let w = first_of (is_within_limits catalogs) (has_each_once catalogs) (without_secrets catalogs h) in
     AllPass-from_list_all is_catalog catalogs (second_of (is_count 8 (length catalogs)) (list_all is_catalog catalogs) w) k _ b
 
 pub words_once : (catalogs : List CatalogSettings) (k : ℕ) → IsAllowed catalogs → k < length catalogs → has_twice same_word (settings_at catalogs k).groups ≡ false
 words_once catalogs k h b =
-    let e = second_of (is_within_limits catalogs) (has_each_once catalogs) h in
+    let e = second_of (is_within_limits catalogs) (has_each_once catalogs) (without_secrets catalogs h) in
     let all = second_of (not (has_twice same_catalog catalogs)) (list_all has_words_once catalogs) e in
     not_true (has_twice same_word (settings_at catalogs k).groups) (AllPass-from_list_all has_words_once catalogs all k _ b)
 
@@ -166,6 +171,24 @@ numbered_read catalogs k x allowed inside is =
     let same : settings_at catalogs k ≡ x = get_or_from_slice_get catalogs k x _ (slice_get_read catalogs (length catalogs) k x refl inside is) in
     subst (λ (y : CatalogSettings). number_of catalogs y.name ≡ Some k) same (number_back catalogs k allowed inside)
 
+usable_of : (o : Option Key) → option_map_or (λ (key : Key). is_count 64 (length key.secret)) o true ≡ true → ForSome o IsKey
+usable_of None t x e = absurd (cc)
+usable_of (Some key) t x e =
+    let same : key ≡ x = cc in
+    let some = le_from 1 (length key.secret) (first_of (nat_le 1 (length key.secret)) (nat_le (length key.secret) 64) t) in
+    let short = le_from (length key.secret) 64 (second_of (nat_le 1 (length key.secret)) (nat_le (length key.secret) 64) t) in
+    subst (λ k. IsKey k) same (record { some = some; short = short })
+
+pub key_usable : (catalogs : List CatalogSettings) (k : ℕ) → IsAllowed catalogs → k < length catalogs → ForSome (settings_at catalogs k).key IsKey
+key_usable catalogs k h b =
+    let all = second_of (is_within_limits catalogs && has_each_once catalogs) (has_secrets catalogs) h in
+    usable_of (settings_at catalogs k).key (AllPass-from_list_all has_secret catalogs all k _ b)
+
+pub usable_read : (catalogs : List CatalogSettings) (k : ℕ) (x : CatalogSettings) → IsAllowed catalogs → k < length catalogs → x ≡ get_or catalogs k x → ForSome x.key IsKey
+usable_read catalogs k x allowed inside is =
+    let same : settings_at catalogs k ≡ x = get_or_from_slice_get catalogs k x _ (slice_get_read catalogs (length catalogs) k x refl inside is) in
+    subst (λ (y : CatalogSettings). ForSome y.key IsKey) same (key_usable catalogs k allowed inside)
+
 pub listing_back : (fold : FoldOf) (k : ℕ) → IsAllowed fold.config → k < length fold.config → listing_of fold (settings_at fold.config k).name ≡ get_or fold.listings k None
 listing_back fold k allowed inside = rw (number_back fold.config k allowed inside) refl
 
@@ -198,6 +221,9 @@ module _ (catalogs : List CatalogSettings) (m : Membership) (allowed : IsAllowed
   primaries_back : primaries_of catalogs (shown catalogs m) ≡ Some (primaries_in (settings_at catalogs m.catalog) m.group)
   primaries_back = rw (settings_back catalogs m.catalog allowed numbered.catalog, group_back (settings_at catalogs m.catalog) m.group (words_once catalogs m.catalog allowed numbered.catalog) numbered.group) refl
 
+  key_back : key_of catalogs (shown catalogs m) ≡ (settings_at catalogs m.catalog).key
+  key_back = rw (settings_back catalogs m.catalog allowed numbered.catalog) refl
+
   at_place : (ms : List Membership) (place : ℕ) → slice_get ms place ≡ Some m → slice_get (map (shown catalogs) ms) place ≡ Some (shown catalogs m)
   at_place ms place e = slice_get-map (shown catalogs) ms place ∙ ap (λ o. option_map (shown catalogs) o) e
 
@@ -206,3 +232,6 @@ module _ (catalogs : List CatalogSettings) (m : Membership) (allowed : IsAllowed
 
   pub primaries_at : (ms : List Membership) (place : ℕ) → slice_get ms place ≡ Some m → IfSome (slice_get (map (shown catalogs) ms) place) (λ x. primaries_of catalogs x ≡ Some (primaries_in (settings_at catalogs m.catalog) m.group))
   primaries_at ms place e = rw (at_place ms place e) primaries_back
+
+  pub key_at : (ms : List Membership) (place : ℕ) → slice_get ms place ≡ Some m → IfSome (slice_get (map (shown catalogs) ms) place) (λ x. key_of catalogs x ≡ (settings_at catalogs m.catalog).key)
+  key_at ms place e = rw (at_place ms place e) key_back

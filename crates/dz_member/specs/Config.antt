@@ -1,10 +1,12 @@
 -- Meaning: which configurations are within the limits.
 use Rattle.std.specs.Prelude.{◌≡◌, ℕ, Bool, true, nat_le, not, ◌&&◌, List, length}
 use Rattle.std.specs.List.{list_all}
+use Rattle.std.specs.Option.{option_map_or}
 use Rattle.std.specs.Str.{bytes_eq}
 use Rattle.dz_name.specs.Words.{Octets}
 use Rattle.dz_name.specs.Name.{same_name}
 use Rattle.dz_io.specs.declared.peer.Peer.{Peer}
+use Rattle.dz_member.specs.declared.key.Key.{Key}
 use Rattle.dz_member.specs.declared.config.GroupSettings.{GroupSettings}
 use Rattle.dz_member.specs.declared.config.CatalogSettings.{CatalogSettings}
 use Rattle.dz_member.specs.Twice.{has_twice}
@@ -48,9 +50,16 @@ has_words_once catalog = not (has_twice same_word catalog.groups)
 abbrev pub has_each_once : List CatalogSettings → Bool
 has_each_once catalogs = not (has_twice same_catalog catalogs) && list_all has_words_once catalogs
 
--- a configuration is within the limits, and names nothing twice
+-- a secret has 1 to 64 octets
+abbrev pub has_secret : CatalogSettings → Bool
+has_secret catalog = option_map_or (λ (key : Key). is_count 64 (length key.secret)) catalog.key true
+
+abbrev pub has_secrets : List CatalogSettings → Bool
+has_secrets catalogs = list_all has_secret catalogs
+
+-- a configuration is within the limits, names nothing twice, and has secrets that can be used
 abbrev pub is_allowed : List CatalogSettings → Bool
-is_allowed catalogs = is_within_limits catalogs && has_each_once catalogs
+is_allowed catalogs = (is_within_limits catalogs && has_each_once catalogs) && has_secrets catalogs
 
 abbrev pub IsAllowed : List CatalogSettings → Type 0
 IsAllowed catalogs = is_allowed catalogs ≡ true

@@ -1,5 +1,5 @@
 -- Judge: limits of a configuration, choices of groups, and what a listing changes, computed by the checker.
-use Rattle.std.specs.Prelude.{◌≡◌, refl, ℕ, true, false, List, [], ◌∷◌, Option, Some, None, codes}
+use Rattle.std.specs.Prelude.{◌≡◌, refl, ℕ, true, false, List, [], ◌∷◌, replicate, Option, Some, None, codes}
 use Rattle.dz_name.specs.Words.{Name, Octets}
 use Rattle.dz_io.specs.declared.peer.Peer.{Peer}
 use Rattle.dz_member.specs.declared.config.Policy.TheVariants.{Off, Present}
@@ -9,6 +9,7 @@ use Rattle.dz_member.specs.declared.listing.Node.{Node}
 use Rattle.dz_member.specs.declared.change.What.{What}
 use Rattle.dz_member.specs.declared.change.What.TheVariants.{Added, Removed, Reset, Moved, MovedReset, Clash, Regrouped}
 use Rattle.dz_member.specs.declared.change.Change.{Change}
+use Rattle.dz_member.specs.declared.limits.TheConstants.{SECRET_OCTETS}
 use Rattle.dz_member.specs.Config.{is_allowed, is_word}
 use Rattle.dz_member.specs.Membership.{choice_of}
 use Rattle.dz_member.specs.Fold.{FoldOf, started}
@@ -30,7 +31,7 @@ abbrev two : Name
 two = codes "cat2" ∷ codes "example" ∷ []
 
 abbrev catalog : Name → List GroupSettings → CatalogSettings
-catalog name groups = record { name = name; policy = Off; primaries = host 53 ∷ []; groups = groups }
+catalog name groups = record { name = name; policy = Off; primaries = host 53 ∷ []; groups = groups; key = None }
 
 abbrev both : List CatalogSettings
 both = catalog one (edge ∷ core ∷ []) ∷ catalog two [] ∷ []
@@ -48,11 +49,30 @@ catalog_twice = refl
 pub word_twice : is_allowed (catalog one (edge ∷ edge ∷ []) ∷ []) ≡ false
 word_twice = refl
 
-pub no_primary : is_allowed (record { name = one; policy = Off; primaries = []; groups = [] } ∷ []) ≡ false
+pub no_primary : is_allowed (record { name = one; policy = Off; primaries = []; groups = []; key = None } ∷ []) ≡ false
 no_primary = refl
 
-pub port_zero : is_allowed (record { name = one; policy = Off; primaries = host 0 ∷ []; groups = [] } ∷ []) ≡ false
+pub port_zero : is_allowed (record { name = one; policy = Off; primaries = host 0 ∷ []; groups = []; key = None } ∷ []) ≡ false
 port_zero = refl
+
+abbrev signed_with : Octets → List CatalogSettings
+signed_with secret =
+    record { name = one; policy = Off; primaries = host 53 ∷ []; groups = []; key = Some (record { name = two; secret = secret }) } ∷ []
+
+pub no_secret : is_allowed (signed_with []) ≡ false
+no_secret = refl
+
+pub short_secret : is_allowed (signed_with (97 ∷ [])) ≡ true
+short_secret = refl
+
+pub long_secret : is_allowed (signed_with (replicate 64 97)) ≡ true
+long_secret = refl
+
+pub longer_secret : is_allowed (signed_with (replicate 65 97)) ≡ false
+longer_secret = refl
+
+pub secret_octets : SECRET_OCTETS ≡ 64
+secret_octets = refl
 
 pub visible : is_word (33 ∷ 126 ∷ []) ≡ true
 visible = refl

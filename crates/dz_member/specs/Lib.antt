@@ -1,6 +1,7 @@
 pub mod Config
 pub mod Examples
 pub mod Fold
+pub mod Key
 pub mod Laws
 pub mod Listing
 pub mod Membership

@@ -8,6 +8,7 @@ use Rattle.dz_name.specs.Name.{same_name}
 use Rattle.dz_io.specs.declared.peer.Peer.{Peer}
 use Rattle.dz_member.specs.declared.config.Policy.{Policy}
 use Rattle.dz_member.specs.declared.config.Policy.TheVariants.{Off}
+use Rattle.dz_member.specs.declared.key.Key.{Key}
 use Rattle.dz_member.specs.declared.config.GroupSettings.{GroupSettings}
 use Rattle.dz_member.specs.declared.config.CatalogSettings.{CatalogSettings}
 use Rattle.dz_member.specs.declared.membership.Membership.{Membership}
@@ -36,7 +37,7 @@ choice_of groups texts = find (is_known groups) (filter_map string_of texts)
 
 -- the catalog of a number, and a group of it
 abbrev pub settings_at : List CatalogSettings → ℕ → CatalogSettings
-settings_at catalogs number = slice_index_or catalogs number record { name = []; policy = Off; primaries = []; groups = [] }
+settings_at catalogs number = slice_index_or catalogs number record { name = []; policy = Off; primaries = []; groups = []; key = None }
 
 abbrev pub group_at : List GroupSettings → ℕ → GroupSettings
 group_at groups number = slice_index_or groups number record { word = []; policy = Off; primaries = [] }
@@ -78,3 +79,7 @@ policy_of catalogs m = option_map (λ catalog. policy_in catalog (group_of catal
 
 abbrev pub primaries_of : List CatalogSettings → MemberOf → Option (List Peer)
 primaries_of catalogs m = option_map (λ catalog. primaries_in catalog (group_of catalog m.choice)) (settings_of catalogs m.catalog)
+
+-- the key of a member is its catalog's, whatever its group
+abbrev pub key_of : List CatalogSettings → MemberOf → Option Key
+key_of catalogs m = option_and_then (λ catalog. catalog.key) (settings_of catalogs m.catalog)

@@ -1,4 +1,5 @@
 pub mod Kept
 pub mod Lead
 pub mod Places
+pub mod Secrets
 pub mod Walk

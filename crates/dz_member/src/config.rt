@@ -2,6 +2,7 @@
 
 ghost use Rattle.std.specs.Prelude.{◌≡◌, length};
 
+use crate::key::Key;
 use dz_io::Peer;
 use dz_name::{Name, Octets};
 use std::marker::Model;
@@ -111,6 +112,8 @@ pub struct CatalogSettings {
     pub primaries: Peers,
     /// At most 64, each with a word of its own.
     pub groups: Groups,
+    /// With which transfers of the catalog and of its members are signed, those of its groups among them.
+    pub key: Option<Key>,
 }
 
 /// The catalogs, in the order of the configuration. What takes one requires that it is within the limits

@@ -3,14 +3,17 @@
 ghost use Rattle.std.specs.Prelude.{◌≡◌, ◌<◌, ◌≤◌, length, map, position, slice_index_or, slice_get, Some, None, IfOk, IfSome, All, option_map};
 ghost use Rattle.std.specs.List.Sorted.{IsStrictlySortedBy};
 ghost use Rattle.dz_name.specs.Name.{canonical_order, same_name};
+ghost use Rattle.std.specs.Option.{ForSome};
 ghost use Rattle.dz_member.specs.Config.{IsAllowed};
-ghost use Rattle.dz_member.specs.Membership.{settings_at, shown, policy_of, primaries_of, IsNumbered};
+ghost use Rattle.dz_member.specs.Key.{IsKey};
+ghost use Rattle.dz_member.specs.Membership.{settings_at, shown, key_of, policy_of, primaries_of, IsNumbered};
 ghost use Rattle.dz_member.specs.Fold.{IsFold, number_of, member_of, started};
 
 use crate::config::{CatalogSettings, Config, Peers, Policy};
+use crate::key::Key;
 use crate::known::{Known, nothing_known};
 use crate::listing::Listing;
-use crate::membership::{Member, Membership, policy_of, primaries_of};
+use crate::membership::{Member, Membership, key_of, policy_of, primaries_of};
 use dz_name::Name;
 use std::alloc::{AllocError, Global};
 use std::marker::Model;
@@ -81,6 +84,7 @@ impl Fold {
         ensures settings { result.now ≡ settings_at self.now.config number }
         ensures number { number_of self.now.config result.now.name ≡ Some number }
         ensures few { length result.now.groups ≤ 64 }
+        ensures usable { ForSome result.now.key IsKey }
     {
         &self.catalogs()[number]
     }
@@ -181,5 +185,15 @@ impl Fold {
             (λ m. primaries_of self.now.config m ≡ Some result.now) }
     {
         primaries_of(self.catalogs(), &self.members[place])
+    }
+
+    /// The key of a member's catalog.
+    pub fn key(&self, place: usize) -> Option<&Key>
+        requires { place < length self.now.members }
+        ensures key { IfSome (slice_get self.now.members place)
+            (λ m. key_of self.now.config m ≡ option_map (λ r. r.now) result) }
+        ensures usable { ForSome (option_map (λ r. r.now) result) IsKey }
+    {
+        key_of(self.catalogs(), &self.members[place])
     }
 }

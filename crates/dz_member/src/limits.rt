@@ -4,7 +4,7 @@ ghost use Rattle.std.specs.Prelude.{◌≡◌, nat_le};
 ghost use Rattle.std.specs.List.{list_all, list_any};
 ghost use Rattle.std.specs.Str.{bytes_eq};
 ghost use Rattle.dz_name.specs.Name.{same_name};
-ghost use Rattle.dz_member.specs.Config.{same_word, same_catalog, is_count, is_visible, is_word, are_primaries, is_group, is_catalog, is_within_limits, has_words_once, has_each_once, is_allowed};
+ghost use Rattle.dz_member.specs.Config.{same_word, same_catalog, is_count, is_visible, is_word, are_primaries, is_group, is_catalog, is_within_limits, has_words_once, has_each_once, has_secret, has_secrets, is_allowed};
 ghost use Rattle.dz_member.specs.Twice.{has_twice};
 
 use crate::config::{CatalogSettings, Config, GroupSettings, Peers};
@@ -19,6 +19,8 @@ pub const CATALOG_GROUPS: usize = 64;
 pub const PRIMARIES: usize = 8;
 /// The most octets of a group's word.
 pub const WORD_OCTETS: usize = 255;
+/// The most octets of a key's secret.
+pub const SECRET_OCTETS: usize = 64;
 
 impl Peers {
     /// Whether these can be the primaries of a zone: 1 to 8, none of port 0.
@@ -48,6 +50,16 @@ impl CatalogSettings {
             && are_groups(self.groups.as_slice())
     }
 
+    /// Whether its secret has 1 to 64 octets, where it has a key.
+    pub fn has_secret(&self) -> bool
+        ensures { result ≡ has_secret self.now }
+    {
+        match &self.key {
+            None => true,
+            Some(key) => is_count(SECRET_OCTETS, key.secret.as_slice().len()),
+        }
+    }
+
     /// Whether no word stands twice.
     pub fn has_words_once(&self) -> bool
         ensures { result ≡ has_words_once self.now }
@@ -71,11 +83,18 @@ impl Config {
         !has_name_twice(self.catalogs()) && have_words_once(self.catalogs())
     }
 
-    /// Whether the configuration is within the limits and names nothing twice.
+    /// Whether each secret has 1 to 64 octets.
+    pub fn has_secrets(&self) -> bool
+        ensures { result ≡ has_secrets self.now }
+    {
+        have_secrets(self.catalogs())
+    }
+
+    /// Whether the configuration is within the limits, names nothing twice and has secrets that can be used.
     pub fn is_allowed(&self) -> bool
         ensures { result ≡ is_allowed self.now }
     {
-        self.is_within_limits() && self.has_each_once()
+        self.is_within_limits() && self.has_each_once() && self.has_secrets()
     }
 }
 
@@ -121,6 +140,12 @@ fn have_words_once(catalogs: &[CatalogSettings]) -> bool
     ensures { result ≡ list_all has_words_once catalogs.now }
 {
     catalogs.iter().all(|catalog| catalog.has_words_once())
+}
+
+fn have_secrets(catalogs: &[CatalogSettings]) -> bool
+    ensures { result ≡ has_secrets catalogs.now }
+{
+    catalogs.iter().all(|catalog| catalog.has_secret())
 }
 
 /// Whether a group has this word.

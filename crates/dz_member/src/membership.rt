@@ -4,6 +4,7 @@ ghost use Rattle.std.specs.Prelude.{◌≡◌, option_map};
 ghost use Rattle.dz_member.specs.Membership.{settings_at, shown, policy_in, primaries_in, IsNumbered};
 
 use crate::config::{CatalogSettings, Peers, Policy};
+use crate::key::Key;
 use dz_name::{Label, Name, Octets};
 use std::marker::Model;
 
@@ -119,4 +120,16 @@ pub(crate) fn primaries_of<'a>(
         None => &catalog.primaries,
         Some(group) => &catalog.groups.as_slice()[group as usize].primaries,
     }
+}
+
+/// The key of a member's catalog.
+pub(crate) fn key_of<'a>(
+    catalogs: &'a [CatalogSettings],
+    membership: &Membership,
+) -> Option<&'a Key>
+    requires { IsNumbered catalogs.now membership.now }
+    ensures { option_map (λ r. r.now) result
+        ≡ (settings_at catalogs.now membership.now.catalog).key }
+{
+    catalogs[membership.catalog as usize].key.as_ref()
 }

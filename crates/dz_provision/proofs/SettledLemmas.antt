@@ -17,7 +17,7 @@ use Rattle.dz_job.specs.declared.verdict.Verdict.{Verdict}
 use Rattle.dz_job.specs.declared.verdict.Verdict.TheVariants.{Published, Confirmed, Refused, PolicyRefused, Stale, OutOfMemory}
 use Rattle.dz_job.specs.declared.verdict.Failure.{Failure}
 use Rattle.dz_job.specs.declared.verdict.Failure.TheVariants as failures
-use Rattle.dz_fleet.specs.Core.{Core, state_of, ended_of, entry_for, failure_of, is_accepted, verdict_from, verdict_of, settled, IsOffered}
+use Rattle.dz_fleet.specs.Core.{Core, state_of, ended_of, entry_for, failure_of, is_accepted, screened, tsig_of, verdict_from, verdict_of, settled, IsOffered}
 use Rattle.dz_fleet.specs.Absence.{AbsentOf}
 use Rattle.dz_fleet.specs.Weighing.{is_taken}
 use Rattle.dz_fleet.proofs.SettleLemmas.{settled_by}
@@ -47,8 +47,8 @@ same_from c job (refused fault) None = refl
 same_from c job (new zone) None = refl
 
 same_verdict : (c : Core) (job : JobOf) (octets : Octets) → verdict_of c job octets ≡ verdict_after c.list job octets
-unfolding verdict_of verdict_after
-same_verdict c job octets = same_from c job (outcome (transfer_for job) octets) (ended_of c job)
+unfolding verdict_of verdict_after tsig_of
+same_verdict c job octets = same_from c job (screened (tsig_of c job octets) (outcome (transfer_for job) octets)) (ended_of c job)
 
 -- ---- a transfer that is taken is the next entry
 abbrev IsNext : ℕ → Verdict → Type 0
@@ -68,7 +68,7 @@ next_from c job (new zone) None = next_if c job zone (is_accepted (policy_at (st
 
 next_is : (c : Core) (job : JobOf) (octets : Octets) → IsNext (length c.list) (verdict_of c job octets)
 unfolding verdict_of
-next_is c job octets = next_from c job (outcome (transfer_for job) octets) (ended_of c job)
+next_is c job octets = next_from c job (screened (tsig_of c job octets) (outcome (transfer_for job) octets)) (ended_of c job)
 
 module _ (c : Core) (job : JobOf) (octets : Octets) (now : ℕ) (used : octets_used (transfer_for job) octets ≡ length octets) where
   list_then : is_taken (verdict_of c job octets) ≡ true → (settled c job octets now).list ≡ c.list ++ entry_for job octets ∷ []

@@ -21,7 +21,7 @@ use Rattle.dz_notify.specs.declared.notify.Heard.{Heard}
 use Rattle.dz_notify.specs.declared.notify.Heard.TheVariants as heard
 use Rattle.dz_fleet.specs.declared.due.Due.{Due}
 use Rattle.dz_fleet.specs.declared.due.Due.TheVariants as due
-use Rattle.dz_fleet.specs.Core.{Core, state_of, ended_of, entry_for, verdict_of, verdict_from, is_accepted, is_old_serial, settled, after_success, after_verdict, after_end, after_failure, after_refusal, failed_core, IsDue, IsOffered, after_notify}
+use Rattle.dz_fleet.specs.Core.{Core, state_of, ended_of, entry_for, verdict_of, verdict_from, is_accepted, is_old_serial, screened, tsig_of, settled, after_success, after_verdict, after_end, after_failure, after_refusal, failed_core, IsDue, IsOffered, after_notify}
 use Rattle.dz_fleet.specs.Sound.{IsSound, IsFlying}
 use Rattle.dz_fleet.specs.Weighing.{Weighing, Renewed, Fits, octets_in, is_taken, renewed_for}
 use Rattle.dz_fleet.proofs.TakeLemmas.{tells, follows, decision_is}
@@ -95,12 +95,15 @@ module _ (c : Core) (job : JobOf) (ok : IsSound c) (fly : IsFlying c job) (octet
   same_version : job.held ≡ held_at (state_of c) job.flight.zone
   same_version = fly.held (among_stands c job ok fly.there standing)
 
+  signed : tsig_of c job octets ≡ None
+  signed = ((tells c job octets).approved takes).signed
+
   lines_are : entry_lines (state_of c) (entry_for job octets) ≡ verdict_lines job.flight.zone (verdict_of c job octets)
   unfolding entry_lines verdict_of
   lines_are =
       let s = state_of c in
       let d = outcome (transfer_for job) octets in
-      let v : verdict_of c job octets ≡ verdict_from c job d None = ap (λ o. verdict_from c job d o) standing in
+      let v : verdict_of c job octets ≡ verdict_from c job d None = ap (λ o. verdict_from c job (screened (tsig_of c job octets) d) o) standing ∙ ap (λ t. verdict_from c job (screened t d) None) signed in
       let made : verdict_from c job d None ≡ verdict_at s job.flight.zone d = verdict_from_is c job d (count_is c.list ok.legal) same_version (rw v at takes) in
       ap (verdict_lines job.flight.zone) (ap (verdict_at s job.flight.zone) (decision_is s job octets same_version) ∙ sym (v ∙ made))
 

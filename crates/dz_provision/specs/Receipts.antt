@@ -4,7 +4,7 @@ use mathlib.Core.List.{IsPrefix}
 use Rattle.dz_name.specs.Words.{Name, Octets}
 use Rattle.dz_io.specs.declared.peer.Peer.{Peer}
 use Rattle.dz_history.specs.declared.entry.Entry.{Entry}
-use Rattle.dz_history.specs.State.{State, primaries_at}
+use Rattle.dz_history.specs.State.{State, key_at, primaries_at}
 use Rattle.dz_history.specs.After.{after}
 use Rattle.dz_history.specs.Ended.{ended}
 use Rattle.dz_job.specs.Job.{JobOf}
@@ -35,6 +35,11 @@ HasPrimary s zone peer = (peers : List Peer) × (n : ℕ) × (primaries_at s zon
 unfoldable pub WasPrimary : List Entry → Name → Peer → Type 0
 WasPrimary list zone peer = (before : List Entry) × IsPrefix before list × HasPrimary (after before) zone peer
 
+-- one that a job asks with the key that the zone's catalog had then
+unfoldable pub WasAsked : List Entry → JobOf → Peer → Type 0
+WasAsked list job peer =
+    (before : List Entry) × IsPrefix before list × HasPrimary (after before) job.flight.zone peer × (job.key ≡ key_at (after before) job.flight.zone)
+
 -- a count of entries, not below a place and not past a list
 abbrev pub IsBetween : ℕ → ℕ → List Entry → Type 0
 IsBetween from count list = (from ≤ count) × (count ≤ length list)
@@ -44,11 +49,11 @@ IsBetween from count list = (from ≤ count) × (count ≤ length list)
 abbrev pub IsQuietAt : QuietOf → List Entry → ℕ → Type 0
 IsQuietAt q list now = (q.count ≡ length list) × (q.moment ≡ now)
 
--- a job is of an incarnation that has not ended, and asks one of its zone's primaries. There is none as no zone is due, or
+-- a job is of an incarnation that has not ended, and asks one of its zone's primaries with its catalog's key. There is none as no zone is due, or
 -- as 16 jobs are in flight or no ticket is left
 abbrev pub IsHandedAt : Result Due LogFault → List Entry → ℕ → Type 0
 IsHandedAt (Ok (due.Job job)) list now =
-    (ended list job.flight.zone job.flight.incarnation ≡ None) × (HasPrimary (after list) job.flight.zone job.flight.primary × (job.flight.moment ≡ now))
+    (ended list job.flight.zone job.flight.incarnation ≡ None) × (HasPrimary (after list) job.flight.zone job.flight.primary × ((job.key ≡ key_at (after list) job.flight.zone) × (job.flight.moment ≡ now)))
 IsHandedAt (Ok (due.Idle q)) list now = IsQuietAt q list now × ((q.in_flight < 16) × IfSome q.earliest (λ earliest. now < earliest))
 IsHandedAt (Ok (due.Full q)) list now = IsQuietAt q list now × ((q.in_flight ≡ 16) ⊎ (q.drawn ≡ 2 ^ 64 - 2))
 IsHandedAt (Ok due.OutOfMemory) list now = ⊤

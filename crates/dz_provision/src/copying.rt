@@ -26,6 +26,7 @@ fn copied_catalog(alloc: Global, settings: &CatalogSettings) -> Result<CatalogSe
         policy: settings.policy,
         primaries: copied_peers(alloc, settings.primaries.as_slice())?,
         groups: copied_groups(alloc, settings.groups.as_slice())?,
+        key: settings.key,
     })
 }
 

@@ -6,8 +6,9 @@ use Rattle.dz_form.specs.declared.fault.ShapeFault.{ShapeFault}
 use Rattle.dz_form.specs.declared.fault.ShapeFault.TheVariants.{NotSoaFirst, AfterEnd, SerialGap, DeleteMissing, AddPresent}
 use Rattle.dz_zone.specs.declared.fault.ZoneFault.{ZoneFault}
 use Rattle.dz_zone.specs.declared.fault.ZoneFault.TheVariants.{NoSoa, SoaTwice, SoaBelow, NoNs, OutOfZone, CnameBeside, CnameTwice, DnameTwice, TooMany}
+use Rattle.dz_tsig.specs.Fault.{number_of}
 use Rattle.dz_take.specs.declared.outcome.TakeFault.{TakeFault}
-use Rattle.dz_take.specs.declared.outcome.TakeFault.TheVariants.{Incomplete, Message, WrongId, WrongQuestion, Rcode, Shape, Zone, OldSerial, TooLong}
+use Rattle.dz_take.specs.declared.outcome.TakeFault.TheVariants.{Incomplete, Message, WrongId, WrongQuestion, Rcode, Shape, Zone, OldSerial, TooLong, Tsig}
 
 abbrev pub shape_word : ShapeFault → Octets
 shape_word NotSoaFirst = codes "not-soa-first"
@@ -41,3 +42,4 @@ reason_of (Shape fault) = codes "shape " ++ shape_word fault
 reason_of (Zone fault) = codes "zone " ++ zone_word fault
 reason_of (OldSerial serial) = numbered (codes "old-serial ") serial
 reason_of TooLong = codes "too-long"
+reason_of (Tsig fault) = numbered (codes "tsig ") (number_of fault)

@@ -21,6 +21,7 @@ pub fn reason_of(alloc: Global, fault: &TakeFault) -> Result<Vec<u8>, AllocError
         TakeFault::Zone(fault) => joined(alloc, b"zone ", zone_word(fault)),
         TakeFault::OldSerial(serial) => numbered(alloc, b"old-serial ", u64::from(serial)),
         TakeFault::TooLong => Vec::from_slice(alloc, b"too-long"),
+        TakeFault::Tsig(fault) => numbered(alloc, b"tsig ", u64::from(fault.number())),
     }
 }
 

@@ -28,7 +28,7 @@ unfolding line_of
 a_comment = refl
 
 pub a_catalog : line_of (codes "catalog Catalog.example. present 192.0.2.1,192.0.2.2:5353")
-    ≡ Some (Catalog (record { name = catalog_example; policy = Present; primaries = host (192 ∷ 0 ∷ 2 ∷ 1 ∷ []) 53 ∷ host (192 ∷ 0 ∷ 2 ∷ 2 ∷ []) 5353 ∷ []; groups = [] }))
+    ≡ Some (Catalog (record { name = catalog_example; policy = Present; primaries = host (192 ∷ 0 ∷ 2 ∷ 1 ∷ []) 53 ∷ host (192 ∷ 0 ∷ 2 ∷ 2 ∷ []) 5353 ∷ []; groups = []; key = None }))
 unfolding line_of name_of_text items labels_from with_label wire_of primaries_of peers_of
 a_catalog = refl
 

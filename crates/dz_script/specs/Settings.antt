@@ -34,7 +34,7 @@ unfoldable pub primaries_of : Octets → Option (List Peer)
 primaries_of text = if nat_le (length (parts_of 44 text)) PRIMARIES then peers_of (parts_of 44 text) else None
 
 abbrev pub catalog_from : Option Name → Option Policy → Option (List Peer) → Option CatalogSettings
-catalog_from (Some name) (Some policy) (Some primaries) = Some (record { name = name; policy = policy; primaries = primaries; groups = [] })
+catalog_from (Some name) (Some policy) (Some primaries) = Some (record { name = name; policy = policy; primaries = primaries; groups = []; key = None })
 catalog_from _ _ _ = None
 
 -- `<name> <policy> <primaries>`

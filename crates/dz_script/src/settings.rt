@@ -46,6 +46,7 @@ fn read_catalog_from(
             policy,
             primaries,
             groups: Groups::from_vec(Vec::new(alloc)),
+            key: None,
         })),
     }
 }

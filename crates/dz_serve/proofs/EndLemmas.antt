@@ -117,6 +117,40 @@ accepted e downstream may_fail may_give from list later old now s0 s1 given told
     faulty_by (links_ends.Closed starved) mark is = absurd (cc is)
     faulty_by (links_ends.Failed starved) risen is = rw f at risen
 
+-- ---- where a device has failed
+session_risen : (e : SessionEnd) (may_fail : Type 0) (may_give : ℕ → Bool) (from : ℕ) (list : List Entry) (old now : Told) → old.faults ≡ 0 → IsSession e may_fail may_give from list old now
+    → is_whole e ≡ false → HasRisen 0 now.faults
+session_risen (Closed true) may_fail may_give from list old now f t is = rw f at (t.risen refl)
+session_risen (Closed false) may_fail may_give from list old now f t is = absurd (cc is)
+session_risen Failed may_fail may_give from list old now f t is = more_risen (losses t.served) now.faults (rw f at t.covered)
+
+pub listened_risen : (e : SessionEnd) (mark : Bool) (may_fail : Type 0) (may_give : ℕ → Bool) (before after : Viewed) (old now : Told) → old.faults ≡ 0 → HasListened e mark may_fail may_give before after old now
+    → is_whole e ≡ false → HasRisen 0 now.faults
+listened_risen e mark may_fail may_give before after old now f h is = session_risen e may_fail may_give (length before.list) after.list old now f h.session is
+
+until_risen : (e : LinksEnd) (mark : Bool) (before now : ℕ) → before ≡ 0 → AcceptsUntil e mark before now → has_closed e ≡ false → HasRisen 0 now
+until_risen (links_ends.Closed starved) mark before now f until is = absurd (cc is)
+until_risen (links_ends.Failed starved) mark before now f until is = rw f at until
+
+pub linked_risen : (e : LinksEnd) (downstream : List Octets) (may_fail : Type 0) (may_give : ℕ → Bool) (before after : Viewed) (old now : Accepts) (given told : Option (List ℕ)) → old.faults ≡ 0
+    → HasLinked e downstream may_fail may_give before after old now given told → has_closed e ≡ false → HasRisen 0 now.faults
+linked_risen e downstream may_fail may_give before after old now given told f h is = until_risen e now.is_closed old.faults now.faults f h.until is
+
+-- the count of the ports rises as a device with a fault comes back to them, and falls neither before nor after
+risen_first : (a b c : ℕ) → HasRisen a b → b ≤ c → HasRisen a c
+risen_first a b c (inl h) le = inl (omega (arith, h, le))
+risen_first a b c (inr h) le = inr (omega (arith, h, le))
+
+risen_last : (a b c : ℕ) → a ≤ b → HasRisen b c → HasRisen a c
+risen_last a b c le (inl h) = inl (omega (arith, le, h))
+risen_last a b c le (inr h) = inr h
+
+pub port_risen : {W X Y Z : Type 0} (a b c d : ℕ) → a ≤ b → b ≤ c → d ≡ c → (W → HasRisen a b) → (X → HasRisen a b) → (Y → HasRisen b c) → (Z → HasRisen b c) → W ⊎ (X ⊎ (Y ⊎ Z)) → HasRisen a d
+port_risen a b c d first second same w x y z (inl h) = rw same (risen_first a b c (w h) second)
+port_risen a b c d first second same w x y z (inr (inl h)) = rw same (risen_first a b c (x h) second)
+port_risen a b c d first second same w x y z (inr (inr (inl h))) = rw same (risen_last a b c first (y h))
+port_risen a b c d first second same w x y z (inr (inr (inr h))) = rw same (risen_last a b c first (z h))
+
 -- ---- by the list that a run leaves
 seen_one : (first list : List Entry) → 0 < length first → IsPrefix first list → 1 ≤ length list
 seen_one first list some p = omega (arith, some, prefix_length first list p)

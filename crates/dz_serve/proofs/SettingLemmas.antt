@@ -6,7 +6,7 @@ use Rattle.std.specs.Option.{option_map}
 use Rattle.toml.specs.Data.{Members}
 use Rattle.dz_io.specs.declared.peer.Peer.{Peer}
 use Rattle.dz_member.specs.declared.config.CatalogSettings.{CatalogSettings}
-use Rattle.dz_member.specs.Config.{is_within_limits, has_each_once, IsAllowed}
+use Rattle.dz_member.specs.Config.{is_within_limits, has_each_once, has_secrets, IsAllowed}
 use Rattle.dz_name.specs.Words.{Octets}
 use Rattle.dz_io.specs.Device.{Gains, GainsPrefix, IsAtEnd}
 use Rattle.dz_config.specs.declared.fault.ConfigFault.{ConfigFault}
@@ -14,18 +14,22 @@ use Rattle.dz_config.specs.declared.config.TheConstants.{TEXT_OCTETS}
 use Rattle.dz_config.specs.Reading.{Reading, made, read_in}
 use Rattle.dz_config.specs.Document.{addresses_of, judged, settings_of, said_of, config_of}
 use Rattle.dz_config.specs.declared.config.Said.{Said}
-use Rattle.dz_config.specs.declared.fault.ConfigFault.TheVariants.{OutOfLimits, Twice}
+use Rattle.dz_config.specs.declared.fault.ConfigFault.TheVariants.{OutOfLimits, Twice, BadSecret}
 use Rattle.dz_serve.specs.Command.{bad_config, IsText, SaysBad}
 use Rattle.dz_serve.specs.declared.status.ServeEnd.{ServeEnd}
 use Rattle.dz_serve.specs.declared.status.ServeEnd.TheVariants as ends
 
 tests_allowed : (config : List CatalogSettings) (beyond : Bool) (said t : Said) → said.config ≡ config
-    → (if not (is_within_limits config) then Err OutOfLimits else if beyond then Err OutOfLimits else if not (has_each_once config) then Err Twice else Ok said) ≡ Ok t → IsAllowed t.config
+    → (if not (is_within_limits config) then Err OutOfLimits else if beyond then Err OutOfLimits else if not (has_each_once config) then Err Twice else if not (has_secrets config) then Err BadSecret else Ok said) ≡ Ok t
+    → IsAllowed t.config
 tests_allowed config beyond said t same is = elim (cases_Bool (is_within_limits config)) [
   | inl limits ↦ elim (cases_Bool beyond) [
     | inl more ↦ absurd (cc (rw (limits, more) at is))
     | inr few ↦ elim (cases_Bool (has_each_once config)) [
-      | inl once ↦ let one : said ≡ t = cc (rw (limits, few, once) at is) in rw (sym one, same) (rw (limits, once) refl)
+      | inl once ↦ elim (cases_Bool (has_secrets config)) [
+        | inl usable ↦ let one : said ≡ t = cc (rw (limits, few, once, usable) at is) in rw (sym one, same) (rw (limits, once, usable) refl)
+        | inr unusable ↦ absurd (cc (rw (limits, few, once, unusable) at is))
+      ]
       | inr twice ↦ absurd (cc (rw (limits, few, twice) at is))
     ]
   ]

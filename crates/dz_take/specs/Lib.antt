@@ -3,6 +3,7 @@ pub mod Fit
 pub mod Form
 pub mod Laws
 pub mod Outcome
+pub mod Query
 pub mod Taken
 pub mod Transfer
 pub mod inner

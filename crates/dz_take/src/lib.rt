@@ -14,6 +14,7 @@ mod transfer;
 pub use ask::Ask;
 pub use dz_form::{Progress, ShapeFault};
 pub use dz_message::MessageFault;
+pub use dz_tsig::TsigFault;
 pub use dz_zone::ZoneFault;
 pub use dz_zonemd::Standing;
 pub use finished::Finished;

@@ -2,6 +2,7 @@
 
 use dz_form::ShapeFault;
 use dz_message::MessageFault;
+use dz_tsig::TsigFault;
 use dz_zone::{Version, ZoneFault};
 use std::sync::Arc;
 
@@ -26,6 +27,9 @@ pub enum TakeFault {
     OldSerial(u32),
     /// The stream is longer than 67,108,864 octets ([`dz_name::dns::TRANSFER_OCTETS`]).
     TooLong,
+    /// The messages aren't signed with the key of the zone's catalog (RFC 8945). No [`crate::Taking`] gives it: it doesn't
+    /// look at signatures.
+    Tsig(TsigFault),
 }
 
 /// What comes of a transfer.

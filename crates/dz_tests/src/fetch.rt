@@ -50,7 +50,7 @@ fn job(rt: &impl Abort) -> Job {
         primary: peer(1),
         moment: 1000,
     };
-    Job::new(flight, None)
+    Job::new(flight, None, None)
 }
 
 /// What the job fetches over the dialer.

@@ -37,7 +37,7 @@ mod reply;
 #[cfg(test)]
 mod report;
 #[cfg(test)]
-mod sharing;
+mod signed;
 #[cfg(test)]
 mod take;
 #[cfg(test)]

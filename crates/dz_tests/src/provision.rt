@@ -1,10 +1,9 @@
-//! Provisioners: a job that goes to another core, and what may go to threads.
+//! Provisioners: a job that goes to another core.
 
 ghost use Rattle.std.specs.Prelude.{◌≡◌, [], None};
 
 use crate::configs::config;
 use crate::desks::open_one;
-use crate::sharing::{is_send, is_sync};
 use dz_desk::Publisher;
 use dz_fleet::{Due, Job};
 use dz_io::MemorySink;
@@ -66,10 +65,7 @@ fn give_a_job_away<R: Abort + Wait, J: Naming + Send>(
 {
     let mut one: Provisioner<MemorySink, J> = begin(rt, alloc, own, "cat1.example.");
     let job = first_job(rt, &mut one);
-    is_send(&one);
     let shared: Shared<MemorySink, J> = Locked::over(one);
-    is_send(&shared);
-    is_sync(&shared);
     refuse_a_job::<R, Brand>(rt, alloc, other, job);
     let output = written(rt, shared.close());
     assert_eq!(rt;

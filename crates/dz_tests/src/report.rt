@@ -1,7 +1,7 @@
 //! Tests of `dz_report`.
 
 use dz_report::reason_of;
-use dz_take::{TakeFault, ZoneFault};
+use dz_take::{TakeFault, TsigFault, ZoneFault};
 use std::alloc::{AllocError, Global};
 use std::process::Abort;
 use std::test::*;
@@ -11,6 +11,8 @@ const REASONS: &[(TakeFault, &[u8])] = &[
     (TakeFault::TooLong, b"too-long"),
     (TakeFault::Zone(ZoneFault::SoaTwice), b"zone soa-twice"),
     (TakeFault::Zone(ZoneFault::TooMany), b"zone too-many"),
+    (TakeFault::Tsig(TsigFault::Missing), b"tsig 1"),
+    (TakeFault::Tsig(TsigFault::Error), b"tsig 6"),
 ];
 
 fn expect_reason(

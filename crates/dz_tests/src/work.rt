@@ -8,7 +8,6 @@ use crate::desks::open_one;
 use crate::links::dialer;
 use crate::messages::push_framed;
 use crate::names::peer;
-use crate::sharing::is_send;
 use crate::transfers::{CATALOG, listing_message};
 use dz_desk::{Publisher, Reading};
 use dz_io::{MemoryClock, MemoryDialer, MemorySink};
@@ -92,7 +91,6 @@ fn publish<R: Abort + Wait, J: Naming>(
     };
     let shared: Shared<MemorySink, J> = begin(rt, alloc, publisher);
     let report = work_one(rt, alloc, &shared, &mut reading, &mut dialer, &mut clock);
-    is_send(&report);
     assert!(rt; matches!(report, Report::Published(1)));
     assert_eq!(rt; reading.count(), 2);
     assert_eq!(rt; dialer.back().len(), 1);
@@ -180,7 +178,6 @@ fn a_worker_goes_on_until_its_clock_stops_it(rt: HostRuntime) -> Result<(), Allo
     let alloc = rt.alloc();
     let (publisher, reading) = open_one(&rt, alloc);
     let done = serve::<HostRuntime, Brand>(&rt, alloc, publisher, reading)?;
-    is_send(&done);
     assert!(&rt; done.dialed);
     assert_eq!(&rt; done.end, TransferEnd::Stopped);
     Ok(())

@@ -9,6 +9,7 @@ use Rattle.dz_history.specs.declared.entry.Entry.{Entry}
 use Rattle.dz_history.specs.After.{after}
 use Rattle.dz_history.specs.Ended.{ended}
 use Rattle.dz_history.specs.Legal.{IsLegal}
+use Rattle.dz_history.specs.State.{key_at}
 use Rattle.dz_job.specs.Job.{JobOf, transfer_for}
 use Rattle.dz_job.specs.declared.verdict.Verdict.{Verdict}
 use Rattle.dz_job.specs.declared.verdict.Verdict.TheVariants.{Published, Confirmed, Refused, PolicyRefused, Stale, OutOfMemory}
@@ -21,7 +22,7 @@ use Rattle.dz_desk.proofs.PrefixLemmas.{prefix_length}
 use Rattle.dz_provision.specs.declared.provisioner.LogFault.{LogFault}
 use Rattle.dz_provision.specs.declared.provisioner.Unmade.{Unmade}
 use Rattle.dz_provision.specs.declared.provisioner.Unmade.TheVariants as unmade
-use Rattle.dz_provision.specs.Receipts.{core_of, verdict_after, HasPrimary, WasPrimary, IsHandedAt, IsSettledAt, IsFailedAt}
+use Rattle.dz_provision.specs.Receipts.{core_of, verdict_after, HasPrimary, WasAsked, WasPrimary, IsHandedAt, IsSettledAt, IsFailedAt}
 use Rattle.dz_fetch.specs.declared.fetched.Fetched.TheVariants as fetched
 use Rattle.dz_fetch.specs.Fetching.{IsFetchedOver, IsFetched, IsFetch}
 use Rattle.dz_fetch.proofs.GainLemmas.{gains_none}
@@ -93,23 +94,32 @@ undialed_leaves report.LogFault links faults = tt
 undialed_leaves report.OutOfMemory links faults = tt
 
 -- there was one
+pub record IsHanded (job : JobOf) (list : List Entry) : Type 0 where
+  pub standing : ended list job.flight.zone job.flight.incarnation ≡ None
+  pub primary : HasPrimary (after list) job.flight.zone job.flight.primary
+  pub key : job.key ≡ key_at (after list) job.flight.zone
+
 module _ (job : JobOf) (list : List Entry) (now : ℕ) where
-  met_due : (d : Due) → Ok job ≡ job_of d → IsHandedAt (Ok d) list now → (ended list job.flight.zone job.flight.incarnation ≡ None) × HasPrimary (after list) job.flight.zone job.flight.primary
-  met_due (due.Job own) is h = let same : job ≡ own = cc is in rw same (h.0, h.1.0)
+  met_due : (d : Due) → Ok job ≡ job_of d → IsHandedAt (Ok d) list now → IsHanded job list
+  met_due (due.Job own) is h = let same : job ≡ own = cc is in rw same (record { standing = h.0; primary = h.1.0; key = h.1.1.0 })
   met_due (due.Idle q) is h = absurd (cc is)
   met_due (due.Full q) is h = absurd (cc is)
   met_due due.OutOfMemory is h = absurd (cc is)
 
-  pub met : (d : Result Due LogFault) → Ok job ≡ job_in d → IsHandedAt d list now → (ended list job.flight.zone job.flight.incarnation ≡ None) × HasPrimary (after list) job.flight.zone job.flight.primary
+  pub met : (d : Result Due LogFault) → Ok job ≡ job_in d → IsHandedAt d list now → IsHanded job list
   met (Ok d) is h = met_due d is h
   met (Err fault) is h = absurd (cc is)
 
 -- ---- a job was handed out
 module _ (job : JobOf) (list later : List Entry) (standing : ended list job.flight.zone job.flight.incarnation ≡ None) (primary : HasPrimary (after list) job.flight.zone job.flight.primary)
-    (p : IsPrefix list later) (legal : IsLegal later) where
+    (key : job.key ≡ key_at (after list) job.flight.zone) (p : IsPrefix list later) (legal : IsLegal later) where
   was : (peer : Peer) → peer ≡ job.flight.primary → WasPrimary later job.flight.zone peer
   unfolding WasPrimary
   was peer is = (list, p, subst (HasPrimary (after list) job.flight.zone) (sym is) primary)
+
+  asked : (peer : Peer) → peer ≡ job.flight.primary → WasAsked later job peer
+  unfolding WasAsked
+  asked peer is = (list, p, subst (HasPrimary (after list) job.flight.zone) (sym is) primary, key)
 
   was_some : (peer : Peer) → peer ≡ job.flight.primary → WasSomePrimary later peer
   unfolding WasSomePrimary
@@ -128,7 +138,7 @@ module _ (job : JobOf) (list later : List Entry) (standing : ended list job.flig
   settled_worked (Ok (Published n serial aftermath)) l read peer over s = record {
     job = job;
     read = read;
-    receipt = record { primary = was l.peer peer; fetched = over };
+    receipt = record { primary = asked l.peer peer; fetched = over };
     late = s.late;
     entry = s.entry;
     verdict = ap report_of s.verdict;
@@ -136,7 +146,7 @@ module _ (job : JobOf) (list later : List Entry) (standing : ended list job.flig
   settled_worked (Ok (Confirmed n serial)) l read peer over s = record {
     job = job;
     read = read;
-    receipt = record { primary = was l.peer peer; fetched = over };
+    receipt = record { primary = asked l.peer peer; fetched = over };
     late = s.late;
     entry = s.entry;
     verdict = ap report_of s.verdict;
@@ -144,13 +154,13 @@ module _ (job : JobOf) (list later : List Entry) (standing : ended list job.flig
   settled_worked (Ok (Refused fault)) l read peer over s = record {
     job = job;
     read = read;
-    receipt = record { primary = was l.peer peer; fetched = over };
+    receipt = record { primary = asked l.peer peer; fetched = over };
     verdict = ap report_of s;
   }
   settled_worked (Ok (PolicyRefused shown)) l read peer over s = record {
     job = job;
     read = read;
-    receipt = record { primary = was l.peer peer; fetched = over };
+    receipt = record { primary = asked l.peer peer; fetched = over };
     verdict = ap report_of s;
   }
   settled_worked (Ok (Stale n)) l read peer over s =

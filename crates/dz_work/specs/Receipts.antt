@@ -15,7 +15,7 @@ use Rattle.dz_job.specs.declared.verdict.Failure.TheVariants as failures
 use Rattle.dz_fleet.specs.Core.{entry_for}
 use Rattle.dz_provision.specs.declared.provisioner.Unmade.{Unmade}
 use Rattle.dz_provision.specs.declared.provisioner.Unmade.TheVariants as unmade
-use Rattle.dz_provision.specs.Receipts.{verdict_after, WasPrimary, IsBetween}
+use Rattle.dz_provision.specs.Receipts.{verdict_after, WasAsked, WasPrimary, IsBetween}
 use Rattle.dz_fetch.specs.Fetching.{IsFetchedOver, ShowsDial, links_of}
 use Rattle.dz_work.specs.declared.report.Report.{Report}
 use Rattle.dz_work.specs.declared.report.Report.TheVariants as report
@@ -44,9 +44,10 @@ failed_report (Ok (failures.Stale n)) cause = report.Stale n
 failed_report (Err why) cause = unmade_report why
 
 -- ---- a link
--- a job's transfer was read over a link to a primary that its zone had after a beginning of the list
+-- a job's transfer was read over a link to a primary that its zone had after a beginning of the list, and the query was
+-- signed where the zone's catalog had a key then, with that key
 pub record IsReceipt (job : JobOf) (read : Taken) (link : Dialled) (list : List Entry) : Type 0 where
-  pub primary : WasPrimary list job.flight.zone link.peer
+  pub primary : WasAsked list job link.peer
   pub fetched : IsFetchedOver job link read
 
 -- entry n, which is not below a place, is that transfer, by the verdict that the entries in front of it give

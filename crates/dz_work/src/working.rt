@@ -5,6 +5,7 @@ ghost use mathlib.Core.List.{IsPrefix};
 ghost use Rattle.dz_io.specs.Counts.{HasRisen};
 ghost use Rattle.dz_history.specs.After.{after};
 ghost use Rattle.dz_history.specs.Ended.{ended};
+ghost use Rattle.dz_history.specs.State.{key_at};
 ghost use Rattle.dz_provision.specs.Receipts.{HasPrimary};
 ghost use Rattle.dz_work.specs.Receipts.{IsWork, LeavesDialer, IsAtMoment};
 ghost use Rattle.dz_work.specs.inner.Marks.{is_busy};
@@ -113,6 +114,7 @@ fn transfer<B: Jobs, D: Dialer, C: Clock, R: Wait>(
     requires dialer { D.out dialer.old ≡ None }
     requires standing { ended reading.old.list job.flight.zone job.flight.incarnation ≡ None }
     requires primary { HasPrimary (after reading.old.list) job.flight.zone job.flight.primary }
+    requires key { job.key ≡ key_at (after reading.old.list) job.flight.zone }
     ensures same { reading.new ≡ record reading.old { list = reading.new.list } }
     ensures seen { IsPrefix reading.old.list reading.new.list }
     ensures back { D.out dialer.new ≡ None }

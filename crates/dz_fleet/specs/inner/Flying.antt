@@ -10,7 +10,7 @@ use Rattle.dz_job.specs.Job.{JobOf}
 
 -- the job of what is kept
 abbrev pub job_in : Flying → JobOf
-job_in f = record { flight = f.flight; held = option_map arc_value f.held.value }
+job_in f = record { flight = f.flight; held = option_map arc_value f.held.value; key = f.key.value }
 
 -- the position of the entry that ended its incarnation is beside it
 abbrev pub IsMarked : List Entry → Flying → Type 0

@@ -1,7 +1,7 @@
 -- What each worker handed on is, by the list that is left, what a run has to show.
 use Rattle.std.proofs.Common.{◌≡◌, refl, sym, ap, ◌∙◌}
 use Rattle.dz_desk.proofs.PrefixLemmas.{prefix_trans}
-use Rattle.dz_serve.proofs.EndLemmas.{listened_run, linked_run, transferred_run, is_run}
+use Rattle.dz_serve.proofs.EndLemmas.{listened_risen, linked_risen, port_risen, listened_run, linked_run, transferred_run, is_run}
 use Rattle.dz_serve.proofs.serving.serve_over.Goals as goal
 
 pub returns-clause-begins : goal.returns-clause-begins
@@ -28,3 +28,13 @@ returns-clause-served g c some =
     let l = rw (c.part_transferred-dialers.ensures.first, c.part_transferred-dialers.ensures.second, c.close_acceptors.ensures.dialers, c.close_datagrams.ensures.dialers) at c.close_dialers.ensures.back in
     is_run _ _ _ _ _ _ _ _ _ _ _ _ _ _ _ _ _ _ _ _ _ d a l one two three four five six
     (λ is. (j.session_one is, j.session_two is, j.links_one is, j.links_two is, j.fed_one is, j.fed_two is, j.dialed is))
+
+pub returns-clause-port : goal.returns-clause-port
+returns-clause-port g c is =
+    let r = c.run_crew-crew.ensures in
+    port_risen _ _ _ _ c.close_datagrams.ensures.later c.close_acceptors.ensures.later c.close_dialers.ensures.faults
+    (λ e. c.close_datagrams.ensures.first (rw c.part_listened-datagrams.ensures.first (listened_risen _ _ _ _ _ _ _ _ c.requires.datagrams_one.faultless r.listening_one e)))
+    (λ e. c.close_datagrams.ensures.second (rw c.part_listened-datagrams.ensures.second (listened_risen _ _ _ _ _ _ _ _ c.requires.datagrams_two.faultless r.listening_two e)))
+    (λ e. c.close_acceptors.ensures.first (rw c.part_linked-acceptors.ensures.first (linked_risen _ _ _ _ _ _ _ _ _ _ c.requires.acceptors_one.faultless r.linking_one e)))
+    (λ e. c.close_acceptors.ensures.second (rw c.part_linked-acceptors.ensures.second (linked_risen _ _ _ _ _ _ _ _ _ _ c.requires.acceptors_two.faultless r.linking_two e)))
+    (c.judge-end.ensures.port is)

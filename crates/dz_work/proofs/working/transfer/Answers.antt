@@ -9,7 +9,7 @@ settle-settled-requires-clause-transfer g c = read_transfer _ _ _ _ _ _ c.in-Fin
 pub returns-in-Finished-clause-worked : goal.returns-in-Finished-clause-worked
 returns-in-Finished-clause-worked g c =
     rw c.settled_report.ensures
-    (settled_work c.args.job _ _ c.requires.standing c.requires.primary c.settle-settled.ensures.seen c.count.ensures.legal c.settle-settled.result c.in-Finished.finished _ _ _ _ c.in-Finished.ensures.fetched c.settle-settled.ensures.settled)
+    (settled_work c.args.job _ _ c.requires.standing c.requires.primary c.requires.key c.settle-settled.ensures.seen c.count.ensures.legal c.settle-settled.result c.in-Finished.finished _ _ _ _ c.in-Finished.ensures.fetched c.settle-settled.ensures.settled)
 
 pub returns-in-Finished-clause-busy : goal.returns-in-Finished-clause-busy
 returns-in-Finished-clause-busy g c = rw c.settled_report.ensures (settled_busy c.settle-settled.result)
@@ -23,7 +23,7 @@ returns-in-Finished-clause-log g c = λ is. c.settle-settled.ensures.cause (sett
 pub returns-in-LinkFault-clause-worked : goal.returns-in-LinkFault-clause-worked
 returns-in-LinkFault-clause-worked g c =
     rw c.failed_report.ensures
-    (fault_work c.args.job _ _ c.requires.standing c.requires.primary c.fail-failed.ensures.seen c.count-in-LinkFault.ensures.legal c.fail-failed.result _ _ _ _ c.in-LinkFault.ensures.fetched c.fail-failed.ensures.failed)
+    (fault_work c.args.job _ _ c.requires.standing c.requires.primary c.requires.key c.fail-failed.ensures.seen c.count-in-LinkFault.ensures.legal c.fail-failed.result _ _ _ _ c.in-LinkFault.ensures.fetched c.fail-failed.ensures.failed)
 
 pub returns-in-LinkFault-clause-busy : goal.returns-in-LinkFault-clause-busy
 returns-in-LinkFault-clause-busy g c = rw c.failed_report.ensures (failed_busy c.fail-failed.result report.LinkFault refl)
@@ -35,7 +35,7 @@ returns-in-LinkFault-clause-log g c =
 pub returns-in-OutOfMemory-clause-worked : goal.returns-in-OutOfMemory-clause-worked
 returns-in-OutOfMemory-clause-worked g c =
     rw c.failed_report-in-OutOfMemory.ensures
-    (starved_work c.args.job _ _ c.requires.standing c.requires.primary c.fail-failed-in-OutOfMemory.ensures.seen c.count-in-OutOfMemory.ensures.legal c.fail-failed-in-OutOfMemory.result _ _ _ _ c.in-OutOfMemory.ensures.fetched c.fail-failed-in-OutOfMemory.ensures.failed)
+    (starved_work c.args.job _ _ c.requires.standing c.requires.primary c.requires.key c.fail-failed-in-OutOfMemory.ensures.seen c.count-in-OutOfMemory.ensures.legal c.fail-failed-in-OutOfMemory.result _ _ _ _ c.in-OutOfMemory.ensures.fetched c.fail-failed-in-OutOfMemory.ensures.failed)
 
 pub returns-in-OutOfMemory-clause-busy : goal.returns-in-OutOfMemory-clause-busy
 returns-in-OutOfMemory-clause-busy g c = rw c.failed_report-in-OutOfMemory.ensures (failed_busy c.fail-failed-in-OutOfMemory.result report.OutOfMemory refl)

@@ -5,12 +5,17 @@ use Rattle.dz_work.proofs.working.work.Goals as goal
 
 pub transfer-requires-clause-standing : goal.transfer-requires-clause-standing
 transfer-requires-clause-standing g c =
-    let own = (met c.in-Ok.job _ _ c.hand_out.result c.in-Ok.ensures c.hand_out.ensures.handed).0 in
+    let own = (met c.in-Ok.job _ _ c.hand_out.result c.in-Ok.ensures c.hand_out.ensures.handed).standing in
     search rules
 
 pub transfer-requires-clause-primary : goal.transfer-requires-clause-primary
 transfer-requires-clause-primary g c =
-    let own = (met c.in-Ok.job _ _ c.hand_out.result c.in-Ok.ensures c.hand_out.ensures.handed).1 in
+    let own = (met c.in-Ok.job _ _ c.hand_out.result c.in-Ok.ensures c.hand_out.ensures.handed).primary in
+    search rules
+
+pub transfer-requires-clause-key : goal.transfer-requires-clause-key
+transfer-requires-clause-key g c =
+    let own = (met c.in-Ok.job _ _ c.hand_out.result c.in-Ok.ensures c.hand_out.ensures.handed).key in
     search rules
 
 pub returns-in-Ok-clause-worked : goal.returns-in-Ok-clause-worked

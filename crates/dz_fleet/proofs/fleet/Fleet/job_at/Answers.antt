@@ -16,7 +16,8 @@ pub returns : goal.returns
 returns c =
     let i = c.self.inside in
     let held = c.in_ok-held.ensures ∙ c.held.ensures.held in
+    let key = c.copied-key.ensures ∙ c.key.ensures.key in
     let ask = rw c.is_whole.ensures at c.ask_of.ensures in
     let primary = rw (← c.self.view_is, c.turn.ensures) at c.primary.ensures in
     rw (← c.self.view_is)
-    (c.new.ensures ∙ job_made i.holdings i.history i.tickets i.flying.items i.schedule c.self.invariant c.args.place _ c.at-values.result c.seat_at-zone.ensures c.at-values.ensures c.args.now _ _ _ held ask primary)
+    (c.new.ensures ∙ job_made i.holdings i.history i.tickets i.flying.items i.schedule c.self.invariant c.args.place _ c.at-values.result c.seat_at-zone.ensures c.at-values.ensures c.args.now _ _ _ _ held key ask primary)

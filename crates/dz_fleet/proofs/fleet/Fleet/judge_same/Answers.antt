@@ -15,9 +15,10 @@ returns-clause-verdict c =
     let i = c.self.inside in
     let same = rw c.requires.transfer at c.requires.same in
     let none = rw (← c.self.view_is) at c.requires.standing in
+    let signed = rw (← c.self.view_is) at c.requires.signed in
     let count = c.count.ensures ∙ (ap (λ (s : State). s.count) k.after ∙ count_is i.history k.sound.legal) in
     let serial = rw c.held.ensures.held at c.serial_of.ensures in
-    rw (← c.self.view_is, count, serial) (sym (verdict_is (core_in i.history i.tickets i.flying.items i.schedule) c.args.job.now c.args.finished.now.octets up_to_date None same none))
+    rw (← c.self.view_is, count, serial) (sym (verdict_is (core_in i.history i.tickets i.flying.items i.schedule) c.args.job.now c.args.finished.now.octets None up_to_date None signed same none))
 
 pub returns-clause-renewed : goal.returns-clause-renewed
 returns-clause-renewed c =

@@ -1,4 +1,3 @@
-use Rattle.std.proofs.Common.{sym, ap}
 use Rattle.dz_take.proofs.TakingLemmas.{ends_so, all_used}
 use Rattle.dz_take.proofs.taking.Taking.finish.Goals as goal
 

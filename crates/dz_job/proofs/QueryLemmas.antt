@@ -1,16 +1,20 @@
--- The query of a job fits a frame: an SOA record is short.
-use Rattle.std.proofs.Common.{◌≡◌, subst, Bool, cond, ℕ, ◌+◌, ◌-◌, ◌≤◌, true, false, List, [], ◌∷◌, ◌++◌, length, refl, arith, length-append, Option, None, Some, inl, inr}
-use Rattle.std.specs.Prelude.{◌==◌, ◌&&◌}
+-- The query of a job: how long it is, that its additional section is empty, and that it sends an SOA record beside its
+-- question.
+use Rattle.std.proofs.Common.{◌≡◌, subst, Bool, cond, ℕ, ◌+◌, ◌-◌, ◌^◌, ◌<◌, ◌≤◌, true, false, List, [], ◌∷◌, ◌++◌, length, drop, refl, ap, arith, length-append, Option, None, Some, inl, inr}
+use Rattle.std.specs.Prelude.{slice_index, ◌==◌, ◌&&◌}
 use Rattle.std.specs.List.{find}
 use Rattle.std.specs.Option.{option_map_or, option_and_then}
 use Rattle.std.proofs.lemmas.Bool.Decides.{leb_tells}
 use Rattle.std.proofs.lemmas.Bool.{eqb-true}
-use Rattle.dz_name.specs.Name.{IsName, wire_of}
+use Rattle.dz_name.specs.Name.{IsName, same_name, wire_of}
 use Rattle.dz_name.specs.Words.{Octets}
 use Rattle.dz_name.specs.Reading.{canonical_end}
 use Rattle.dz_name.proofs.CanonicalLemmas.{canonical_end_found, end_of_between}
+use Rattle.dz_name.specs.Numbers.{number_of_two}
 use Rattle.dz_name.proofs.NumberLemmas.{length_two}
-use Rattle.dz_header.specs.Header.{header_octets}
+use Rattle.dz_header.specs.Header.{header_octets, header_in}
+use Rattle.dz_header.specs.declared.header.Header.{Header}
+use Rattle.dz_header.proofs.HeaderLemmas.{header_there}
 use Rattle.dz_record.specs.declared.fields.Field.{Field}
 use Rattle.dz_record.specs.declared.fields.Field.TheVariants.{FixedLength, DomainName}
 use Rattle.dz_record.specs.Fields.{fits, field_end, fields_of}
@@ -19,12 +23,11 @@ use Rattle.dz_record.proofs.FieldLemmas.{fits_record}
 use Rattle.dz_record.proofs.KeptLemmas.{length_octets}
 use Rattle.dz_message.specs.Query.{query_octets, query_kind, query_header, query_question, IsHeld, IsHeldSoa}
 use Rattle.dz_message.specs.Writing.{question_octets}
-use Rattle.dz_name.specs.Name.{same_name}
 use Rattle.dz_zone.specs.Version.{Zone, apex_soa}
 use Rattle.dz_zone.specs.Valid.{at_apex}
 use Rattle.dz_take.specs.Form.{base_of}
-use Rattle.dz_job.specs.Job.{JobOf}
-use Rattle.dz_fetch.specs.Query.{soa_asked}
+use Rattle.dz_take.specs.Query.{soa_asked}
+use Rattle.dz_take.specs.Transfer.{Transfer}
 
 -- ---- the RDATA of an SOA
 -- a name has at most 255 octets, and the rest of the fields stand behind it
@@ -78,7 +81,7 @@ head_long : (id : ℕ) (held : Option Record) → length (header_octets (query_h
 head_long id None = header_long id 0 1 0 0 0
 head_long id (Some r) = header_long id 0 1 0 1 0
 
-pub query_short : (id : ℕ) (zone : List (List ℕ)) (held : Option Record) → IsName zone → IsHeld held → IsHeldSoa held → length (query_octets id zone held) ≤ 65535
+pub query_short : (id : ℕ) (zone : List (List ℕ)) (held : Option Record) → IsName zone → IsHeld held → IsHeldSoa held → length (query_octets id zone held) ≤ 1066
 unfolding query_octets
 query_short id zone held name is kind =
     omega (
@@ -90,6 +93,20 @@ query_short id zone held name is kind =
       length-append (header_octets (query_header id held)) (question_octets (query_question zone held) ++ option_map_or record_octets held []),
       length-append (question_octets (query_question zone held)) (option_map_or record_octets held []),
     )
+
+pub query_long : (id : ℕ) (zone : List (List ℕ)) (held : Option Record) → 12 ≤ length (query_octets id zone held)
+unfolding query_octets
+query_long id zone held = omega (arith, head_long id held, length-append (header_octets (query_header id held)) (question_octets (query_question zone held) ++ option_map_or record_octets held []))
+
+-- its additional section is empty
+pub query_none : (id : ℕ) (zone : List (List ℕ)) (held : Option Record) → id < 2 ^ 16 → number_of_two (drop 10 (query_octets id zone held)) ≡ 0
+unfolding query_octets header_in
+query_none id zone None small =
+    let t = header_there (query_octets id zone None) id 0 1 0 0 0 (question_octets (query_question zone None) ++ []) small (omega arith) (omega arith) (omega arith) (omega arith) (omega arith) refl in
+    ap (λ (h : Header). slice_index h.counts 3) t.header_is
+query_none id zone (Some r) small =
+    let t = header_there (query_octets id zone (Some r)) id 0 1 0 1 0 (question_octets (query_question zone (Some r)) ++ record_octets r) small (omega arith) (omega arith) (omega arith) (omega arith) (omega arith) refl in
+    ap (λ (h : Header). slice_index h.counts 3) t.header_is
 
 -- ---- the held record
 found_passes : {X : Type 0} (p : X → Bool) (xs : List X) (x : X) → find p xs ≡ Some x → p x ≡ true
@@ -116,5 +133,5 @@ soa_in None = tt
 soa_in (Some zone) = soa_found zone (apex_soa zone) refl
 
 -- the record that is sent beside the question is an SOA
-pub asks_soa : (job : JobOf) → IsHeldSoa (soa_asked job)
-asks_soa job = soa_in (base_of job.flight.ask job.held)
+pub asks_soa : (t : Transfer) → IsHeldSoa (soa_asked t)
+asks_soa t = soa_in (base_of t.ask t.held)

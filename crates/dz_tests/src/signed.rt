@@ -1,0 +1,286 @@
+//! Transfers of catalogs that have keys: what is signed is taken, and of the rest the fault is told (RFC 8945).
+
+ghost use Rattle.std.specs.Prelude.{◌≡◌, [], None, IfOk};
+ghost use Rattle.dz_member.specs.Config.{IsAllowed};
+
+use crate::configs::signed_config;
+use crate::desks::open_one;
+use crate::messages::{Asked, GOOD, message, push_framed};
+use crate::records::Rdata::{Octets as Data, Soa, Target};
+use crate::records::Row;
+use crate::transfers::{CATALOG, MEMBER};
+use dz_desk::Publisher;
+use dz_fleet::{Due, Job};
+use dz_io::MemorySink;
+use dz_member::Config;
+use dz_name::Octets;
+use dz_name::dns::{CLASS_IN, TYPE_A, TYPE_AXFR, TYPE_NS, TYPE_PTR, TYPE_SOA, TYPE_TXT};
+use dz_provision::{Naming, Parts, Provisioner};
+use dz_stream::take_stream;
+use dz_tsig::{request_mac, sign_stream};
+use std::alloc::{AllocError, Global};
+use std::marker::Brand;
+use std::process::Abort;
+use std::sync::Wait;
+use std::test::*;
+
+/// The records of each message of an answer.
+type Messages = &'static [&'static [Row]];
+
+const OTHER: &str = "cat2.example.";
+
+/// The catalog, which lists the member at the label `m1` and lets the other catalog have it (RFC 9432 section 4.3.1).
+const LISTED: Messages = &[&[
+    (CATALOG, TYPE_SOA, 3600, Soa(1)),
+    (CATALOG, TYPE_NS, 3600, Target("invalid.")),
+    ("version.cat1.example.", TYPE_TXT, 0, Data(b"\x012")),
+    ("m1.zones.cat1.example.", TYPE_PTR, 0, Target(MEMBER)),
+    ("coo.m1.zones.cat1.example.", TYPE_PTR, 0, Target(OTHER)),
+    (CATALOG, TYPE_SOA, 3600, Soa(1)),
+]];
+
+/// The other catalog, which lists the member at the same label.
+const MOVED: Messages = &[&[
+    (OTHER, TYPE_SOA, 3600, Soa(1)),
+    (OTHER, TYPE_NS, 3600, Target("invalid.")),
+    ("version.cat2.example.", TYPE_TXT, 0, Data(b"\x012")),
+    ("m1.zones.cat2.example.", TYPE_PTR, 0, Target(MEMBER)),
+    (OTHER, TYPE_SOA, 3600, Soa(1)),
+]];
+
+/// The member, in three messages.
+const ZONE: Messages = &[
+    &[
+        (MEMBER, TYPE_SOA, 3600, Soa(5)),
+        (MEMBER, TYPE_NS, 3600, Target("ns.invalid.")),
+    ],
+    &[("www.example.", TYPE_A, 3600, Data(b"\xc0\0\x02\x50"))],
+    &[(MEMBER, TYPE_SOA, 3600, Soa(5))],
+];
+
+/// What is done to an answer.
+#[derive(Clone, Copy, PartialEq, Eq)]
+enum Change {
+    Nothing,
+    /// It isn't signed.
+    Unsigned,
+    /// One bit of the last MAC is turned.
+    OtherMac,
+    /// It is signed so many seconds after the query.
+    Later(u64),
+}
+
+/// What is done to the answer that gives the member, and the last line of the log.
+const CASES: &[(Change, &[u8])] = &[
+    (Change::Nothing, b"\npublished 2 example. 5\n"),
+    (Change::Later(300), b"\npublished 2 example. 5\n"),
+    (Change::Unsigned, b"\nrefused example. tsig 1\n"),
+    (Change::OtherMac, b"\nrefused example. tsig 4\n"),
+    (Change::Later(301), b"\nrefused example. tsig 5\n"),
+];
+
+/// Messages that answer a job's query for all of a zone, each after its length.
+fn octets_of(
+    rt: &impl Abort,
+    alloc: Global,
+    job: &Job,
+    zone: &'static str,
+    messages: Messages,
+) -> Result<Vec<u8>, AllocError> {
+    let asked = [(zone, TYPE_AXFR, CLASS_IN)];
+    let mut questions: &[Asked] = &asked;
+    let mut octets = Vec::new(alloc);
+    'messages: for rows in messages {
+        let message = message(rt, alloc, (job.id(), GOOD), questions, rows)?;
+        push_framed(rt, &mut octets, message.as_slice())?;
+        questions = &[];
+    }
+    Ok(octets)
+}
+
+/// These messages, signed as the answer to a job.
+fn signed(
+    rt: &impl Abort,
+    alloc: Global,
+    job: &Job,
+    messages: Vec<u8>,
+    later: u64,
+) -> Result<Vec<u8>, AllocError> {
+    let query = job.query(alloc)?;
+    let Some(key) = job.key() else {
+        panic!(rt; "the job has no key");
+    };
+    let mac = request_mac(key, query.as_slice(), job.moment());
+    let moment = job.moment().saturating_add(later);
+    match sign_stream(alloc, key, &mac, Octets::from_vec(messages), moment) {
+        Ok(octets) => Vec::from_slice(alloc, octets.as_slice()),
+        Err(error) => panic!(rt; "{error:?}"),
+    }
+}
+
+/// Turns a bit of the last MAC, after which come the original ID, the error and the length of no other data.
+fn turn(octets: &mut Vec<u8>) {
+    let place = octets.len().saturating_sub(7);
+    if let Some(octet) = octets.get_mut(place) {
+        *octet ^= 1;
+    }
+}
+
+/// What answers a job: these messages, signed and changed.
+fn answer(
+    rt: &impl Abort,
+    alloc: Global,
+    job: &Job,
+    messages: Vec<u8>,
+    change: Change,
+) -> Result<Vec<u8>, AllocError> {
+    match change {
+        Change::Unsigned => Ok(messages),
+        Change::Nothing => signed(rt, alloc, job, messages, 0),
+        Change::Later(seconds) => signed(rt, alloc, job, messages, seconds),
+        Change::OtherMac => {
+            let mut octets = signed(rt, alloc, job, messages, 0)?;
+            turn(&mut octets);
+            Ok(octets)
+        }
+    }
+}
+
+/// The job that is due.
+fn due<J: Naming>(rt: &impl Abort, provisioner: &mut Provisioner<MemorySink, J>) -> Job {
+    match provisioner.hand_out(1000) {
+        Ok(Due::Job(job)) => job,
+        _ => panic!(rt; "no job"),
+    }
+}
+
+/// Ends a job by an answer of these octets, signed and changed.
+fn end<R: Abort + Wait, J: Naming>(
+    rt: &R,
+    alloc: Global,
+    provisioner: &mut Provisioner<MemorySink, J>,
+    job: Job,
+    answer: Result<Vec<u8>, AllocError>,
+) {
+    let Ok(octets) = answer else {
+        panic!(rt; "out of memory");
+    };
+    match take_stream(alloc, &job, octets.as_slice()) {
+        Ok(finished) => match provisioner.settle(rt, alloc, job, finished, 1000) {
+            Ok(_) => {}
+            Err(_) => panic!(rt; "it isn't settled"),
+        },
+        Err(_) => panic!(rt; "out of memory"),
+    }
+}
+
+/// What answers a job for all of a zone.
+fn answered(
+    rt: &impl Abort,
+    alloc: Global,
+    job: &Job,
+    zone: (&'static str, Messages),
+    change: Change,
+) -> Result<Vec<u8>, AllocError> {
+    let (name, messages) = zone;
+    let octets = octets_of(rt, alloc, job, name, messages)?;
+    answer(rt, alloc, job, octets, change)
+}
+
+/// A provisioner of a configuration.
+fn begin<R: Abort + Wait, J: Naming>(
+    rt: &R,
+    alloc: Global,
+    config: Result<Config, AllocError>,
+    publisher: Publisher,
+) -> Provisioner<MemorySink, J>
+    requires config { IfOk config (λ c. IsAllowed c) }
+    requires publisher { (publisher.list ≡ []) × (publisher.staged ≡ None)
+        × (publisher.book ≡ J.publisher) }
+{
+    let Ok(config) = config else {
+        panic!(rt; "out of memory");
+    };
+    let output = MemorySink::new(alloc, Vec::new(alloc));
+    match Provisioner::start(rt, alloc, config, publisher, output) {
+        Ok(provisioner) => provisioner,
+        Err(_) => panic!(rt; "out of memory"),
+    }
+}
+
+/// Ends a provisioner and its publisher: what was written.
+fn written<R: Wait, J: Naming>(rt: &R, provisioner: Provisioner<MemorySink, J>) -> MemorySink {
+    let Parts {
+        fleet: _,
+        publisher,
+        output,
+        log_failed: _,
+    } = provisioner.close();
+    publisher.close(rt);
+    output
+}
+
+/// The catalog is taken, signed, and then its member is given.
+fn play<R: Abort + Wait, J: Naming>(
+    rt: &R,
+    alloc: Global,
+    publisher: Publisher,
+    change: Change,
+) -> MemorySink
+    requires { (publisher.list ≡ []) × (publisher.staged ≡ None) × (publisher.book ≡ J.publisher) }
+{
+    let config = signed_config(rt, alloc, &[(CATALOG, b"a secret")]);
+    let mut provisioner: Provisioner<MemorySink, J> = begin(rt, alloc, config, publisher);
+    let catalog = due(rt, &mut provisioner);
+    let listed = answered(rt, alloc, &catalog, (CATALOG, LISTED), Change::Nothing);
+    end(rt, alloc, &mut provisioner, catalog, listed);
+    let member = due(rt, &mut provisioner);
+    let zone = answered(rt, alloc, &member, (MEMBER, ZONE), change);
+    end(rt, alloc, &mut provisioner, member, zone);
+    written(rt, provisioner)
+}
+
+/// While the member's transfer is under way, it moves to the other catalog, which has another key.
+fn play_move<R: Abort + Wait, J: Naming>(rt: &R, alloc: Global, publisher: Publisher) -> MemorySink
+    requires { (publisher.list ≡ []) × (publisher.staged ≡ None) × (publisher.book ≡ J.publisher) }
+{
+    let config = signed_config(rt, alloc, &[(CATALOG, b"a secret"), (OTHER, b"another")]);
+    let mut provisioner: Provisioner<MemorySink, J> = begin(rt, alloc, config, publisher);
+    let catalog = due(rt, &mut provisioner);
+    let listed = answered(rt, alloc, &catalog, (CATALOG, LISTED), Change::Nothing);
+    end(rt, alloc, &mut provisioner, catalog, listed);
+    let one = due(rt, &mut provisioner);
+    let two = due(rt, &mut provisioner);
+    let (other, member) = if one.is_catalog() {
+        (one, two)
+    } else {
+        (two, one)
+    };
+    let zone = answered(rt, alloc, &member, (MEMBER, ZONE), Change::Nothing);
+    let moved = answered(rt, alloc, &other, (OTHER, MOVED), Change::Nothing);
+    end(rt, alloc, &mut provisioner, other, moved);
+    end(rt, alloc, &mut provisioner, member, zone);
+    written(rt, provisioner)
+}
+
+#[test]
+fn what_is_signed_is_taken_and_of_the_rest_the_fault_is_told(rt: HostRuntime) {
+    let alloc = rt.alloc();
+    'cases: for (change, want) in CASES {
+        let (publisher, _) = open_one(&rt, alloc);
+        let output = play::<HostRuntime, Brand>(&rt, alloc, publisher, *change);
+        assert!(rt; output.written().ends_with(want));
+    }
+}
+
+#[test]
+fn a_member_that_moved_to_another_key_is_refused_once(rt: HostRuntime) {
+    let alloc = rt.alloc();
+    let (publisher, _) = open_one(&rt, alloc);
+    let output = play_move::<HostRuntime, Brand>(&rt, alloc, publisher);
+    assert!(rt;
+        output.written().ends_with(
+            b"\nmoved example. cat1.example. cat2.example.\nrefused example. tsig 4\n"
+        )
+    );
+}

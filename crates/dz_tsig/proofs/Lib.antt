@@ -1,0 +1,9 @@
+pub mod AppendLemmas
+pub mod ChainLemmas
+pub mod HmacLemmas
+pub mod LawLemmas
+pub mod SignatureLemmas
+pub mod NumberLemmas
+pub mod PassLemmas
+pub mod WithTsigLemmas
+pub mod StreamLemmas

@@ -1,0 +1,11 @@
+pub mod Examples
+pub mod Checking
+pub mod Fault
+pub mod Hmac
+pub mod Laws
+pub mod Signature
+pub mod Numbers
+pub mod Signing
+pub mod Streams
+pub mod Tsig
+pub mod inner

@@ -1,0 +1,5 @@
+-- Inner: how the code keeps things.
+pub mod Chains
+pub mod Hashing
+pub mod Places
+pub mod Streams
