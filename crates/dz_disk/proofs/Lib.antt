@@ -1,0 +1,9 @@
+mod ActLemmas
+mod CrashLemmas
+mod LogLemmas
+mod MomentLemmas
+mod OctetLemmas
+mod PieceLemmas
+mod RecordLemmas
+mod ScanLemmas
+mod SeveralLemmas

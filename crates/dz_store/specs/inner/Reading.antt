@@ -1,0 +1,18 @@
+-- Inner: the octets of a version, read message by message.
+use Rattle.std.specs.Prelude.{◌≡◌, ℕ, ◌≤◌, ◌⊎◌, [], ◌++◌, length, take, drop, None, IsSome}
+use Rattle.dz_name.specs.Words.{Octets}
+use Rattle.dz_message.specs.Frame.{messages_in}
+use Rattle.dz_take.specs.Outcome.{decided}
+use Rattle.dz_take.specs.Transfer.{Transfer}
+
+-- a front of the octets was read, some of their messages, after which the others follow; nothing is decided before
+pub record IsFront (octets read : Octets) (place : ℕ) : Type 0 where
+  pub within : place ≤ length octets
+  pub are : read ≡ take place octets
+  pub messages : messages_in octets ≡ messages_in read ++ messages_in (drop place octets)
+
+-- messages were read until something was decided, or until none was left
+pub record HasRead (transfer : Transfer) (octets read : Octets) : Type 0 where
+  pub place : ℕ
+  pub front : IsFront octets read place
+  pub ended : (messages_in (drop place octets) ≡ []) ⊎ IsSome (decided transfer (messages_in read))
