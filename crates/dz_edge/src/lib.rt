@@ -1,4 +1,4 @@
-//! The devices of a running server: standard input and output, UDP and TCP sockets of IPv4, and the host's clock.
+//! The devices of a running server: standard input and output, UDP and TCP sockets of IPv4, the host's clock, and a file as a disk.
 #![tactic(auto)]
 
 mod address;
@@ -8,10 +8,13 @@ mod connection;
 mod crowd;
 mod frames;
 mod host_clock;
+mod host_disk;
 mod host_ports;
+mod renewing;
 mod replies;
 mod standard;
 mod stop;
+mod survey;
 mod tcp_acceptor;
 mod tcp_dialer;
 mod tcp_link;
@@ -25,6 +28,7 @@ mod watch;
 
 pub use bell::Bell;
 pub use host_clock::HostClock;
+pub use host_disk::HostDisk;
 pub use host_ports::HostPorts;
 pub use standard::{ReadSource, WriteSink};
 pub use tcp_acceptor::TcpAcceptor;

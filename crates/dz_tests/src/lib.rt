@@ -39,6 +39,8 @@ mod report;
 #[cfg(test)]
 mod signed;
 #[cfg(test)]
+mod store;
+#[cfg(test)]
 mod take;
 #[cfg(test)]
 mod transfers;
