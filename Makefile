@@ -1,19 +1,21 @@
-# catzd: build, check, install. `make` needs a Rattle kit (`rt` in PATH); the rest needs what stands beside it.
+# catzd: build, check, install. `make` needs a Rattle kit (`rt` in PATH); the rest needs what its line says.
 #
-#   make             proves and builds the program with `rt`, which does again only what changed
+#   make             proves and builds the program with `rt`, which repeats only what changed
 #   make check       the gate, `rt ci`: every proof, wrong bodies, tests, stored runs
-#   make install     puts what was built in its places; builds nothing, and leaves a configuration that is there
-#   make uninstall   takes away what install put there, but for the configuration
+#   make install     installs what was built; builds nothing, and leaves an existing configuration alone
+#   make uninstall   removes what install put there, except the configuration
 #   make check-man   compares the man pages with the program's definitions
+#   make docs        makes docs/DEFINITIONS.md from the comments of the definitions
 #   make check-docs  finds in the repository what the documents link to and name
-#   make bench       measures beside the servers that are installed (python3)
+#   make bench       measures catzd and the servers that are installed (python3)
 #   make interop     compares replies with those of the servers that are installed (python3)
 #   make downstream  has the servers that are installed take zones from catzd (python3)
 #   make validate    has unbound and delv validate the replies for signed zones (python3)
 #   make producer    has the servers that are installed serve a catalog that catzd makes (python3)
 #   make signed      has catzd take signed transfers from the servers that are installed (python3)
+#   make kept        kills catzd at a thousand moments, spoils what it keeps, and measures its starts (python3)
 #
-# There is no `make clean`: what lies in crates/*/out are proofs, which took hours.
+# There is no `make clean`: crates/*/out has proofs, which took hours.
 
 PREFIX     = /usr/local
 SBINDIR    = $(PREFIX)/sbin
@@ -74,6 +76,9 @@ check-man:
 		mandoc -T lint -W warning man/catzd.8 man/catzd.toml.5; \
 		else echo "mandoc isn't installed, and checks nothing."; fi
 
+docs:
+	$(PYTHON) tests/docs/definitions.py
+
 check-docs:
 	$(PYTHON) tests/docs/check.py
 
@@ -95,4 +100,7 @@ producer:
 signed:
 	$(PYTHON) tests/interop/signed_transfers.py
 
-.PHONY: all check install uninstall check-man check-docs bench interop downstream validate producer signed
+kept:
+	$(PYTHON) tests/load/restarts.py
+
+.PHONY: all check install uninstall check-man docs check-docs bench interop downstream validate producer signed kept

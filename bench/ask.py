@@ -52,6 +52,16 @@ class Asker:
             time.sleep(pause)
         raise TooLate(owner)
 
+    def wait_reply(self, owner, kind=wire.A, limit=20):
+        """The first reply, whatever it says."""
+        end = time.monotonic() + limit
+        while time.monotonic() < end:
+            message = self.ask(owner, kind)
+            if message is not None:
+                return message
+            time.sleep(0.001)
+        raise TooLate(owner)
+
     def wait_all(self, owners, limit=300):
         """The moment at which each of the names has an address. Those that have none yet are asked again."""
         left, end = list(owners), time.monotonic() + limit

@@ -78,8 +78,12 @@ class Server:
         words = self.words()
         self.begun = time.monotonic()
         self.process = subprocess.Popen(words, cwd=self.folder, stdin=self.input(), stdout=self.log, stderr=self.log,
-                                        preexec_fn=lambda: pin(SERVER_PROCESSORS))
+                                        preexec_fn=self.prepare)
         return self
+
+    def prepare(self):
+        """What its process does before the program."""
+        pin(SERVER_PROCESSORS)
 
     def input(self):
         return subprocess.DEVNULL

@@ -1,20 +1,22 @@
 #!/usr/bin/env python3
 """check.py: compares the documents with the repository: `python3 tests/docs/check.py`, at once.
 
-It finds each place that a page links to; each name that a table of docs/RFC.md or docs/DEFINITIONS.md has in code quotes,
-as a declaration in the file that it links to; each module of definitions on docs/DEFINITIONS.md; each crate in
-docs/ARCHITECTURE.md, in the families and the order of crates.txt; and the modules of each crate in its README's table. It
-ends with status 1 where one is missing.
+It finds each place that a page links to; each name that a table of docs/RFC.md has in code quotes, as a declaration in the
+file that it links to; each crate in docs/ARCHITECTURE.md, in the families and the order of crates.txt; and the modules of
+each crate in its README's table. It compares docs/DEFINITIONS.md with what definitions.py makes. It ends with status 1 where
+something is missing or differs.
 """
 import pathlib
 import re
 import sys
 
+import definitions
+
 ROOT = pathlib.Path(__file__).resolve().parents[2]
-PAGES = ("README.md", "docs/*.md", "bench/*.md", "tests/*/*.md", "crates/*/README.md")
-RULES, DEFINITIONS, MAP, PROVED = "docs/RFC.md", "docs/DEFINITIONS.md", "docs/ARCHITECTURE.md", "docs/PROVED.md"
+PAGES = ("README.md", "docs/*.md", "bench/*.md", "bench/programs/*.md", "tests/*/*.md", "crates/*/README.md")
+RULES, MAP, PROVED = "docs/RFC.md", "docs/ARCHITECTURE.md", "docs/PROVED.md"
 # The columns whose names are those of the files that they link to.
-COLUMNS = {RULES: ("Definition", "Function", "Seen in"), DEFINITIONS: ("Where", "Reached by")}
+COLUMNS = ("Definition", "Function", "Seen in")
 LINK = re.compile(r"\[((?:`[^`]*`|[^\]`])*)\]\(([^)\s]+)\)")
 NAME = re.compile(r"`([^`]+)`")
 # Declarations of code and of definitions; a trait's name stands in its `impl` too, and a field of a record in its lines.
@@ -52,9 +54,11 @@ def target(page, link):
 
 
 def anchors(file):
-    """The headings of a page, as links name them."""
-    headings = re.findall(r"^#+ (.*)$", file.read_text(), re.M)
-    return {re.sub(r"[^\w\- ]", "", heading.lower()).replace(" ", "-") for heading in headings}
+    """The headings of a page, as links name them, and the names that it gives to places."""
+    text = file.read_text()
+    headings = re.findall(r"^#+ (.*)$", text, re.M)
+    named = {re.sub(r"[^\w\- ]", "", heading.lower()).replace(" ", "-") for heading in headings}
+    return named | set(re.findall(r'<a id="([^"]+)"></a>', text))
 
 
 def links(seen):
@@ -67,7 +71,7 @@ def links(seen):
             if not file.exists():
                 seen.fault(f"{page} links to {link}, which isn't there")
             elif "#" in link and link.split("#")[1] not in anchors(file):
-                seen.fault(f"{page} links to {link}, which has no such heading")
+                seen.fault(f"{page} links to {link}, which has no such place")
 
 
 def declares(file, name):
@@ -89,34 +93,33 @@ def tables(page):
 
 
 def names(seen):
-    for page, columns in COLUMNS.items():
-        for row in tables(page):
-            if "" in row:
-                seen.fault(f"{page} has a row of other columns: {row['']}")
-            for column in set(columns) & set(row):
-                found = LINK.findall(row[column])
-                if not found:
-                    seen.fault(f"{page} links to nothing as {column}: {row[column]}")
-                for text, link in found:
-                    for name in NAME.findall(text):
-                        seen.count("names")
-                        file = target(page, link)
-                        if file.exists() and not declares(file, name):
-                            seen.fault(f"{page}: {link} doesn't declare {name}")
+    for row in tables(RULES):
+        if "" in row:
+            seen.fault(f"{RULES} has a row of other columns: {row['']}")
+        for column in set(COLUMNS) & set(row):
+            found = LINK.findall(row[column])
+            if not found:
+                seen.fault(f"{RULES} links to nothing as {column}: {row[column]}")
+            for text, link in found:
+                for name in NAME.findall(text):
+                    seen.count("names")
+                    file = target(RULES, link)
+                    if file.exists() and not declares(file, name):
+                        seen.fault(f"{RULES}: {link} doesn't declare {name}")
 
 
-def modules(seen):
-    """Each module whose first line says that it is what the contracts mean has a link, and the pages tell how many."""
-    linked = {target(DEFINITIONS, link).resolve() for _, link in LINK.findall(text_of(DEFINITIONS))}
-    for file in sorted(ROOT.glob("crates/*/specs/**/*.antt")):
-        if file.read_text().startswith("-- Meaning"):
-            seen.count("modules")
-            if file not in linked:
-                seen.fault(f"{DEFINITIONS} has no link to {file.relative_to(ROOT)}")
+def made(seen):
+    """The page of definitions is what the script makes, and other pages tell how many modules it has."""
+    text, modules, unused = definitions.page()
+    seen.counts["modules"] = modules
+    if text != text_of(definitions.PAGE):
+        seen.fault(f"{definitions.PAGE} isn't what `make docs` makes")
+    for key in unused:
+        seen.fault(f"{definitions.SENTENCES} has a sentence that isn't needed: {key}")
     for page in ("README.md", PROVED):
         told = re.findall(r"(\d+) modules of `crates/\*/specs/`", text_of(page))
-        if told != [str(seen.counts["modules"])]:
-            seen.fault(f"{page} tells of {told} modules that begin with Meaning, and there are {seen.counts['modules']}")
+        if told != [str(modules)]:
+            seen.fault(f"{page} tells of {told} modules that begin with Meaning, and there are {modules}")
 
 
 def crates(seen):
@@ -146,7 +149,7 @@ def tables_of_crates(seen):
 
 def main():
     seen = Comparison()
-    for check in (links, names, modules, crates, tables_of_crates):
+    for check in (made, links, names, crates, tables_of_crates):
         check(seen)
     print(", ".join(f"{number} {what}" for what, number in seen.counts.items()))
     print(f"{seen.faults} faults")

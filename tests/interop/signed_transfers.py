@@ -321,7 +321,8 @@ def first_line(folder, key, wanted, faults, label, what, environment=None):
     catzd = Secondary(folder, [table(CATALOG, PEER_PORT, key)], [key, KEY], environment)
     catzd.start()
     is_seen = catzd.wait(wanted)
-    lines = [line for line in catzd.lines() if line.startswith(("refused", "published", "failed"))]
+    # the first job fails, since nothing is kept
+    lines = [line for line in catzd.lines() if line.startswith(("refused", "published", "failed"))][1:]
     faults += [f"{label}: {fault}" for fault in catzd.end()]
     print(f"{label}: {what}: {lines[0] if lines else 'nothing'}", flush=True)
     if not is_seen:
@@ -516,13 +517,14 @@ CONFIGURATIONS = (
 )
 
 
-def try_configurations(faults):
+def try_configurations(folder, faults):
     """What is said of a configuration with a fault, and that it has no secret."""
+    folder.mkdir()
     for what, text, number in CONFIGURATIONS:
         whole = f'listen = "127.0.0.1:{CATZD_PORT}"\n' + table(CATALOG, PEER_PORT, None, text)
         try:
             done = subprocess.run([servers.Catzd.program, "serve"], input=whole, capture_output=True, text=True, timeout=5,
-                                  check=False)
+                                  check=False, cwd=folder)
         except subprocess.TimeoutExpired:
             faults.append(f"configuration: {what} was taken")
             continue
@@ -615,7 +617,7 @@ def go(parts, chosen, given):
         if "moved" in parts:
             tried(faults, "moved", lambda: try_moves(folder / "moved", faults))
         if "config" in parts:
-            try_configurations(faults)
+            try_configurations(folder / "configurations", faults)
         if "cpu" in parts and others:
             tried(faults, "CPU", lambda: measure(others[0], folder / "cpu", given.records, given.rounds, faults))
     return faults

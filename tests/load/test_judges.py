@@ -6,6 +6,7 @@ import unittest
 
 sys.path.insert(0, str(pathlib.Path(__file__).resolve().parents[2] / "bench"))
 import datagrams
+import kept
 import story
 import wire
 import zones
@@ -76,6 +77,49 @@ class Story(unittest.TestCase):
         answers = [wire.Record(b"", wire.TXT, 1, 0, wire.txt(text)) for text in ("4", "5")]
         with self.assertRaises(story.Wrong):
             story.said_by(wire.Message(1, 0x8400, None, answers, [], []))
+
+
+def record(payload):
+    return b"\1" + len(payload).to_bytes(8, "big") + payload
+
+
+class Account(unittest.TestCase):
+    """`kept.Account` and `kept.kept_in`."""
+    first = ("job 1 catalog.test. axfr id 1 at 127.0.0.1:1", "failed catalog.test.")
+    taken = ("job 2 catalog.test. axfr id 2 at 127.0.0.1:1", "published 1 catalog.test. 1", "added a.test. catalog.test.",
+             "added b.test. catalog.test.", "job 3 a.test. axfr id 3 at 127.0.0.1:1", "published 2 a.test. 7")
+    changed = ("job 4 catalog.test. ixfr 1 id 4 at 127.0.0.1:1", "published 3 catalog.test. 2",
+               "removed a.test. catalog.test.")
+
+    def account(self, *lines):
+        account = kept.Account()
+        self.assertEqual(account.read(lines), [])
+        return account
+
+    def test_last_line(self):
+        account = self.account(*self.first, *self.taken)
+        self.assertEqual([account.allowed(zone) for zone in ("a.test.", "b.test.")],
+                         [{kept.WAITING, 7}, {kept.WAITING}])
+
+    def test_changes_of_a_catalog(self):
+        lines = (*self.first, *self.taken, *self.changed)
+        self.assertEqual(self.account(*lines).allowed("a.test."), {7, kept.WAITING, None})
+        self.assertEqual(self.account(*lines, "notify b.test. taken").allowed("a.test."), {None})
+
+    def test_lost(self):
+        account = self.account(*self.first, *self.taken, "notify b.test. taken")
+        self.assertEqual(len(account.faults({"a.test.": 6, "b.test.": kept.WAITING})), 1)
+        self.assertEqual(len(account.faults({"a.test.": 8, "b.test.": 1})), 2)
+        self.assertEqual(len(account.read(self.first)), 2)
+
+    def test_file(self):
+        version = zones.Zone("a.test.", 7)
+        whole = record(b"\1" + wire.name("a.test.") + wire.name("c.test.") + b"\2m1" + bytes(8) + version.whole(0))
+        gone = record(b"\2" + wire.name("a.test."))
+        self.assertEqual(kept.kept_in(whole + b"\0"), {"a.test.": 7})
+        self.assertEqual(kept.kept_in(whole[:-1]), {})
+        self.assertEqual(kept.kept_in(whole + gone[:-1]), {"a.test.": 7})
+        self.assertEqual(kept.kept_in(whole + gone), {})
 
 
 if __name__ == "__main__":

@@ -2,7 +2,7 @@
 """check.py: compares the man pages with what the program's definitions say, both ways.
 
 It reads each form of a line of the log from the definitions (crates/dz_report/specs/Lines.antt and Reason.antt,
-crates/dz_serve/specs/Command.antt), each exit status from crates/catzd/src, and the keys, faults, policies and limits of
+crates/dz_provision/specs/Log.antt, crates/dz_serve/specs/Command.antt), each exit status from crates/catzd/src, and the keys, faults, policies and limits of
 a configuration from crates/dz_config and crates/dz_member, and finds each in man/catzd.8 and man/catzd.toml.5; and it
 finds nothing there that the definitions don't have. It ends with status 1 where the two differ, or where it can't read a
 definition.
@@ -13,10 +13,11 @@ import sys
 
 ROOT = pathlib.Path(__file__).resolve().parents[2]
 LINES, REASONS = "crates/dz_report/specs/Lines.antt", "crates/dz_report/specs/Reason.antt"
+UNKEPT = "crates/dz_provision/specs/Log.antt"
 COMMAND, FAULTS = "crates/dz_serve/specs/Command.antt", "crates/dz_config/specs/Reading.antt"
-KEYS, LIMITS = "crates/dz_config/specs/Document.antt", "crates/dz_member/src/limits.rt"
-POLICIES = "crates/dz_member/src/peer.rt"
-STATUS, MAIN = "crates/catzd/src/running.rt", "crates/catzd/src/main.rt"
+KEYS, LIMITS = "crates/dz_config/specs/Document.antt", "crates/dz_settings/src/limits.rt"
+POLICIES = "crates/dz_settings/src/peer.rt"
+STATUS, MAIN = "crates/dz_run/src/commands.rt", "crates/catzd/src/main.rt"
 PROGRAM, CONFIGURATION = "man/catzd.8", "man/catzd.toml.5"
 # The crates whose code writes lines, and the page with the commands that the man page leaves out.
 WRITERS = ("catzd", "dz_serve", "dz_provision", "dz_report")
@@ -111,7 +112,7 @@ class Forms:
         head, *rest = term
         if head == "codes":
             return {rest[0].strip('"')}
-        if head == "decimal" or head == "text_of":
+        if head in ("decimal", "text_of", "printed"):
             return {self.value(rest[0])}
         if head == "end":
             return {form + "\n" for form in self.forms(rest[0])}
@@ -150,6 +151,7 @@ def log_forms():
     unused = {name for name in forms.found if name.endswith(("_line", "_lines", "_word", "reason_of"))} - forms.used
     if unused:
         raise Unread(f"definitions that no line stands on: {unused}")
+    lines |= {form.rstrip() for form in Forms(UNKEPT).of("unkept_text")}
     bad = re.search(r'^bad_config fault = codes "(.*?)"', text_of(COMMAND), re.M)
     if not bad:
         raise Unread(COMMAND)

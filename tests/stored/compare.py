@@ -28,7 +28,7 @@ def stored(script, output):
 def main():
     examples = CRATES / "dz_reply/specs/Examples.antt"
     proved = theorems(examples.read_text())
-    ran = stored((CRATES / "catzd/stdin").read_text(), (CRATES / "catzd/stdout").read_text())
+    ran = stored((CRATES / "dz_stories/stdin").read_text(), (CRATES / "dz_stories/stdout").read_text())
     for theorem, exchange in zip(proved, ran):
         if theorem != exchange:
             sys.exit(f"the theorem {theorem[0]} and the exchange {exchange[0]} differ:\n{theorem}\n{exchange}")

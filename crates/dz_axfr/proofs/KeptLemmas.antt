@@ -7,16 +7,16 @@ use Rattle.std.specs.List.{AllByRecursion, position}
 use Rattle.dz_name.specs.Words.{Name}
 use Rattle.dz_record.specs.Record.{Record}
 use Rattle.dz_record.specs.Records.{distinct}
-use Rattle.dz_form.specs.declared.fault.Progress.{Progress}
-use Rattle.dz_form.specs.declared.fault.Progress.TheVariants.{More, Ended}
-use Rattle.dz_form.specs.declared.fault.FeedError.{FeedError}
-use Rattle.dz_form.specs.declared.fault.FeedError.TheVariants.{Shape, OutOfMemory}
-use Rattle.dz_form.specs.declared.fault.ShapeFault.TheVariants.{SerialGap, AfterEnd}
-use Rattle.dz_form.specs.Apex.{is_apex_soa}
-use Rattle.dz_form.specs.Feeding.{IsOpen, Says}
-use Rattle.dz_form.specs.Place.{amid, ended, failed, read, said}
-use Rattle.dz_form.specs.Stands.{Stands, more, complete, is_complete, IsComplete}
-use Rattle.dz_form.proofs.ReadingLemmas.{stays_failed, read_pieces}
+use Rattle.dz_xfr.specs.declared.fault.Progress.{Progress}
+use Rattle.dz_xfr.specs.declared.fault.Progress.TheVariants.{More, Ended}
+use Rattle.dz_xfr.specs.declared.fault.FeedError.{FeedError}
+use Rattle.dz_xfr.specs.declared.fault.FeedError.TheVariants.{Shape, OutOfMemory}
+use Rattle.dz_xfr.specs.declared.fault.ShapeFault.TheVariants.{SerialGap, AfterEnd}
+use Rattle.dz_xfr.specs.Apex.{is_apex_soa}
+use Rattle.dz_xfr.specs.Feeding.{IsOpen, Says}
+use Rattle.dz_xfr.specs.Place.{amid, ended, failed, read, said}
+use Rattle.dz_xfr.specs.Stands.{Stands, more, complete, is_complete, IsComplete}
+use Rattle.dz_xfr.proofs.ReadingLemmas.{stays_failed, read_pieces}
 use Rattle.dz_axfr.specs.Assembly.{Assembly}
 use Rattle.dz_axfr.specs.Whole.{IsWhole, Blames}
 use Rattle.dz_axfr.specs.Reading.{nothing, opened, one, place_of}
@@ -83,7 +83,7 @@ module _ (apex : Name) where
   pub still_open : (kept fed : List Record) (progress : Progress) → IsKept apex kept progress fed → IsOpen (IsWhole apex) Blames fed → progress ≡ More
   still_open kept fed progress k o = more_amid progress kept (whole_stands_once apex fed more o ∙ ap said k.place)
 
-  -- what the records lead to behind those that were fed
+  -- what the records lead to after those that were fed
   pub fed_on : (kept fed records : List Record) (progress : Progress) → IsKept apex kept progress fed → IsOpen (IsWhole apex) Blames fed → place_of apex (fed ++ records) ≡ read (one apex) (kept_place More kept) records
   fed_on kept fed records progress k o =
       let f = still_open kept fed progress k o in
@@ -99,7 +99,7 @@ module _ (apex : Name) where
   says_place (Err (Shape fault)) old new all records x e = rw (e ∙ x.1) at (whole_stands apex all)
   says_place (Err OutOfMemory) old new all records x e = tt
 
-  -- what `extend` left says what stands of all records
+  -- what `extend` left says what holds of all records
   pub extended_says : (result : Result Progress FeedError) (old new fed records : List Record) (progress : Progress) → IsKept apex old progress fed → IsOpen (IsWhole apex) Blames fed → Extends apex old records result new
       → Says result (Stands (IsWhole apex) Blames (fed ++ records))
   extended_says result old new fed records progress k o x = says_place result old new (fed ++ records) records x (fed_on old fed records progress k o)

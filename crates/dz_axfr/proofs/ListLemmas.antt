@@ -1,11 +1,11 @@
--- Where the first element of a list that passes a test stands.
+-- Where the first element of a list that passes a test is.
 use Rattle.std.proofs.Common.{◌≡◌, ℕ, zero, suc, ◌<◌, ◌≤◌, Bool, true, false, List, [], ◌∷◌, ◌++◌, length, take, drop, get_or, cond, nat_lt, subst, refl, sym, ap, arith, Some, None}
 use Rattle.std.proofs.lemmas.Bool.Decides.{nat_tests}
 use Rattle.std.proofs.lemmas.List.{take_all}
 use Rattle.std.proofs.lemmas.List.Sums.{fails_before_first}
 use Rattle.std.specs.List.{AllByRecursion, position, position_or_len}
 
--- none of those in front passes
+-- none of those before it passes
 pub front_fails : {X : Type 0} (p : X → Bool) (xs : List X) (i : ℕ) (d : X) → ((k : ℕ) → k < i → k < length xs → p (get_or xs k d) ≡ false) → AllByRecursion (λ x. p x ≡ false) (take i xs)
 front_fails p [] zero d h = tt
 front_fails p [] (suc i) d h = tt
@@ -24,7 +24,7 @@ none_passes p (x ∷ xs) e =
     subst (λ l. AllByRecursion (λ y. p y ≡ false) l) (take_all (length (x ∷ xs)) (x ∷ xs) (omega arith))
     (front_fails p (x ∷ xs) (length (x ∷ xs)) x (λ k b i. fails_before_first p (x ∷ xs) k x (omega arith)))
 
--- what stands behind a place
+-- what follows a place
 pub some_behind : {X : Type 0} (xs : List X) (n : ℕ) → n < length xs → (y : X) × (ys : List X) × (drop n xs ≡ y ∷ ys)
 some_behind [] n h = absurd (omega arith)
 some_behind (x ∷ xs) zero h = (x, xs, refl)

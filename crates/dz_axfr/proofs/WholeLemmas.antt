@@ -10,12 +10,12 @@ use Rattle.dz_name.specs.Order.{same_decides}
 use Rattle.dz_name.specs.declared.dns.TheConstants.{TYPE_SOA}
 use Rattle.dz_record.specs.Record.{Record}
 use Rattle.dz_record.specs.Records.{distinct}
-use Rattle.dz_form.specs.declared.fault.ShapeFault.{ShapeFault}
-use Rattle.dz_form.specs.declared.fault.ShapeFault.TheVariants.{NotSoaFirst, SerialGap}
-use Rattle.dz_form.specs.Apex.{is_apex_soa}
-use Rattle.dz_form.specs.Place.{amid, ended, failed, read}
-use Rattle.dz_form.specs.Stands.{Stands, Reading}
-use Rattle.dz_form.proofs.ReadingLemmas.{Agrees, ended_alone, failed_not_ended, ended_not_amid, failed_not_amid, reading_stands, stands_once}
+use Rattle.dz_xfr.specs.declared.fault.ShapeFault.{ShapeFault}
+use Rattle.dz_xfr.specs.declared.fault.ShapeFault.TheVariants.{NotSoaFirst, SerialGap}
+use Rattle.dz_xfr.specs.Apex.{is_apex_soa}
+use Rattle.dz_xfr.specs.Place.{amid, ended, failed, read}
+use Rattle.dz_xfr.specs.Stands.{Stands, Reading}
+use Rattle.dz_xfr.proofs.ReadingLemmas.{Agrees, ended_alone, failed_not_ended, ended_not_amid, failed_not_amid, reading_stands, stands_once}
 use Rattle.dz_axfr.specs.Whole.{IsWhole, Blames}
 use Rattle.dz_axfr.specs.Reading.{Amid, nothing, opened, one, reading_of}
 
@@ -45,7 +45,7 @@ module _ (apex : Name) where
   to_end : (records zone : List Record) → IsWhole apex records zone → read (one apex) (amid nothing) records ≡ ended zone
   to_end records zone w = rw (w.are, w.zone_is) (read_whole w.first w.last w.body w.opens w.inner w.closes w.same)
 
-  -- what stands behind the first SOA and a front of the body, up to the end
+  -- what follows the first SOA and a prefix of the body, up to the end
   record Rest (first : Record) (front rest zone : List Record) : Type 0 where
     body : List Record
     last : Record
@@ -101,7 +101,7 @@ module _ (apex : Name) where
             record { first = first; body = w.body; last = w.last; are = ap (λ l. first ∷ l) w.are; opens = t; inner = w.inner; closes = w.closing; same = w.same; zone_is = w.zone_is }
       ]
 
-  -- a place amid the form: the first SOA and a front of the body were read
+  -- a place amid the form: the first SOA and a prefix of the body were read
   amid_body : (first : Record) (front rest : List Record) (x : Amid) → read (one apex) (amid (opened first front)) rest ≡ amid x → (body : List Record) × (x ≡ opened first body)
   amid_body first front [] x e = (front, cc)
   amid_body first front (r ∷ rest) x e =

@@ -4,23 +4,27 @@ use Rattle.dz_name.specs.Words.{Name, Kind, Octets}
 use Rattle.dz_name.specs.declared.dns.TheConstants.{TYPE_A, TYPE_NS, TYPE_SOA}
 use Rattle.dz_record.specs.Record.{Record}
 use Rattle.dz_record.specs.Records.{distinct}
-use Rattle.dz_form.specs.Stands.{more, complete, misfit}
-use Rattle.dz_form.specs.declared.fault.ShapeFault.TheVariants.{NotSoaFirst, AfterEnd, SerialGap}
+use Rattle.dz_xfr.specs.Stands.{more, complete, misfit}
+use Rattle.dz_xfr.specs.declared.fault.ShapeFault.TheVariants.{NotSoaFirst, AfterEnd, SerialGap}
 use Rattle.dz_axfr.specs.Reading.{reading_of}
 
--- zone.
+-- the apex zone.
 abbrev apex : Name
 apex = codes "zone" ∷ []
 
+-- a record of this type, owner name and RDATA, with a TTL of 3600
 abbrev record_of : Kind → Name → Octets → Record
 record_of kind owner rdata = record { owner = owner; kind = kind; ttl = 3600; rdata = rdata }
 
+-- an SOA of the apex, of shortened RDATA
 abbrev soa : Record
 soa = record_of TYPE_SOA apex (7 ∷ [])
 
+-- an NS record of the apex
 abbrev ns : Record
 ns = record_of TYPE_NS apex []
 
+-- an A record below the apex
 abbrev address : Record
 address = record_of TYPE_A (codes "a" ∷ apex) (192 ∷ 0 ∷ 2 ∷ 1 ∷ [])
 

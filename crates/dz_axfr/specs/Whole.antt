@@ -4,9 +4,9 @@ use Rattle.std.specs.List.{AllByRecursion}
 use Rattle.dz_name.specs.Words.{Name}
 use Rattle.dz_record.specs.Record.{Record}
 use Rattle.dz_record.specs.Records.{distinct}
-use Rattle.dz_form.specs.declared.fault.ShapeFault.{ShapeFault}
-use Rattle.dz_form.specs.declared.fault.ShapeFault.TheVariants.{NotSoaFirst, SerialGap}
-use Rattle.dz_form.specs.Apex.{is_apex_soa}
+use Rattle.dz_xfr.specs.declared.fault.ShapeFault.{ShapeFault}
+use Rattle.dz_xfr.specs.declared.fault.ShapeFault.TheVariants.{NotSoaFirst, SerialGap}
+use Rattle.dz_xfr.specs.Apex.{is_apex_soa}
 
 -- an SOA of the apex, a body without one, and an SOA of the apex with the first one's RDATA. The zone has the first SOA
 -- and the body; of records that are the same the first is kept (RFC 2181 section 5)
@@ -21,8 +21,8 @@ pub record IsWhole (apex : Name) (records zone : List Record) : Type 0 where
   pub same : last.rdata ≡ first.rdata
   pub zone_is : zone ≡ distinct (first ∷ body)
 
--- the fault of the first record with which no whole form goes on: in front it isn't an SOA of the apex, and elsewhere it
--- is one with other RDATA
+-- the fault of the first record with which no whole form goes on: at the beginning it isn't an SOA of the apex, and
+-- elsewhere it is one with other RDATA
 abbrev pub Blames : List Record → Record → ShapeFault → Type 0
 Blames [] r fault = fault ≡ NotSoaFirst
 Blames (first ∷ front) r fault = fault ≡ SerialGap

@@ -3,5 +3,5 @@
 
 mod whole;
 
-pub use dz_form::{FeedError, Progress, ShapeFault};
+pub use dz_xfr::{FeedError, Progress, ShapeFault};
 pub use whole::{Whole, whole_form};

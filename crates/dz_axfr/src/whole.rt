@@ -4,20 +4,20 @@ ghost use Rattle.std.specs.Prelude.{◌≡◌, ◌∷◌, ◌++◌, [], IfOk, On
 ghost use Rattle.std.specs.List.{position};
 ghost use Rattle.dz_name.specs.declared.dns.TheConstants.{TYPE_SOA};
 ghost use Rattle.dz_record.specs.Records.{distinct};
-ghost use Rattle.dz_form.specs.Apex.{is_apex_soa};
-ghost use Rattle.dz_form.specs.Feeding.{IsOpen, Says};
-ghost use Rattle.dz_form.specs.Stands.{Stands, IsComplete};
+ghost use Rattle.dz_xfr.specs.Apex.{is_apex_soa};
+ghost use Rattle.dz_xfr.specs.Feeding.{IsOpen, Says};
+ghost use Rattle.dz_xfr.specs.Stands.{Stands, IsComplete};
 ghost use Rattle.dz_axfr.specs.Laws.{ReadingStands, NothingElse};
 ghost use Rattle.dz_axfr.specs.Whole.{IsWhole, Blames};
 ghost use Rattle.dz_axfr.specs.inner.Kept.{OpensAt, Extends};
 
-use dz_form::{Fed, FeedError, Progress, ShapeFault, is_apex_soa, same_rdata};
 use dz_name::Name;
 use dz_record::Rr;
+use dz_xfr::{Fed, FeedError, Progress, ShapeFault, is_apex_soa, same_rdata};
 use std::alloc::{AllocError, Global};
 use std::marker::Model;
 
-/// The records of a whole form so far: the first SOA, and behind it the body. Contracts see all records that were fed.
+/// The records of a whole form so far: the first SOA, followed by the body. Contracts see all records that were fed.
 #[derive(Drop)]
 pub struct Whole {
     apex: Name,
@@ -38,7 +38,7 @@ impl Model for Whole {
 }
 
 impl Whole {
-    /// A form that begins with this SOA, whose owner is the apex.
+    /// A form that begins with this SOA, whose owner name is the apex.
     ///
     /// # Errors
     ///
@@ -60,12 +60,13 @@ impl Whole {
         })
     }
 
-    /// Reads on: whether the records that were fed are a whole form, or more is to come. After the end it is fed no more.
+    /// Reads further records: whether the records that were fed are a whole form, or more is to come. Once it has ended
+    /// nothing more may be fed.
     ///
     /// # Errors
     ///
-    /// The fault of the first record with which no whole form goes on, or `AfterEnd` where records stand behind one; or
-    /// want of memory. An error leaves the assembler as it was.
+    /// The fault of the first record with which no whole form goes on, or `AfterEnd` where records follow one; or out
+    /// of memory. An error leaves the assembler as it was.
     pub fn feed(&mut self, records: Vec<Rr>) -> Result<Progress, FeedError>
         requires { IsOpen (IsWhole self.old.apex) Blames self.old.fed }
         ensures apex { self.new.apex ≡ self.old.apex }
@@ -94,7 +95,7 @@ impl Whole {
     }
 }
 
-/// Where the first SOA of the apex stands.
+/// The index of the first SOA of the apex; `None` where there is none.
 fn first_soa(apex: &Name, records: &[Rr]) -> Option<usize>
     ensures { result ≡ position (is_apex_soa apex.now) records.now }
 {
@@ -102,6 +103,10 @@ fn first_soa(apex: &Name, records: &[Rr]) -> Option<usize>
 }
 
 /// Appends the records up to the closing SOA, if it is there and closes the form.
+///
+/// # Errors
+///
+/// `SerialGap` where the SOA has other RDATA than the first, `AfterEnd` where records follow it; or out of memory.
 fn extend(apex: &Name, kept: &mut Vec<Rr>, mut records: Vec<Rr>) -> Result<Progress, FeedError>
     requires { OpensAt apex.now kept.old.items }
     ensures { Extends apex.now kept.old.items records.items result kept.new.items }
@@ -125,7 +130,7 @@ fn extend(apex: &Name, kept: &mut Vec<Rr>, mut records: Vec<Rr>) -> Result<Progr
     }
 }
 
-/// What the reading of the whole form says of a list of records is what stands of the list, and nothing else does.
+/// What the reading of the whole form says of a list of records is what holds of the list, and nothing else does.
 #[tactic(auto, using(crate::proofs::WholeLemmas::whole_stands_once))]
 pub fn whole_form()
     ensures stands { ReadingStands }

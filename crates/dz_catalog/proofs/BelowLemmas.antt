@@ -1,4 +1,4 @@
--- In a zone in order the records of a node's properties stand right behind the node's own.
+-- In a zone in order the records of a node's properties follow the node's own directly.
 use Rattle.std.proofs.Common.{◌≡◌, ℕ, ◌+◌, ◌<◌, Bool, true, false, cond, List, [], ◌∷◌, ◌++◌, length, take, drop, get_or, refl, sym, ◌∙◌, ap, subst, arith, inl, inr, zero, suc, add-one}
 use Rattle.std.specs.Prelude.{filter, find, map, ◌==◌, slice_get, Option, Some, None, if◌then◌else◌}
 use Rattle.std.specs.Option.{option_map, option_and_then}
@@ -61,7 +61,7 @@ not_at kind name r other =
       | inr f ↦ f
     ]
 
--- a record that doesn't come behind the node is none of a name below it
+-- a record that doesn't come after the node is none of a name below it
 front : (kind : ℕ) (label : List ℕ) (node : List (List ℕ)) (x : Record) → is_gt (canonical_order x.owner node) ≡ false → is_at kind (label ∷ node) x ≡ false
 front kind label node x h =
     not_at kind (label ∷ node) x (λ e.
@@ -73,7 +73,7 @@ none_of : (p : Record → Bool) (xs : List Record) → AllByRecursion (λ x. p x
 none_of p [] h = refl
 none_of p (x ∷ xs) h = rw h.0 (none_of p xs h.1)
 
--- behind a record that isn't within the node none is
+-- after a record that isn't within the node none is
 past : (kind : ℕ) (label : List ℕ) (node : List (List ℕ)) (y z : Record) → is_within y.owner node ≡ false → is_lt (canonical_order y.owner node) ≡ false → record_order y z ≡ Less → is_at kind (label ∷ node) z ≡ false
 past kind label node y z out low less =
     not_at kind (label ∷ node) z (λ e.

@@ -46,7 +46,7 @@ sibling z l m =
     let b : reverse (m ∷ z) ≡ reverse z ++ m ∷ [] = reverse-append (m ∷ []) z in
     rw (a, b) (behind_same (reverse z) l m)
 
--- the owner of a member record is its label in front of zones
+-- the owner of a member record is its label followed by `zones`
 owner_is : (apex : List (List ℕ)) (name : List (List ℕ)) (label : List ℕ) → is_node apex name ≡ true → first_label name ≡ Some label → name ≡ label ∷ zones_of apex
 owner_is apex [] label h f = absurd (cc)
 owner_is apex (l ∷ above) label h f =

@@ -54,7 +54,7 @@ tail_within : (label : List ℕ) (labels above : List (List ℕ)) → length (wi
 tail_within label labels above h ([], e) = absurd (let n : length (wire_of (label ∷ labels)) ≡ length (wire_of above) = ap (λ x. length (wire_of x)) e in omega arith)
 tail_within label labels above h (first ∷ front, e) = (front, ap (drop 1) e)
 
--- what stands behind the first label of a longer name is within another where the name is
+-- what follows the first label of a longer name is within another where the name is
 pub tail_is : (name above rest : List (List ℕ)) → length (wire_of above) < length (wire_of name) → rest ≡ drop 1 name → is_within rest above ≡ is_within name above
 tail_is [] above rest h e = absurd (let n = some_label [] above h in omega arith)
 tail_is (label ∷ labels) above rest h e =

@@ -1,4 +1,4 @@
--- Meaning: what is wrong with a catalog zone (RFC 9432 sections 4.1, 4.2.1 and 4.3.1). The records of the zone stand in
+-- Meaning: what is wrong with a catalog zone (RFC 9432 sections 4.1, 4.2.1 and 4.3.1). The records of the zone are in
 -- any order, and no two of them are the same.
 use Rattle.std.specs.Prelude.{Bool, ◌==◌, ◌&&◌, not, nat_lt, List, ◌∷◌, codes, Option, Some, None, if◌then◌else◌}
 use Rattle.std.specs.List.{list_any, count_by}
@@ -10,7 +10,7 @@ use Rattle.dz_record.specs.Record.{Record}
 use Rattle.dz_zone.specs.Valid.{some_two, both_are}
 use Rattle.dz_member.specs.declared.listing.Node.{Node}
 use Rattle.dz_member.specs.Listing.{same_zone}
-use Rattle.dz_member.specs.Twice.{has_twice}
+use Rattle.dz_settings.specs.Twice.{has_twice}
 use Rattle.dz_catalog.specs.Member.{is_node, is_coo, is_member, nodes_of}
 use Rattle.dz_member.specs.declared.listing.Broken.{Broken}
 use Rattle.dz_member.specs.declared.listing.Broken.TheVariants.{NoVersion, VersionTwice, OtherVersion, MemberTwice, CooTwice, TooManyMembers, ZoneTwice}
@@ -20,20 +20,23 @@ use Rattle.dz_member.specs.declared.listing.TheConstants.Listing.{NODES}
 abbrev pub version_name : Name → Name
 version_name apex = codes "version" ∷ apex
 
--- a record of the version
+-- a TXT record of the schema's version
 abbrev pub is_version : Name → Record → Bool
 is_version apex r = r.kind == TYPE_TXT && same_name r.owner (version_name apex)
 
--- the version of catalogs as defined: one character string, 2
+-- the RDATA of the one version that is defined: one character string, 2 (RFC 9432 section 4.2.1)
 abbrev pub version_2 : Octets
 version_2 = 1 ∷ codes "2"
 
+-- no TXT record gives the schema's version (RFC 9432 section 4.2.1)
 abbrev pub no_version : Name → List Record → Bool
 no_version apex records = not (list_any (is_version apex) records)
 
+-- there is more than one such record
 abbrev pub version_twice : Name → List Record → Bool
 version_twice apex records = nat_lt 1 (count_by (is_version apex) records)
 
+-- the version is another one (RFC 9432 section 4.2.1)
 abbrev pub other_version : Name → List Record → Bool
 other_version apex records = list_any (λ r. is_version apex r && not (same_label r.rdata version_2)) records
 

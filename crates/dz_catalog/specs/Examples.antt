@@ -12,38 +12,47 @@ use Rattle.dz_catalog.specs.Broken.{broken_records, twins}
 use Rattle.dz_catalog.specs.Listing.{listing_of}
 use Rattle.dz_catalog.specs.Member.{node_of}
 
+-- a record by its type, owner and RDATA
 abbrev record_of : Kind → Name → Octets → Record
 record_of kind owner rdata = record { owner = owner; kind = kind; ttl = 0; rdata = rdata }
 
--- the catalog c., and the name of its member node m
+-- the catalog `c.`
 abbrev apex : Name
 apex = codes "c" ∷ []
 
+-- the name of a member node, by its label
 abbrev node : Octets → Name
 node label = label ∷ codes "zones" ∷ apex
 
--- records of the version, of a member, of its change of ownership and of its group; zones have one letter
+-- the TXT record of the version, by its RDATA
 abbrev version_text : Octets → Record
 version_text rdata = record_of TYPE_TXT (codes "version" ∷ apex) rdata
 
+-- the record of version 2
 abbrev version : Record
 version = version_text (1 ∷ codes "2")
 
+-- the wire form of the member zone `a.`
 abbrev zone_a : Octets
 zone_a = 1 ∷ 97 ∷ 0 ∷ []
 
+-- the wire form of the member zone `b.`
 abbrev zone_b : Octets
 zone_b = 1 ∷ 98 ∷ 0 ∷ []
 
+-- a member record, by its label and its zone
 abbrev member : Octets → Octets → Record
 member label zone = record_of TYPE_PTR (node label) zone
 
+-- a change of ownership, by the node's label and the new catalog
 abbrev coo : Octets → Octets → Record
 coo label catalog = record_of TYPE_PTR (codes "coo" ∷ node label) catalog
 
+-- a group record, by the node's label and the RDATA
 abbrev group : Octets → Octets → Record
 group label rdata = record_of TYPE_TXT (codes "group" ∷ node label) rdata
 
+-- a node without properties
 abbrev plain : Octets → Name → Node
 plain label zone = record { label = label; zone = zone; coo = None; groups = [] }
 
@@ -96,7 +105,7 @@ pub one_zone : listing_of apex (version ∷ member (codes "m") zone_a ∷ member
 unfolding broken_records twins some_two both_are in_order insertion node_of labels_in
 one_zone = refl
 
--- properties are read in any order of the records; groups stand in the order of their octets, nodes in that of labels
+-- properties are read in any order of the records; groups are in the order of their octets, nodes in that of labels
 pub properties : listing_of apex (group (codes "n") (codes "z") ∷ member (codes "n") zone_b ∷ coo (codes "m") zone_b ∷ group (codes "n") (codes "b") ∷ member (codes "m") zone_a ∷ version ∷ [])
     ≡ Ok (record { label = codes "m"; zone = codes "a" ∷ []; coo = Some (codes "b" ∷ []); groups = [] } ∷ record { label = codes "n"; zone = codes "b" ∷ []; coo = None; groups = codes "b" ∷ codes "z" ∷ [] } ∷ [])
 unfolding broken_records twins some_two both_are in_order insertion node_of labels_in

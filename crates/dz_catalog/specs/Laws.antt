@@ -1,4 +1,4 @@
--- Judge: a catalog's listing doesn't hang on the order of its records (RFC 9432 section 4).
+-- Judge: a catalog's listing doesn't depend on the order of its records (RFC 9432 section 4).
 use Rattle.std.specs.Prelude.{◌≡◌, List}
 use Rattle.dz_name.specs.Words.{Name}
 use Rattle.dz_record.specs.Record.{Record}

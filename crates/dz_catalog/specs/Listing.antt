@@ -9,15 +9,16 @@ use Rattle.dz_member.specs.declared.listing.Broken.{Broken as Reason}
 use Rattle.dz_catalog.specs.declared.fault.CatalogError.{CatalogError}
 use Rattle.dz_catalog.specs.declared.fault.CatalogError.TheVariants.{Broken, OutOfMemory}
 
--- the member nodes that a catalog lists, or the first reason why it is broken
+-- a listing of member nodes, or the reason why the catalog is broken
 abbrev pub listing_from : List Node → Option Reason → Result (List Node) Reason
 listing_from nodes None = Ok nodes
 listing_from nodes (Some reason) = Err reason
 
+-- the member nodes that a catalog lists, or the first reason why it is broken
 abbrev pub listing_of : Name → List Record → Result (List Node) Reason
 listing_of apex records = listing_from (nodes_of apex records) (broken_of apex records)
 
--- what a call read: that listing or that reason; want of memory tells nothing
+-- what a call read: that listing or that reason; out of memory tells nothing
 abbrev pub Reads : Result (List Node) CatalogError → Result (List Node) Reason → Type 0
 Reads (Ok nodes) listing = listing ≡ Ok nodes
 Reads (Err (Broken reason)) listing = listing ≡ Err reason

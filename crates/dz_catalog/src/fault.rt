@@ -11,13 +11,14 @@ use std::alloc::AllocError;
 pub enum CatalogError {
     /// The catalog is broken.
     Broken(Broken),
-    /// Memory is wanting.
+    /// Out of memory.
     OutOfMemory,
 }
 
 impl From<AllocError> for CatalogError {
     ghost from_gives = { λ _ e. e ≡ OutOfMemory };
 
+    /// Out of memory becomes [`CatalogError::OutOfMemory`].
     fn from(_error: AllocError) -> CatalogError {
         CatalogError::OutOfMemory
     }

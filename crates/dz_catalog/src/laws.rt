@@ -2,7 +2,7 @@
 
 ghost use Rattle.dz_catalog.specs.Laws.{OrderIsFree};
 
-/// What a catalog lists, or why it is broken, doesn't hang on the order of its records.
+/// What a catalog lists, or why it is broken, doesn't depend on the order of its records.
 pub fn order_is_free()
     ensures { OrderIsFree }
 {}

@@ -1,12 +1,12 @@
 //! What a catalog zone lists (RFC 9432 section 4): its member nodes with their properties, or why it is broken.
 #![tactic(auto)]
 
+mod broken;
 mod fault;
-mod judging;
 mod laws;
 mod listing;
 mod names;
-mod reading;
+mod nodes;
 
 pub use fault::CatalogError;
 pub use laws::order_is_free;

@@ -7,24 +7,25 @@ ghost use Rattle.dz_catalog.specs.Broken.{broken_records};
 ghost use Rattle.dz_catalog.specs.inner.Count.{by_count};
 ghost use Rattle.dz_catalog.specs.Listing.{Reads, listing_of};
 
+use crate::broken::broken_records;
 use crate::fault::CatalogError;
-use crate::judging::broken_records;
-use crate::reading::nodes;
+use crate::nodes::nodes;
 use dz_member::{Broken, Listing};
 use dz_name::Name;
 use dz_record::Rr;
 use dz_zone::Version;
 use std::alloc::Global;
 
-/// What a catalog's version lists: its member nodes with their zones, changes of ownership and groups (RFC 9432
-/// section 4), in the order of their labels. An error is the first reason why the catalog is broken, or want of memory.
+/// What a catalog's version lists: its member nodes with their zones, changes of ownership and groups (RFC 9432 section
+/// 4), in the order of their labels. An error is the first reason why the catalog is broken, or out of memory.
 pub fn read_listing(alloc: Global, version: &Version) -> Result<Listing, CatalogError>
     ensures { Reads result (listing_of version.now.apex version.now.records) }
 {
     read_listing_after(alloc, version, None)
 }
 
-/// The same, in less time where most of the nodes stand at their labels in a listing before.
+/// The same, in less time where most of the nodes are at their labels in an earlier listing. Errors are those of
+/// [`read_listing`].
 pub fn read_listing_after(
     alloc: Global,
     version: &Version,
@@ -38,8 +39,8 @@ pub fn read_listing_after(
     }
 }
 
-/// The listing of records that no reason breaks but for the number of members and the zones. Nodes that aren't too many
-/// make no listing only where two name one zone.
+/// The listing of records that are broken by no reason other than the number of members and their zones. Nodes that
+/// aren't too many make no listing only where two name one zone. Errors are those of [`read_listing`].
 fn read_nodes(
     alloc: Global,
     apex: &Name,

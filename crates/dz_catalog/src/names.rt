@@ -1,4 +1,4 @@
-//! Names of a catalog zone, told where they lie in the records.
+//! Names of a catalog zone, read where they are in the records.
 
 ghost use Rattle.std.specs.Prelude.{◌≡◌, ◌∷◌, ◌&&◌, ◌<◌, codes, length, MatchBool};
 ghost use Rattle.std.specs.Option.{option_map};
@@ -10,7 +10,7 @@ use dz_name::dns::{TYPE_CNAME, TYPE_DNAME, TYPE_NS, TYPE_PTR};
 use dz_name::{Label, Name, NameRef};
 use dz_record::Rr;
 
-/// Whether it is the root, whose wire form alone is one octet.
+/// Whether the name is the root: no other name has a wire form of one octet.
 fn is_root(name: &NameRef) -> bool
     ensures { MatchBool result (length name.now ≡ 0) (0 < length name.now) }
 {
@@ -28,7 +28,7 @@ fn parent<'a>(name: &NameRef<'a>) -> Option<NameRef<'a>>
     }
 }
 
-/// The octets of the first label, where they lie; none of the root.
+/// The octets of the first label, without a copy; none of the root.
 fn first_label<'a>(name: &NameRef<'a>) -> Option<&'a [u8]>
     ensures { option_map (λ label. label.now) result ≡ first_label name.now }
 {
@@ -60,7 +60,7 @@ fn begins_with(label: &[u8], name: &NameRef) -> bool
     }
 }
 
-/// Whether a name is that one with this label in front.
+/// Whether a name is this label followed by the other name.
 pub(crate) fn is_child(name: &NameRef, label: &[u8], above: &NameRef) -> bool
     ensures { result ≡ same_name name.now (label.now ∷ above.now) }
 {
@@ -70,7 +70,7 @@ pub(crate) fn is_child(name: &NameRef, label: &[u8], above: &NameRef) -> bool
     }
 }
 
-/// Whether a name is another one or stands below it. One that is not longer is told at once, and so is a child.
+/// Whether a name is another one or is below it. A name that is not longer, and a child, are quick to tell.
 pub(crate) fn is_below(name: &NameRef, above: &NameRef) -> bool
     ensures { result ≡ is_within name.now above.now }
 {
@@ -101,7 +101,7 @@ pub(crate) fn is_coo(apex: &Name, name: &NameRef) -> bool
     }
 }
 
-/// The name that an NS, CNAME, PTR or DNAME leads to, where it lies; none for every other type.
+/// The name that an NS, CNAME, PTR or DNAME leads to, without a copy; none for every other type.
 pub(crate) fn target_of(found: &Rr) -> Option<NameRef<'_>>
     ensures { result ≡ target_of found.now }
 {
@@ -112,7 +112,7 @@ pub(crate) fn target_of(found: &Rr) -> Option<NameRef<'_>>
     }
 }
 
-/// Whether records of the type lead to a name, which is their whole RDATA.
+/// Whether records of the type have a name as their whole RDATA.
 fn has_target(kind: u16) -> bool
     ensures { result ≡ has_target kind }
 {

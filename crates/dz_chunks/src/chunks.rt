@@ -7,7 +7,7 @@ ghost use Rattle.dz_chunks.specs.Map.{last_upto, without_key};
 ghost use Rattle.dz_chunks.specs.inner.Chunked.{flat, IsChunked};
 
 use crate::chunk::{Chunk, chunk_for, count_entries, last_among, push_chunk, value_among};
-use crate::cutting::cut;
+use crate::cut::cut;
 use crate::entries::{with_entry, without_entry};
 use crate::entry::Entry;
 use crate::joins::rebuilt;

@@ -4,7 +4,7 @@
 mod block;
 mod chunk;
 mod chunks;
-mod cutting;
+mod cut;
 mod entries;
 mod entry;
 mod joins;

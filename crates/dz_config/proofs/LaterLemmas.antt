@@ -4,14 +4,14 @@ use Rattle.std.specs.Prelude.{Option, Some, None, Result, Ok, Err, nat_le, nat_l
 use Rattle.std.specs.List.{fold, list_any}
 use Rattle.std.specs.Option.{option_and_then, option_map_or}
 use Rattle.dz_io.specs.declared.peer.Peer.{Peer}
-use Rattle.dz_member.specs.Config.{is_within_limits, has_each_once, has_secrets}
-use Rattle.dz_member.specs.declared.config.CatalogSettings.{CatalogSettings}
+use Rattle.dz_settings.specs.Config.{is_within_limits, has_each_once, has_secrets}
+use Rattle.dz_settings.specs.declared.config.CatalogSettings.{CatalogSettings}
 use Rattle.dz_name.specs.Text.{name_of_text}
 use Rattle.dz_name.specs.Words.{Name}
 use Rattle.toml.specs.Data.{Data, Members, get_member, as_str, as_array, as_table}
 use Rattle.dz_config.specs.Config.{IsDocument, IsFaultOf}
 use Rattle.dz_config.specs.Document.{is_key, keys_of, known, wanted, list_of, text_at, values_at, name_read, name_from, policy_from, peer_from, primary_of, primaries_of, group_in, group_of, groups_from, secret_from, key_in, key_from, catalog_in, catalog_of, catalogs_of, host_from, downstream_host, hosts_from, addresses_of, settings_of, judged, said_of, config_of}
-use Rattle.dz_member.specs.Peer.{policy_of, host_of, peer_of}
+use Rattle.dz_settings.specs.Peer.{policy_of, host_of, peer_of}
 use Rattle.dz_config.specs.Reading.{Reading, number_of, least, both, made, read_in, more, gathered}
 use Rattle.dz_config.specs.declared.config.Said.{Said}
 use Rattle.dz_config.specs.declared.fault.ConfigFault.{ConfigFault}

@@ -2,10 +2,10 @@
 use Rattle.std.proofs.Common.{◌≡◌, List, Option, refl, sym, ap, ◌∙◌}
 use Rattle.std.specs.Prelude.{codes, Err}
 use Rattle.dz_io.specs.declared.peer.Peer.{Peer}
-use Rattle.dz_member.specs.declared.config.CatalogSettings.{CatalogSettings}
-use Rattle.dz_member.specs.declared.config.GroupSettings.{GroupSettings}
-use Rattle.dz_member.specs.declared.config.Policy.{Policy}
-use Rattle.dz_member.specs.declared.key.Key.{Key}
+use Rattle.dz_settings.specs.declared.config.CatalogSettings.{CatalogSettings}
+use Rattle.dz_settings.specs.declared.config.GroupSettings.{GroupSettings}
+use Rattle.dz_settings.specs.declared.config.Policy.{Policy}
+use Rattle.dz_settings.specs.declared.key.Key.{Key}
 use Rattle.dz_name.specs.Words.{Name, Octets}
 use Rattle.toml.specs.Data.{Members}
 use Rattle.dz_config.specs.Document.{known, text_at, name_from, policy_from, peer_from, primaries_of, groups_of, key_of, group_in, catalog_in, catalogs_of, hosts_of, settings_of}

@@ -1,7 +1,7 @@
--- Meaning: what a text configures, or its first fault.
+-- Meaning: what a text configures, or its least fault.
 use Rattle.std.specs.Prelude.{◌≡◌, ◌≤◌, List, length, Some, Result, Ok, Err, ⊤, IsUtf8}
 use Rattle.dz_io.specs.declared.peer.Peer.{Peer}
-use Rattle.dz_member.specs.declared.config.CatalogSettings.{CatalogSettings}
+use Rattle.dz_settings.specs.declared.config.CatalogSettings.{CatalogSettings}
 use Rattle.dz_name.specs.Words.{Octets}
 use Rattle.toml.specs.Data.{Members}
 use Rattle.toml.specs.Parse.{parse_document}
@@ -25,21 +25,21 @@ pub record IsFaultOf (text : Octets) (fault : ConfigFault) : Type 0 where
   pub least : (table : Members) → IsDocument text table → config_of table ≡ Err fault
   pub document : (fault ≡ NotToml → ⊥) → (table : Members) × IsDocument text table
 
--- what a call read: what the text's document gives, or its fault; want of memory tells nothing
+-- what a call read: what the text's document gives, or its fault; out of memory tells nothing
 abbrev pub ReadsBy : {X : Type 0} → (Members → Reading X) → Octets → Result X ConfigError → Type 0
 ReadsBy read text (Ok x) = (table : Members) × IsDocument text table × (read table ≡ Ok x)
 ReadsBy read text (Err (Fault fault)) = IsFaultOf text fault
 ReadsBy read text (Err OutOfMemory) = ⊤
 
--- the configuration
+-- what a call read of the configuration
 abbrev pub Reads : Octets → Result (Peer × List CatalogSettings) ConfigError → Type 0
 Reads text result = ReadsBy config_of text result
 
--- the addresses to which zones are sent
+-- what a call read of the addresses to which zones are sent
 abbrev pub ReadsDownstream : Octets → Result (List Octets) ConfigError → Type 0
 ReadsDownstream text result = ReadsBy downstream_of text result
 
--- the same of a document
+-- what a call read of a document: what it says, or its fault; out of memory tells nothing
 abbrev pub ReadsTable : Result Said ConfigError → Reading Said → Type 0
 ReadsTable (Ok said) reading = reading ≡ Ok said
 ReadsTable (Err (Fault fault)) reading = reading ≡ Err fault

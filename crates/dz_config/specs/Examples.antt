@@ -2,15 +2,16 @@
 use Rattle.std.specs.Prelude.{◌≡◌, refl, pos, [], ◌∷◌, replicate, Option, Some, None, Ok, Err, codes}
 use Rattle.hex.specs.Hex.{decode_pairs}
 use Rattle.toml.specs.Data.{Data, Items, string, integer, array, table, no_items, item, Members, no_members, member}
-use Rattle.dz_member.specs.declared.config.CatalogSettings.{CatalogSettings}
-use Rattle.dz_member.specs.declared.config.Policy.TheVariants.{Off}
-use Rattle.dz_member.specs.declared.key.Key.{Key}
+use Rattle.dz_settings.specs.declared.config.CatalogSettings.{CatalogSettings}
+use Rattle.dz_settings.specs.declared.config.Policy.TheVariants.{Off}
+use Rattle.dz_settings.specs.declared.key.Key.{Key}
 use Rattle.dz_name.specs.Name.{wire_of}
 use Rattle.dz_name.specs.Text.{items, labels_from, with_label, name_of_text}
 use Rattle.dz_name.specs.Words.{Octets}
 use Rattle.dz_config.specs.Document.{catalog_in, config_of}
 use Rattle.dz_config.specs.declared.fault.ConfigFault.TheVariants.{UnknownKey, MissingValue, BadName, BadPeer, OutOfLimits, Twice, BadSecret}
 
+-- an address at which the peer listens
 abbrev listen : Data
 listen = string (codes "192.0.2.10")
 
@@ -36,16 +37,20 @@ bad_host = refl
 pub no_hosts : config_of (member (codes "catalog") (array no_items) (member (codes "downstream") (array no_items) (member (codes "listen") listen no_members))) ≡ Err OutOfLimits
 no_hosts = refl
 
--- ---- keys: a catalog with these further members, and with primaries or none
+-- ---- keys
+-- one primary
 abbrev primaries : Items
 primaries = item (string (codes "192.0.2.1")) no_items
 
+-- a catalog with these primaries, and with further members
 abbrev catalog : Items → Members → Members
 catalog hosts more = member (codes "name") (string (codes "c")) (member (codes "policy") (string (codes "off")) (member (codes "primaries") (array hosts) more))
 
+-- the name of a key, before further members
 abbrev key : Octets → Members → Members
 key name more = member (codes "key") (string name) more
 
+-- the secret of a key in hex
 abbrev secret : Octets → Members
 secret text = member (codes "secret") (string text) no_members
 
@@ -53,9 +58,11 @@ secret text = member (codes "secret") (string text) no_members
 abbrev document : Items → Members
 document catalogs = member (codes "catalog") (array catalogs) (member (codes "listen") listen no_members)
 
+-- a document of one catalog
 abbrev one : Members → Members
 one catalog = document (item (table catalog) no_items)
 
+-- the settings of that catalog with this key
 abbrev read_with : Option Key → CatalogSettings
 read_with key = record { name = codes "c" ∷ []; policy = Off; primaries = record { address = 192 ∷ 0 ∷ 2 ∷ 1 ∷ []; port = 53 } ∷ []; groups = []; key = key }
 

@@ -1,4 +1,4 @@
--- Judge: that a text is no TOML is told of such texts alone.
+-- Judge: only texts that are no TOML document are said to be none.
 use Rattle.dz_name.specs.Words.{Octets}
 use Rattle.toml.specs.Data.{Members}
 use Rattle.dz_config.specs.Config.{IsDocument, IsFaultOf}

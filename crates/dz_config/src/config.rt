@@ -9,7 +9,7 @@ use crate::document::settings;
 use crate::downstream::Downstream;
 use crate::fault::{ConfigError, ConfigFault};
 use dz_io::Peer;
-use dz_member::{Config, Peers};
+use dz_settings::{Config, Peers};
 use std::alloc::Global;
 use toml::Table;
 
@@ -24,7 +24,7 @@ pub struct Said {
     pub downstream: Downstream,
 }
 
-/// Where the server listens, and its catalogs, as a TOML text has them. An error is the least fault that holds, or want
+/// Where the server listens, and its catalogs, as a TOML text has them. An error is the least fault that holds, or out
 /// of memory.
 pub fn read_config(alloc: Global, text: &[u8]) -> Result<(Peer, Config), ConfigError>
     ensures { Reads text.now result }
@@ -33,8 +33,8 @@ pub fn read_config(alloc: Global, text: &[u8]) -> Result<(Peer, Config), ConfigE
     Ok((listen, config))
 }
 
-/// The addresses to which zones are sent, as a TOML text has them; none where it has no such key. An error is that of
-/// [`read_config`].
+/// The addresses to which zones are sent, as a TOML text has them; none where it doesn't have the key. An error is that
+/// of [`read_config`].
 pub fn read_downstream(alloc: Global, text: &[u8]) -> Result<Downstream, ConfigError>
     ensures { ReadsDownstream text.now result }
 {
@@ -42,6 +42,7 @@ pub fn read_downstream(alloc: Global, text: &[u8]) -> Result<Downstream, ConfigE
     Ok(said.downstream)
 }
 
+/// What a text says. An error is that of [`read_config`].
 fn read_said(alloc: Global, text: &[u8]) -> Result<Said, ConfigError>
     ensures { ReadsBy said_of text.now result }
 {
@@ -60,7 +61,7 @@ fn read_said(alloc: Global, text: &[u8]) -> Result<Said, ConfigError>
     }
 }
 
-/// What a document says.
+/// What a document says. An error is its least fault, or out of memory.
 fn read_table(alloc: Global, table: &Table) -> Result<Said, ConfigError>
     ensures { ReadsTable result (said_of (table_view table.now)) }
 {
@@ -73,7 +74,8 @@ fn read_table(alloc: Global, table: &Table) -> Result<Said, ConfigError>
     }
 }
 
-/// Settings whose counts and words are within their limits, in which nothing stands twice, and whose secrets can be used.
+/// Settings whose counts and words are within their limits, in which nothing appears twice, and whose secrets can be
+/// used. The error is the first of these that doesn't hold.
 fn judge(settings: (Peer, (Config, Peers))) -> Result<Said, ConfigFault>
     ensures { result ≡ judged settings }
 {

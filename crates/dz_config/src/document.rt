@@ -1,4 +1,6 @@
-//! The settings in a document's tables, or the least of the faults found in them.
+//! The settings in a document's tables, or the least of the faults found in them. Where a function has two errors, the
+//! outer one is out of memory and the inner one is the least fault; `BadName`, `UnknownPolicy` and `BadPeer` are the
+//! faults of texts.
 
 ghost use Rattle.std.specs.Prelude.{◌≡◌, IfOk, Some, [], map, codes};
 ghost use Rattle.toml.specs.View.{view, table_view};
@@ -7,14 +9,14 @@ ghost use Rattle.dz_config.specs.Reading.{both, made, read_in, gathered};
 
 use crate::fault::ConfigFault;
 use crate::keys::{Place, known};
-use crate::reading::{both, more};
+use crate::least_fault::{both, more};
 use crate::tree::{table_of, text_at, text_of, value_at, values_at};
 use dz_io::Peer;
-use dz_member::{
+use dz_name::{Name, Octets};
+use dz_settings::{
     CatalogSettings, Config, GroupSettings, Groups, Key, Peers, Policy, Secret, read_host,
     read_peer, read_policy,
 };
-use dz_name::{Name, Octets};
 use hex::FromHexError;
 use std::alloc::{AllocError, Global};
 use toml::{Table, Value};
@@ -183,7 +185,7 @@ fn groups(
     Ok(all)
 }
 
-/// The groups of a catalog; none where it has no such key.
+/// The groups of a catalog; none where it doesn't have the key.
 fn groups_at(alloc: Global, table: &Table) -> Result<Result<Groups, ConfigFault>, AllocError>
     ensures { IfOk result (λ r. r ≡ groups_of (table_view table.now)) }
 {
@@ -219,7 +221,7 @@ fn secret_kept(octets: &[u8]) -> Secret
     }
 }
 
-/// The secret of a text in hex; that of no octets where it is no such.
+/// The secret of a text in hex; that of no octets where the text isn't hex. The error is out of memory.
 fn secret_from(alloc: Global, text: &str) -> Result<Secret, AllocError>
     ensures { IfOk result (λ o. o ≡ secret_from text.now) }
 {
@@ -399,7 +401,7 @@ fn hosts(alloc: Global, values: &[Value]) -> Result<Result<Vec<Peer>, ConfigFaul
     Ok(all)
 }
 
-/// The hosts to which zones are sent; none where there is no such key.
+/// The hosts to which zones are sent; none where the document doesn't have the key.
 fn hosts_at(alloc: Global, table: &Table) -> Result<Result<Peers, ConfigFault>, AllocError>
     ensures { IfOk result (λ r. r ≡ hosts_of (table_view table.now)) }
 {

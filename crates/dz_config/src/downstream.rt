@@ -58,7 +58,7 @@ impl Downstream {
         })
     }
 
-    /// The same addresses once more.
+    /// A copy of the addresses.
     pub fn copied(&self) -> Downstream
         ensures { result ≡ self.now }
     {

@@ -1,4 +1,4 @@
-//! Why a text configures nothing.
+//! Why a text is no configuration.
 
 ghost use Rattle.std.specs.Prelude.{◌≡◌};
 ghost use Rattle.dz_config.specs.Reading.{number_of, least};
@@ -11,7 +11,7 @@ use std::alloc::AllocError;
 pub enum ConfigFault {
     /// The text is longer than 1,048,576 octets ([`crate::TEXT_OCTETS`]), or it is no TOML.
     NotToml,
-    /// A table has a key that it doesn't know.
+    /// A table has an unknown key.
     UnknownKey,
     /// A key is missing, or its value is of another kind.
     MissingValue,
@@ -19,11 +19,11 @@ pub enum ConfigFault {
     BadName,
     /// A policy is none of `off`, `present` and `require`.
     UnknownPolicy,
-    /// A host is no address and no address with a port.
+    /// A host is neither an address nor an address with a port.
     BadPeer,
     /// There are too few or too many catalogs, groups or primaries, or a word isn't 1 to 255 octets of visible ASCII.
     OutOfLimits,
-    /// A catalog stands twice, or a word twice in one catalog.
+    /// A catalog appears twice, or a word twice in one catalog.
     Twice,
     /// A secret isn't hex of 1 to 64 octets.
     BadSecret,
@@ -64,13 +64,14 @@ pub(crate) fn least(one: ConfigFault, other: ConfigFault) -> ConfigFault
 pub enum ConfigError {
     /// The text has none.
     Fault(ConfigFault),
-    /// No memory is left.
+    /// Out of memory.
     OutOfMemory,
 }
 
 impl From<AllocError> for ConfigError {
     ghost from_gives = { λ _ e. e ≡ OutOfMemory };
 
+    /// Out of memory becomes [`ConfigError::OutOfMemory`].
     fn from(_error: AllocError) -> ConfigError {
         ConfigError::OutOfMemory
     }

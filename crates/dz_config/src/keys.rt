@@ -9,18 +9,18 @@ ghost use Rattle.dz_config.specs.Document.{is_key, known};
 use crate::fault::ConfigFault;
 use toml::Table;
 
-/// Which table it is.
+/// A table of a configuration.
 #[derive(Clone, Copy, Debug, PartialEq, Eq)]
 pub enum Place {
-    /// The whole document.
+    /// The whole document, before every table.
     Document,
-    /// A catalog.
+    /// A catalog, `[[catalog]]`.
     Catalog,
-    /// A group of a catalog.
+    /// A group of a catalog, `[[catalog.group]]`.
     Group,
 }
 
-/// Whether a table of this place knows the key.
+/// Whether the key is one of a table of this place.
 fn is_key(place: Place, key: &[u8]) -> bool
     ensures { result ≡ is_key place key.now }
 {
@@ -53,7 +53,7 @@ fn has_unknown(place: Place, table: &Table) -> bool
     table.keys().any(|key| !is_key(place, key.as_bytes()))
 }
 
-/// That each key is known, or the fault that one isn't.
+/// Success where each key of a table is known, or the fault `UnknownKey`.
 pub(crate) fn known(place: Place, table: &Table) -> Result<(), ConfigFault>
     ensures { result ≡ known place (table_view table.now) }
 {

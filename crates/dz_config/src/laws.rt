@@ -2,7 +2,7 @@
 
 ghost use Rattle.dz_config.specs.Laws.{NotTomlIsExact};
 
-/// A text of which `NotToml` is told is no document.
+/// A text that is said to be `NotToml` is no document.
 pub fn not_toml_is_exact()
     ensures { NotTomlIsExact }
 {}

@@ -1,4 +1,5 @@
-//! Values of a table, by their keys and kinds.
+//! Values of a table, by their keys and kinds. The error of all functions is `MissingValue`: there is no value at the
+//! key, or it is of another kind.
 
 ghost use Rattle.std.specs.Prelude.{◌≡◌, map, option_map};
 ghost use Rattle.std.specs.Option.{option_and_then};

@@ -7,7 +7,7 @@ use Rattle.dz_history.specs.Heard.{heard_at}
 use Rattle.dz_desk.specs.declared.ear.Hearing.{Hearing}
 use Rattle.dz_desk.specs.declared.ear.Hearing.TheVariants.{Heard, LogFault}
 
--- by the primaries after a list; or the log failed, where it may fail
+-- a NOTIFY is answered by the primaries after a list; or the log failed, where it may
 abbrev pub IsHeard : Type 0 → List Entry → Peer → Name → Hearing → Type 0
 IsHeard may_fail list peer zone (Heard heard) = heard ≡ heard_at list peer zone
 IsHeard may_fail list peer zone LogFault = may_fail

@@ -9,6 +9,7 @@ pub record Page : Type 0 where
   pub list : List Entry
   pub book : Book
 
+-- a page of this list and this book
 abbrev pub page : List Entry → Book → Page
 page list book = record { list = list; book = book }
 
@@ -31,7 +32,7 @@ pub record Viewed : Type 0 where
 abbrev pub IsFresh : Book → Viewed → Type 0
 IsFresh book r = (r.list ≡ []) × (r.is_out ≡ false) × (r.sights ≡ 0) × (r.refusals ≡ 0) × (r.book ≡ book)
 
--- a page goes on as another: of the same book, with a list that begins with the one's
+-- a page is continued by another: of the same book, with a list that begins with its own
 abbrev pub Goes : Page → Page → Type 0
 Goes x y = IsPrefix x.list y.list × (y.book ≡ x.book)
 
@@ -39,9 +40,10 @@ Goes x y = IsPrefix x.list y.list × (y.book ≡ x.book)
 abbrev pub raised : ℕ → ℕ
 raised n = min (n + 1) (2 ^ 64 - 1)
 
--- a reading after a look that showed a list, and after one that was refused
+-- a reading after a look that showed a list
 abbrev pub shown : Viewed → List Entry → Viewed
 shown r list = record r { list = list; is_out = true; sights = raised r.sights }
 
+-- a reading after a look that was refused
 abbrev pub refused : Viewed → Viewed
 refused r = record r { refusals = raised r.refusals }

@@ -4,11 +4,10 @@ use Rattle.crossbeam_utils.specs.Register.{Admits, TurnsAt, Turns, Forks, Merges
 use Rattle.dz_desk.specs.Seen.{Page, Goes}
 use Rattle.dz_desk.specs.Rule.{Keeps, Sees}
 
--- There are eight kinds. From any state that keeps the rule:
--- making the pair, whose publisher has seen nothing, and handing out a reading, which has seen nothing, keep it;
--- publishing a page that the published one goes on as, and entering, keep it, and show that page to the seat;
--- a note of what a seat saw keeps it, and so does learning, by which another seat has seen what was noted.
--- Leaving, and ending the pair, change nothing of which it speaks.
+-- There are eight kinds, each from any state that keeps the rule. Making the pair, whose publisher has seen nothing,
+-- and handing out a reading, which has seen nothing, keep it. Publishing a page that continues the published one, and
+-- entering, keep it, and show that page to the seat. A note of what a seat saw keeps it, and so does learning, by which
+-- another seat has seen what was noted. Leaving, and ending the pair, change nothing of which it speaks.
 pub record StepsKeep : Type 0 where
   pub making : (published : Page) → Keeps published (None ∷ [])
   pub handing_out : Admits Keeps None

@@ -7,7 +7,7 @@ use crossbeam_utils::rule::{Outcome, Protocol};
 /// What a seat saw last. It is never made at run time.
 pub(crate) type Last = Option<Edition>;
 
-/// What each seat saw goes on as what is published.
+/// What each seat saw is continued by what is published.
 pub(crate) struct Board;
 
 impl Protocol<Edition, Last> for Board {

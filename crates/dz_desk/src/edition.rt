@@ -38,7 +38,7 @@ impl Edition {
         Edition { table, told }
     }
 
-    /// The same once more. It shares the table.
+    /// One more owner of this edition, which shares the table; the error is that one more can't be counted.
     pub(crate) fn share(&self) -> Result<Edition, AllocError>
         ensures { IfOk result (λ edition. edition ≡ self.now) }
     {
@@ -63,7 +63,7 @@ impl Edition {
     }
 }
 
-/// What is put behind an edition is the edition that comes next.
+/// What is put after an edition is the edition that comes next.
 impl Absorb<Edition> for Edition {
     type State = Edition;
 
@@ -71,11 +71,13 @@ impl Absorb<Edition> for Edition {
 
     ghost applied = { λ edition next. next };
 
+    /// The first copy becomes an owner of the next edition's parts; the error is that one more can't be counted.
     fn absorb_first(&mut self, operation: &Edition, _other: &Edition) -> Result<(), AllocError> {
         *self = operation.share()?;
         Ok(())
     }
 
+    /// The second copy becomes the next edition itself; it never fails.
     fn absorb_second(&mut self, operation: Edition, _other: &Edition) -> Result<(), Edition> {
         *self = operation;
         Ok(())

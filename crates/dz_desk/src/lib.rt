@@ -10,7 +10,7 @@ mod ledger;
 mod open;
 mod publisher;
 mod reading;
-mod showing;
+mod show;
 mod told;
 
 pub use ear::{Ear, Hearing};

@@ -7,7 +7,7 @@ use crate::board::Look;
 use crate::edition::Edition;
 use crate::publisher::Publisher;
 use crate::reading::Reading;
-use crate::showing::Showing;
+use crate::show::Showing;
 use crate::told::Told;
 use dz_table::Table;
 use left_right::writer::Writer;
@@ -31,7 +31,7 @@ pub enum DeskError {
     NoSeat,
 }
 
-/// Opens a desk with so many readings. Its list has no entry. It waits for nobody but its own readings.
+/// Opens a desk with this many readings. Its list has no entry. It waits for nobody but its own readings.
 pub fn open_desk<R: Wait>(rt: &R, alloc: Global, readers: u8) -> Result<Desk, DeskError>
     requires { 0 < readers }
     ensures list { IfOk result (λ desk. desk.publisher.list ≡ []) }
@@ -55,8 +55,8 @@ pub fn open_desk<R: Wait>(rt: &R, alloc: Global, readers: u8) -> Result<Desk, De
     }
 }
 
-/// A publisher with room for so many readings. The list without an entry is published once, which makes the room that
-/// later lists want.
+/// A publisher with room for this many readings. The list without an entry is published once, which makes the room that
+/// later lists need.
 fn open_publisher<R: Wait>(rt: &R, alloc: Global, readers: u8) -> Result<Publisher, AllocError>
     requires { 0 < readers }
     ensures { IfOk result (λ p. (p.list ≡ []) × (p.staged ≡ None)) }
@@ -82,7 +82,7 @@ fn open_publisher<R: Wait>(rt: &R, alloc: Global, readers: u8) -> Result<Publish
     })
 }
 
-/// So many readings.
+/// This many readings.
 fn hand_out(
     alloc: Global,
     publisher: &mut Publisher,

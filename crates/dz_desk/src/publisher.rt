@@ -10,7 +10,7 @@ use crate::board::Note;
 use crate::edition::Edition;
 use crate::ledger::Length;
 use crate::reading::Reading;
-use crate::showing::{Showing, show};
+use crate::show::{Showing, show};
 use crate::told::Told;
 use dz_history::Step;
 use std::alloc::AllocError;

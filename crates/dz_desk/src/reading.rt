@@ -122,7 +122,7 @@ impl Reading {
     }
 
     /// Looks at the published list. It may see it as it was at an earlier time, but no shorter than it saw it before.
-    /// None names no cause; it comes after the publisher's end.
+    /// `None` names no cause; it comes after the publisher has ended.
     pub fn see(&mut self) -> Option<Sight>
         requires { self.old.is_out ≡ false }
         ensures seen { IsPrefix self.old.list self.new.list }
@@ -164,7 +164,7 @@ impl Reading {
     }
 
     /// Sees all that was told, and waits until it has. Its looks aren't counted. After the publisher's end it may wait
-    /// for ever.
+    /// forever.
     pub fn learn<R: Wait>(&mut self, rt: &R, told: Told)
         requires out { self.old.is_out ≡ false }
         requires own { told.book ≡ self.old.book }

@@ -45,7 +45,7 @@ impl Told {
         (Told { count: 0, reached }, word)
     }
 
-    /// The same note once more.
+    /// A copy of the note.
     pub(crate) fn again(&self) -> Told
         ensures { result ≡ self.now }
     {
@@ -77,7 +77,7 @@ impl Told {
         true
     }
 
-    /// Enters an entry behind the list. None comes where the book has another length, and nothing has changed.
+    /// Appends an entry to the list. `None` comes where the book has another length, and nothing has changed.
     pub(crate) fn and(&self, word: &Length, entry: &Entry) -> Option<Told>
         requires own { word.now ≡ length_of self.now.book }
         requires room { length self.now.list < 2 ^ 64 - 1 }

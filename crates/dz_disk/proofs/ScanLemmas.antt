@@ -4,7 +4,7 @@ use Rattle.std.specs.Prelude.{slice_get}
 use Rattle.dz_disk.specs.Disk.{IsSure}
 use Rattle.dz_disk.specs.RecordLog.{body, log, records, IsPayload, ArePayloads, IsAtRest, IsSettled}
 use Rattle.dz_disk.specs.inner.Reading.{IsRecords, IsAll, IsFound}
-use Rattle.dz_disk.specs.declared.reading.Found.TheVariants as found
+use Rattle.dz_disk.specs.declared.scan.Found.TheVariants as found
 use Rattle.dz_disk.proofs.OctetLemmas.{at_place, same_front, same_rest}
 use Rattle.dz_disk.proofs.RecordLemmas.{records_nil, shut, records_log, records_shut, log_push, length-log_push, fits_push}
 use Rattle.dz_disk.proofs.CrashLemmas.{rest_records}

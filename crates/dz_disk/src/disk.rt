@@ -1,4 +1,4 @@
-//! A disk: a file that is read and written at places, with a count of faults.
+//! A disk: a file that is read and written at offsets, with a count of faults.
 
 ghost use Rattle.std.specs.Prelude.{◌≡◌, ◌<◌, ◌≤◌, ℕ, List, Option, Some, length, option_map, IfOk, OnOk};
 ghost use Rattle.dz_io.specs.Device.{HasCause};
@@ -6,27 +6,27 @@ ghost use Rattle.dz_disk.specs.Disk.{put, IsTorn, Tears, IsSure, IsRead, Passes}
 
 use dz_io::Failed;
 
-/// A file. Between two syncs each written range, and the part between the old end and the new one, may hold any octets
-/// after a crash, and the end is then between the old end and the new one; other octets stay. After a sync that succeeded
-/// a crash leaves what a read gives.
+/// A file. Between two syncs a crash may leave any octets in each written range, and between the old end and the new
+/// one, and then the end is between the two. Other octets stay. After a sync that succeeded, a crash leaves what a read
+/// gives.
 pub trait Disk {
-    /// The octets of the file as a read gives them, where the disk tells them.
+    /// The octets of the file as a read gives them, where the disk reports them.
     ghost file: { Self → Option (List ℕ) };
 
     /// What a crash at this moment may leave of the file.
     ghost may_leave: { Self → List ℕ → Type 0 };
 
-    /// The moment, a number that doesn't fall.
+    /// The present moment, a number that doesn't fall.
     ghost clock: { Self → ℕ };
 
-    /// What a crash at that moment or a later one, in a call or between two, may have left.
+    /// What a crash at that moment or later, in a call or between two, may have left.
     ghost left_from: { Self → ℕ → List ℕ → Type 0 };
 
     /// How often the disk has failed. The count never falls, and at 2^64 - 1 it says nothing more.
     ghost faults: { Self → ℕ };
 
-    /// Reads octets at a place into the front of `buffer`, which isn't empty, and answers how many.
-    /// `Ok(0)` is the end of the file or a place past it.
+    /// Reads octets at an offset to the beginning of `buffer`, which isn't empty, and returns how many. `Ok(0)` means
+    /// the end of the file or an offset past it.
     fn read(&mut self, at: u64, buffer: &mut [u8]) -> Result<usize, Failed>
         requires { 0 < length buffer.old }
         ensures count { IfOk result (λ n. n ≤ length buffer.old) }
@@ -38,7 +38,7 @@ pub trait Disk {
             (left_from self.old) (left_from self.new) (may_leave self.new) }
         ensures cause { HasCause (faults self.old) (faults self.new) result };
 
-    /// Writes over what is there, and past the end.
+    /// Writes octets at an offset, over what is there and past the end. After `Failed` it isn't known what was written.
     fn write_at(&mut self, at: u64, piece: &[u8]) -> Result<(), Failed>
         requires { (f : List ℕ) → file self.old ≡ Some f → at ≤ length f }
         ensures written { OnOk result
@@ -48,7 +48,7 @@ pub trait Disk {
             (left_from self.old) (left_from self.new) (may_leave self.new) }
         ensures cause { HasCause (faults self.old) (faults self.new) result };
 
-    /// Puts all that was written on the disk.
+    /// Brings all that was written to the disk. After `Failed` a crash leaves what it might have left before.
     fn sync(&mut self) -> Result<(), Failed>
         ensures sure { OnOk result ((f : List ℕ) → file self.old ≡ Some f
             → IsSure f (may_leave self.new)) }
@@ -61,11 +61,11 @@ pub trait Disk {
     /// What a read gives may be left.
     ghost told_may_be_left: { (d : Self) (f : List ℕ) → file d ≡ Some f → may_leave d f };
 
-    /// This moment is one of those from an earlier one on.
+    /// The present moment is one of those from an earlier moment on.
     ghost now_counts: { (d : Self) (t : ℕ) (c : List ℕ) → t ≤ clock d → may_leave d c
         → left_from d t c };
 
-    /// From this moment on there is no other yet.
+    /// From the present moment on there is no other moment yet.
     ghost now_alone: { (d : Self) (c : List ℕ) → left_from d (clock d) c → may_leave d c };
 }
 
@@ -80,14 +80,17 @@ impl<D: Disk> Disk for &mut D {
 
     ghost faults = { λ d. D.faults d.now };
 
+    /// Reads from the borrowed disk, with its errors.
     fn read(&mut self, at: u64, buffer: &mut [u8]) -> Result<usize, Failed> {
         (**self).read(at, buffer)
     }
 
+    /// Writes to the borrowed disk, with its errors.
     fn write_at(&mut self, at: u64, piece: &[u8]) -> Result<(), Failed> {
         (**self).write_at(at, piece)
     }
 
+    /// Syncs the borrowed disk, with its errors.
     fn sync(&mut self) -> Result<(), Failed> {
         (**self).sync()
     }

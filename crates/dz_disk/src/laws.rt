@@ -2,12 +2,13 @@
 
 ghost use Rattle.dz_disk.specs.Laws.{OneJoins, SeveralJoin};
 
-/// What a crash leaves while a record joins a list gives that list, or the list with the record, when it is opened.
+/// What a crash leaves while a record is added to a list is opened as that list, or as the list with the record.
 pub fn one_joins()
     ensures { OneJoins }
 {}
 
-/// What a crash leaves while records join a list one after another gives the list with the first of them.
+/// What a crash leaves while records are added to a list, one after another, is opened as the list with the first of
+/// them.
 pub fn several_join()
     ensures { SeveralJoin }
 {}

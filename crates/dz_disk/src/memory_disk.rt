@@ -1,4 +1,4 @@
-//! A disk in memory, which a crash may tear.
+//! A disk in memory, whose writes a crash may tear.
 
 ghost use Rattle.std.specs.Prelude.{◌≡◌, ◌<◌, ◌≤◌, ◌⊎◌, ℕ, List, [], ◌∷◌, ◌++◌, Some, length, is_err, option_map, IsErr, IsOk, IsTrue, IfOk, OnOk, OnErr};
 ghost use Rattle.dz_io.specs.Counts.{HasRisen};
@@ -15,11 +15,11 @@ use std::marker::Model;
 /// What was done to a disk in memory.
 #[derive(Drop)]
 pub enum DiskAct {
-    /// A piece was written at a place.
+    /// A piece was written at an offset.
     Wrote(u64, Vec<u8>),
-    /// A write at a place, of so many octets, failed.
+    /// A write at an offset, of this many octets, failed.
     Tried(u64, u64),
-    /// All is on the disk.
+    /// All writes are on the disk.
     Synced,
 }
 
@@ -28,20 +28,21 @@ pub enum DiskAct {
 pub enum Leaving {
     /// Nothing.
     Nothing,
-    /// All, but for writes that failed.
+    /// All, except for writes that failed.
     All,
-    /// Noise in its place, and in that of writes that failed.
+    /// Noise in its place, and in place of writes that failed.
     Noise,
 }
 
-/// A disk in memory. It keeps what was done to it, and what a crash may leave: nothing, all, or noise where it was written.
+/// A disk in memory. It keeps what was done to it, and what a crash may leave: nothing, all, or noise where it was
+/// written.
 #[derive(Drop)]
 pub struct MemoryDisk {
     alloc: Global,
-    // what it began with, and what was done since
+    // the octets at the beginning, and what was done since
     origin: Vec<u8>,
     acts: Vec<DiskAct>,
-    // what a read gives, what is there for sure, and this with noise where it was written since
+    // what a read gives, what is certain to be on the disk, and the latter with noise where it was written since
     octets: Vec<u8>,
     sure: Vec<u8>,
     noisy: Vec<u8>,
@@ -68,11 +69,12 @@ impl Model for MemoryDisk {
 }
 
 impl MemoryDisk {
-    /// A disk with these octets, all of them there for sure. Of its writes and syncs, counted from 0, these are to fail.
+    /// A disk with these octets, all of them certain to be there. The writes and syncs with these numbers, counted from
+    /// 0, fail.
     ///
     /// # Errors
     ///
-    /// `AllocError` where memory is wanting.
+    /// `AllocError` where memory runs out.
     pub fn new(
         alloc: Global,
         octets: Vec<u8>,
@@ -146,7 +148,7 @@ impl MemoryDisk {
         Failed
     }
 
-    /// Writes a piece at a place.
+    /// Writes a piece at an offset, or nothing where memory runs out.
     fn put(&mut self, at: usize, piece: &[u8]) -> Result<(), AllocError>
         requires { at ≤ length (state_of self.old).octets }
         ensures ok { OnOk result ((v : _) × (v.items ≡ piece.now)
@@ -163,7 +165,8 @@ impl MemoryDisk {
         Ok(())
     }
 
-    /// A write of so many octets at a place failed, which may leave noise there.
+    /// A write of this many octets at an offset failed, which may leave noise there. `AllocError` where memory runs
+    /// out.
     fn put_noise(&mut self, at: usize, count: usize) -> Result<(), AllocError>
         requires { at ≤ length (state_of self.old).octets }
         ensures ok { OnOk result
@@ -177,7 +180,7 @@ impl MemoryDisk {
         Ok(())
     }
 
-    /// A write failed as it was planned. Where memory is wanting nothing is left of it.
+    /// A write failed as planned. Where memory runs out, no trace of it is left.
     fn put_nothing(&mut self, at: usize, count: usize)
         requires { at ≤ length (state_of self.old).octets }
         ensures { HasTried at count self.old self.new }
@@ -188,7 +191,7 @@ impl MemoryDisk {
         }
     }
 
-    /// Puts all on the disk.
+    /// Brings all writes to the disk, or nothing where memory runs out.
     fn settle(&mut self) -> Result<(), AllocError>
         ensures ok { OnOk result
             (self.new ≡ record self.old { acts = self.old.acts ++ DiskAct.Synced ∷ [] }) }
@@ -203,7 +206,7 @@ impl MemoryDisk {
     }
 }
 
-/// The octets with a piece at a place.
+/// A copy of the octets with a piece at an offset. `AllocError` where memory runs out.
 fn with_piece(alloc: Global, octets: &[u8], at: usize, piece: &[u8]) -> Result<Vec<u8>, AllocError>
     requires { at ≤ length octets.now }
     ensures { IfOk result (λ v. v.items ≡ put at piece.now octets.now) }
@@ -216,7 +219,7 @@ fn with_piece(alloc: Global, octets: &[u8], at: usize, piece: &[u8]) -> Result<V
     Ok(all)
 }
 
-/// Moves the octets from a place on into the front of a buffer, as far as they go.
+/// Moves the octets from an offset on to the beginning of a buffer, as many as there are, and returns how many.
 fn move_from(octets: &[u8], at: u64, buffer: &mut [u8]) -> usize
     requires { 0 < length buffer.old }
     ensures count { result ≤ length buffer.old }
@@ -256,7 +259,7 @@ impl Disk for MemoryDisk {
         Ok(move_from(&self.octets, at, buffer))
     }
 
-    /// Fails where the call is to fail, and then may leave noise; or where memory is wanting, and then leaves nothing.
+    /// Fails where the call is to fail, and then may leave noise; or where memory runs out, and then leaves nothing.
     fn write_at(&mut self, at: u64, piece: &[u8]) -> Result<(), Failed>
         requires { (f : List ℕ) → Some (state_of self.old).octets ≡ Some f → at ≤ length f }
         ensures planned { IsTrue (is_to_fail self.old.calls.count self.old.calls.failing)
@@ -281,7 +284,7 @@ impl Disk for MemoryDisk {
         }
     }
 
-    /// Fails where the call is to fail or memory is wanting, and then leaves all as it was.
+    /// Fails where the call is to fail or memory runs out, and then leaves all as it was.
     fn sync(&mut self) -> Result<(), Failed>
         ensures planned { IsTrue (is_to_fail self.old.calls.count self.old.calls.failing)
             → IsErr result }

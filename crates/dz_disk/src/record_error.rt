@@ -13,13 +13,14 @@ pub enum RecordError {
     Disk,
     /// The record would end past 2^40 octets.
     Full,
-    /// Memory is wanting.
+    /// Memory ran out.
     OutOfMemory,
 }
 
 impl From<AllocError> for RecordError {
     ghost from_gives = { λ _ e. e ≡ OutOfMemory };
 
+    /// An allocation failed.
     fn from(_: AllocError) -> Self {
         RecordError::OutOfMemory
     }
@@ -28,6 +29,7 @@ impl From<AllocError> for RecordError {
 impl<T: Drop> From<AllocFailed<T>> for RecordError {
     ghost from_gives = { λ _ e. e ≡ OutOfMemory };
 
+    /// An allocation failed; the value is dropped.
     fn from(_: AllocFailed<T>) -> Self {
         RecordError::OutOfMemory
     }
@@ -36,6 +38,7 @@ impl<T: Drop> From<AllocFailed<T>> for RecordError {
 impl From<Failed> for RecordError {
     ghost from_gives = { λ _ e. e ≡ Disk };
 
+    /// A call of the disk failed.
     fn from(_: Failed) -> Self {
         RecordError::Disk
     }

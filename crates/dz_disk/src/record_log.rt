@@ -5,25 +5,26 @@ ghost use Rattle.dz_io.specs.Counts.{HasRisen};
 ghost use Rattle.dz_disk.specs.Disk.{Leaves, IsQuiet};
 ghost use Rattle.dz_disk.specs.RecordLog.{limit, log, records, IsPayload, ArePayloads, IsLeft, MayLeaveOnly, IsSettled, Opens, Joins, IsPart};
 
-use crate::preparing::prepare;
-use crate::reading::read_part;
-use crate::writing::{join, stage};
+use crate::gate::{join, stage};
+use crate::prepared::prepare;
+use crate::scan::read_part;
 use crate::{Disk, RecordError, RecordIndex};
 use std::alloc::Global;
 use std::marker::Model;
 
-/// The most octets that the records of a file take.
+/// The greatest number of octets that the records of a file take.
 pub(crate) const LIMIT: u64 = 1 << 40;
 
-/// A list of records on a disk, with an index of it in memory. A record is added by writing it after the closed gate at the
-/// end of the list, with the next closed gate, and then opening the gate; each of the two is on the disk before the next step.
+/// A list of records on a disk, with an index of it in memory. To add a record, it and the next closed gate are written
+/// after the closed gate at the end of the list, and then that gate is opened. Each of the two is on the disk before
+/// the next step.
 #[derive(Drop)]
 pub struct RecordLog<D: Disk + Drop, I: RecordIndex> {
     disk: D,
     index: I,
-    // where the closed gate is
+    // the offset of the closed gate
     end: u64,
-    // whether a call of the disk failed, after which no call touches it
+    // whether a call of the disk failed, after which the disk isn't used any more
     has_failed: bool,
 }
 
@@ -42,8 +43,8 @@ impl<D: Disk + Drop, I: RecordIndex> RecordLog<D, I> {
     ///
     /// # Errors
     ///
-    /// `Disk` where a call of the disk failed, `Full` where the records end past 2^40 octets, `OutOfMemory` where memory is
-    /// wanting. The disk is let go then; [`prepare`] does the same work on a disk that the caller keeps.
+    /// `Disk` where a call of the disk failed, `Full` where the records end past 2^40 octets, `OutOfMemory` where
+    /// memory runs out. The disk is then dropped; [`prepare`] does the same work on a disk that the caller keeps.
     pub fn open(alloc: Global, mut disk: D) -> Result<RecordLog<D, I>, RecordError>
         ensures opens { IfOk result (λ s. Opens I.reads I.is_of (D.file disk) (D.file s.disk)
             (D.may_leave s.disk) s.index s.end) }
@@ -53,7 +54,7 @@ impl<D: Disk + Drop, I: RecordIndex> RecordLog<D, I> {
             → MayLeaveOnly list last (D.may_leave disk)
             → Leaves D.clock D.left_from disk s.disk (IsLeft list last)) }
         ensures faults { IfOk result (λ s. D.faults s.disk ≡ D.faults disk) }
-        // the disk got into a state in which its count of faults has risen
+        // the disk reached a state in which its count of faults has risen
         ensures failed { IsErrOf result RecordError.Disk
             → (d : D) × HasRisen (D.faults disk) (D.faults d) }
         ensures full { IsErrOf result RecordError.Full → (f : List ℕ) → D.file disk ≡ Some f
@@ -68,13 +69,13 @@ impl<D: Disk + Drop, I: RecordIndex> RecordLog<D, I> {
         })
     }
 
-    /// Adds a record. At `Ok` each crash from then on leaves it; a crash before, or after `Disk`, leaves the list with the
-    /// record or without it.
+    /// Adds a record. After `Ok` every crash leaves it; a crash before, or after `Disk`, leaves the list with or
+    /// without the record.
     ///
     /// # Errors
     ///
-    /// `Disk` where a call of the disk failed, now or before; `Full` exactly where the record would end past 2^40 octets;
-    /// `OutOfMemory` where memory is wanting. After the latter two the list is as before.
+    /// `Disk` where a call of the disk failed, now or before; `Full` exactly where the record would end past 2^40
+    /// octets; `OutOfMemory` where memory runs out. After the latter two the list is as before.
     pub fn append(&mut self, alloc: Global, payload: &[u8]) -> Result<(), RecordError>
         requires reads { I.reads payload.now ≡ true }
         ensures joined { OnOk result
@@ -119,14 +120,14 @@ impl<D: Disk + Drop, I: RecordIndex> RecordLog<D, I> {
         }
     }
 
-    /// Whether a call of the disk failed, after which no call touches it.
+    /// Whether a call of the disk failed, after which the disk isn't used any more.
     pub fn has_failed(&self) -> bool
         ensures { result ≡ self.now.has_failed }
     {
         self.has_failed
     }
 
-    /// Where the gate of the next record is: how many octets the records take.
+    /// The offset of the gate of the next record, which is the number of octets that the records take.
     pub fn end(&self) -> u64
         ensures end { result ≡ self.now.end }
         ensures within { result ≤ limit }
@@ -134,7 +135,7 @@ impl<D: Disk + Drop, I: RecordIndex> RecordLog<D, I> {
         self.end
     }
 
-    /// What is kept in memory of the list.
+    /// The index of the list in memory.
     pub fn index(&self) -> &I
         ensures index { result.now ≡ self.now.index }
         ensures within { self.now.end ≤ limit }
@@ -145,11 +146,12 @@ impl<D: Disk + Drop, I: RecordIndex> RecordLog<D, I> {
         &self.index
     }
 
-    /// So many octets of the payload of the record whose gate is at a place; none where the file ends before.
+    /// The first `size` octets of the payload of the record whose gate is at offset `at`; none where the file ends
+    /// before.
     ///
     /// # Errors
     ///
-    /// `Disk` where a call of the disk failed, now or before; `OutOfMemory` where memory is wanting. It is never `Full`.
+    /// `Disk` where a call of the disk failed, now or before; `OutOfMemory` where memory runs out. It is never `Full`.
     pub fn payload(
         &mut self,
         alloc: Global,
@@ -185,7 +187,7 @@ impl<D: Disk + Drop, I: RecordIndex> RecordLog<D, I> {
         }
     }
 
-    /// The disk.
+    /// Closes the list, and returns the disk.
     pub fn into_disk(self) -> D
         ensures { result ≡ self.disk }
     {

@@ -1,4 +1,4 @@
-//! Several records, one after another.
+//! Several records, added one after another.
 
 ghost use Rattle.std.specs.Prelude.{◌≡◌, ◌⊎◌, ℕ, List, Some, Err, false, true, map, IfErr, OnOk, IsErrOf};
 ghost use Rattle.std.specs.List.{AllByRecursion};
@@ -10,11 +10,11 @@ ghost use Rattle.dz_disk.specs.Several.{IsLeftAmong, JoinInOrder, SomeJoin, HasN
 use crate::{Disk, RecordError, RecordIndex, RecordLog};
 use std::alloc::Global;
 
-/// Adds records in their order, until one isn't added. A crash at any moment leaves the list with the first of them.
+/// Adds records in order, until one can't be added. A crash at any moment leaves the list with the first of them.
 ///
 /// # Errors
 ///
-/// That of the record which isn't added.
+/// The error of the record that can't be added.
 pub fn append_each<D: Disk + Drop, I: RecordIndex>(
     alloc: Global,
     log: &mut RecordLog<D, I>,
@@ -27,7 +27,7 @@ pub fn append_each<D: Disk + Drop, I: RecordIndex>(
     ensures crash { log.old.has_failed ≡ false → (f : List ℕ) → D.file log.old.disk ≡ Some f
         → Leaves D.clock D.left_from log.old.disk log.new.disk
         (IsLeftAmong (records I.reads f) (map (λ v. v.items) payloads.now) f) }
-    // without a fault of the disk the first ones joined
+    // without a fault of the disk the first records were added
     ensures stopped { IfErr result (λ e. (e ≡ RecordError.Disk)
         ⊎ ((log.new.has_failed ≡ log.old.has_failed) × SomeJoin I.reads (D.file log.old.disk)
         (D.file log.new.disk) (map (λ v. v.items) payloads.now))) }
@@ -42,7 +42,7 @@ pub fn append_each<D: Disk + Drop, I: RecordIndex>(
     if log.has_failed() {
         return Err(RecordError::Disk);
     }
-    // what is known of a list is known of this one
+    // what is known of every list is known of this one
     log.index();
     'payloads: for payload in payloads {
         log.append(alloc, payload)?;

@@ -1,19 +1,21 @@
 //! The bell that wakes the workers that rest.
+use crate::notifies::Notifies;
 use crate::stop::Stop;
 use std::fs::Files;
 use std::sync::{Condvar, CondvarTimeouts, Mutex, Wait};
 use std::time::{Clock, Duration};
 
-/// What the devices and clocks of a server share: a bell, and whether the server is to stop.
+/// What the devices and clocks of a server share: a bell, whether the server is to stop, and the NOTIFYs that wait.
 ///
-/// The bell rings where a NOTIFY was taken, where a worker has found work, and where the server is to stop. A worker that
-/// rests keeps in mind how often it had rung as it went on last, so it misses no ring.
+/// The bell rings where a NOTIFY was taken, where a worker has found work, and where the server is to stop. A worker
+/// that rests remembers how often it had rung when the worker last went on, so it misses no ring.
 #[derive(Drop)]
 pub struct Bell {
     /// How often it has rung, modulo 2^64.
     rung: Mutex<u64>,
     turned: Condvar,
     stop: Stop,
+    pub(crate) notifies: Notifies,
 }
 
 impl Bell {
@@ -23,6 +25,7 @@ impl Bell {
             rung: Mutex::new(0),
             turned: Condvar::new(),
             stop: Stop::new(),
+            notifies: Notifies::new(),
         }
     }
 
@@ -40,7 +43,7 @@ impl Bell {
         *self.rung.lock(rt)
     }
 
-    /// Waits while it has rung so often, until the limit at most, and answers how often it has rung.
+    /// Waits while it has rung exactly `heard` times, until the limit at most, and answers how often it has rung.
     pub(crate) fn wait<R: Wait + Clock>(&self, rt: &R, heard: u64, limit: Duration) -> u64 {
         let rung = self.rung.lock(rt);
         let (rung, _) = self
@@ -54,13 +57,13 @@ impl Bell {
         self.stop.is_set()
     }
 
-    /// The server is to stop, which it rings for.
+    /// Tells that the server is to stop, and rings for it.
     pub fn stop<R: Wait>(&self, rt: &R) {
         self.stop.set();
         self.ring(rt);
     }
 
-    /// Whether the server is to stop. It stops it where SIGHUP, SIGINT or SIGTERM is pending.
+    /// Whether the server is to stop, as it is from now on where SIGHUP, SIGINT or SIGTERM is pending.
     pub(crate) fn look<R: Wait + Files>(&self, rt: &R) -> bool {
         if self.stop.is_set() {
             return true;

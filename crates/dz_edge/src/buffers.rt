@@ -4,7 +4,7 @@ use crate::frames::FRAME_OCTETS;
 use crate::replies::{REPLY_OCTETS, Replies};
 use std::alloc::{AllocError, Global};
 
-/// How many octets are read of a connection before a turn of it: the longest frame, and some more.
+/// How many octets of a connection are read before a turn of it: the longest frame, and some more.
 const ROOM_OCTETS: usize = FRAME_OCTETS + REPLY_OCTETS;
 
 /// The buffers of a worker: the octets of the connection whose turn it is, and the replies to them.

@@ -17,8 +17,8 @@ pub(crate) struct Connection {
     pub peer: Peer,
     /// Octets that were read: a part of a frame, and what a turn has left.
     held: Vec<u8>,
-    /// Replies of which the socket hasn't taken the last octet yet, in a room that is given back once it has. Nothing is read
-    /// before.
+    /// Replies of which the socket hasn't taken the last octet yet, in a room that is given back once it has. Until
+    /// then nothing is read.
     unsent: Vec<u8>,
     ghost given_back: { vec_len unsent ≡ 0 → vec_capacity unsent ≡ 0 },
     /// How many octets of them the socket has taken.
@@ -27,7 +27,7 @@ pub(crate) struct Connection {
     alloc: Global,
     /// The second of its last whole frame, or of its last progress in sending.
     seen: u64,
-    /// It stands in the queue for a turn.
+    /// It is in the queue for a turn.
     pub is_queued: bool,
     /// The system has told that the client sends no more, or that the connection is broken.
     pub is_ending: bool,
@@ -37,7 +37,8 @@ pub(crate) struct Connection {
 
 /// What a connection had to give.
 pub(crate) enum Fetched {
-    /// So many octets stand in the room. There may be more to read where `more` says so; otherwise the system will tell.
+    /// This many octets are in the room. There may be more to read where `more` says so; otherwise the system will
+    /// tell.
     Octets { total: usize, more: bool },
     /// The connection is broken.
     Broken,
@@ -60,7 +61,7 @@ impl Connection {
         }
     }
 
-    /// In this second a whole frame came.
+    /// Notes that a whole frame came in this second.
     pub fn mark(&mut self, now: u64) {
         self.seen = now;
     }
@@ -70,7 +71,7 @@ impl Connection {
         self.seen
     }
 
-    /// Whether nothing came of it for too long.
+    /// Whether nothing happened on it for `LIMIT_SECONDS`.
     pub fn is_late(&self, now: u64) -> bool {
         now.saturating_sub(self.seen) >= LIMIT_SECONDS
     }
@@ -80,7 +81,7 @@ impl Connection {
         self.waits() > 0
     }
 
-    /// How many octets of replies it keeps: all of a turn, until the socket has taken the last of them.
+    /// How many octets of replies it keeps: all those of a turn, until the socket has taken the last of them.
     pub fn waits(&self) -> usize
         ensures { result ≡ vec_len self.now.unsent }
     {
@@ -92,7 +93,7 @@ impl Connection {
         self.is_at_end
     }
 
-    /// Sends what waits, as far as the socket takes it. It answers whether the connection stands.
+    /// Sends what waits, as far as the socket takes it. It answers whether the connection is still up.
     pub fn flush(&mut self, now: u64) -> bool
         ensures { vec_len self.new.unsent ≤ vec_len self.old.unsent }
     {
@@ -115,8 +116,8 @@ impl Connection {
         true
     }
 
-    /// Sends the replies of a turn, beside which nothing waits. Where the socket doesn't take all, their room moves here, and
-    /// an empty one is left in its place. It answers whether the connection stands.
+    /// Sends the replies of a turn, beside which nothing waits. Where the socket doesn't take all, their room moves
+    /// here, and an empty one is left in its place. It answers whether the connection is still up.
     pub fn send(&mut self, replies: &mut Vec<u8>) -> bool
         ensures { vec_len self.new.unsent + vec_len replies.new
             ≡ vec_len self.old.unsent + vec_len replies.old }
@@ -131,12 +132,12 @@ impl Connection {
         true
     }
 
-    /// Keeps octets that were read, behind those that it holds. It answers whether there was memory for them.
+    /// Keeps octets that were read, after those that it holds. It answers whether there was memory for them.
     pub fn keep(&mut self, octets: &[u8]) -> bool {
         octets.is_empty() || self.held.extend_from_slice(octets).is_ok()
     }
 
-    /// Moves what it holds to the front of the room, and reads once behind it.
+    /// Moves what it holds to the front of the room, and reads once into the room after it.
     pub fn fetch(&mut self, room: &mut [u8]) -> Fetched {
         let before = self.held.len();
         if before > room.len() {

@@ -9,8 +9,8 @@ use std::alloc::{AllocError, Global};
 use std::collections::VecDeque;
 use std::mem::replace;
 
-/// The connections of a worker, each at a place of its own, and the queue of those that are to have a turn. The place of
-/// the connection that has a turn is empty meanwhile, and isn't free.
+/// The connections of a worker, each at a place of its own, and the queue of those that are to have a turn. The place
+/// of the connection that has a turn is empty meanwhile, and isn't free.
 #[derive(Drop)]
 pub(crate) struct Crowd {
     places: Vec<Option<Connection>>,
@@ -18,13 +18,13 @@ pub(crate) struct Crowd {
     queue: VecDeque<usize>,
     /// The places of connections that ask for whole zones.
     for_zones: VecDeque<usize>,
-    /// The octets that wait at the places together, so never more than may.
+    /// The octets that wait at all places together, which are never more than may wait.
     waiting: Waiting,
     ghost sum: { waiting.octets ≡ waiting_at places.items },
 }
 
 impl Crowd {
-    /// So many free places.
+    /// No connection, and this many free places.
     pub fn new(alloc: Global, size: usize) -> Result<Crowd, AllocError>
         ensures { IfOk result (λ crowd. crowd.waiting.octets ≡ 0) }
     {
@@ -58,7 +58,7 @@ impl Crowd {
         self.free.pop()
     }
 
-    /// Puts a connection to its place. It is closed, and its place freed, where more would wait than may.
+    /// Puts a connection back in its place. It is closed, and its place freed, where more would wait than may.
     pub fn put(&mut self, place: usize, connection: Connection) {
         if self.waiting.has_room(connection.waits()) {
             let _gone = self.change(place, Some(connection));
@@ -68,7 +68,7 @@ impl Crowd {
         }
     }
 
-    /// Puts something else to a place, and answers what was there; the same where there is no such place.
+    /// Puts something else in a place, and answers what was there; the same where there is no such place.
     fn change(&mut self, place: usize, slot: Option<Connection>) -> Option<Connection>
         requires { self.old.waiting.octets + waits_at slot ≤ WAITING_OCTETS }
         ensures { self.new.waiting.octets + waits_at result
@@ -124,7 +124,7 @@ impl Crowd {
         }
     }
 
-    /// The system has told that the connection at a place ends.
+    /// Notes that the connection at a place ends, as the system has told.
     pub fn end(&mut self, place: usize) {
         if place >= self.places.len() {
             return;
@@ -149,12 +149,12 @@ impl Crowd {
         !self.for_zones.is_empty()
     }
 
-    /// How many places stand in the queue.
+    /// How many places are in the queue.
     pub fn queued(&self) -> usize {
         self.queue.len()
     }
 
-    /// Closes the connection whose last whole frame came first.
+    /// Closes the connection whose last whole frame, or last progress in sending, is the oldest.
     pub fn drop_oldest(&mut self) {
         let mut oldest = u64::MAX;
         let mut found = None;
@@ -171,7 +171,7 @@ impl Crowd {
         }
     }
 
-    /// Tries once more to send what waits, and closes the connections that nothing came of for too long.
+    /// Tries once more to send what waits, and closes the connections on which nothing happened for too long.
     pub fn sweep(&mut self, now: u64) {
         'places: for place in 0..self.places.len() {
             match self.look(place, now) {
@@ -182,6 +182,8 @@ impl Crowd {
         }
     }
 
+    /// Tries once more to send what waits at a place, and answers what is to be done with its connection at this
+    /// moment.
     fn look(&mut self, place: usize, now: u64) -> Look {
         let Some(mut connection) = self.change(place, None) else {
             return Look::Leave;
@@ -200,7 +202,7 @@ impl Crowd {
     }
 }
 
-/// How many octets wait at a place where this is.
+/// How many octets wait at a place that holds this.
 fn octets_of(slot: &Option<Connection>) -> usize
     ensures { result ≡ waits_at slot.now }
 {

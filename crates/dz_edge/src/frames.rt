@@ -1,18 +1,12 @@
-//! The messages of a connection as it carries them: each is a frame, behind its length (RFC 1035 section 4.2.2).
+//! The messages of a connection as it carries them: each is a frame, preceded by its length (RFC 1035 section 4.2.2).
 ghost use Rattle.std.specs.Prelude.{◌≤◌, length, IfSome};
 
-/// How many octets the length in front of a message has.
-pub(crate) const LENGTH_OCTETS: usize = 2;
+use dz_name::dns::{HEADER_OCTETS, LABEL_OCTETS, LENGTH_OCTETS, MESSAGE_OCTETS};
 
 /// The most octets of a frame.
-pub(crate) const FRAME_OCTETS: usize = LENGTH_OCTETS + 65_535;
+pub(crate) const FRAME_OCTETS: usize = LENGTH_OCTETS + MESSAGE_OCTETS;
 
-/// How many octets a message has before its question (RFC 1035 section 4.1.1).
-const HEADER_OCTETS: usize = 12;
-
-/// The most octets of a label, and the most labels of a name with the root (RFC 1035 section 2.3.4).
-const LABEL_OCTETS: u8 = 63;
-
+/// The most labels of a name, with the root (RFC 1035 section 2.3.4).
 const LABELS: usize = 128;
 
 /// QTYPE AXFR (RFC 1035 section 3.2.3), of which the first octet is 0.
@@ -21,7 +15,9 @@ const AXFR: u8 = 252;
 /// QR and the opcode, in the third octet of a message (RFC 1035 section 4.1.1).
 const KIND: u8 = 0xf8;
 
-/// QR set, and the opcode of a NOTIFY (RFC 1996 section 3.2).
+/// The opcode of a NOTIFY (RFC 1996 section 3.2), and the same with QR set.
+const NOTIFY: u8 = 0x20;
+
 const NOTIFY_REPLY: u8 = 0xa0;
 
 /// The response code, in the fourth octet of a message.
@@ -65,13 +61,21 @@ fn name_end(octets: &[u8], at: usize) -> Option<usize> {
     'labels: for _ in 0..LABELS {
         match octets.get(at) {
             Some(0) => return Some(at.saturating_add(1)),
-            Some(size) if *size <= LABEL_OCTETS => {
+            Some(size) if *size as usize <= LABEL_OCTETS => {
                 at = at.saturating_add(1 + *size as usize);
             }
             _ => break,
         }
     }
     None
+}
+
+/// Whether a message is a NOTIFY that asks, and no reply to one.
+pub(crate) fn is_notify(message: &[u8]) -> bool {
+    match message {
+        [_, _, kind, ..] => kind & KIND == NOTIFY,
+        _ => false,
+    }
 }
 
 /// Whether a message is the reply to a NOTIFY that was taken: with no error (RFC 1996 section 4.7).

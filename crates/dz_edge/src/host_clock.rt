@@ -27,7 +27,7 @@ pub struct HostClock<'a, R> {
     watch: Watch<'a, R>,
     /// The last moment that it gave.
     moment: u64,
-    /// How often the bell had rung as its worker went on last.
+    /// How often the bell had rung when its worker last went on.
     heard: u64,
     /// When the bell last ended a rest of its worker.
     woken: Duration,
@@ -49,7 +49,7 @@ impl<'a, R> HostClock<'a, R> {
 }
 
 impl<'a, R: time::Clock + Files + Wait> HostClock<'a, R> {
-    /// Waits for the bell, a second at most. The bell ends two such rests only so many milliseconds from each other.
+    /// Waits for the bell, a second at most. The bell ends two such rests at least `BRAKE_MILLIS` milliseconds apart.
     fn wait(&mut self) {
         let (rt, bell) = (self.watch.rt, self.watch.bell);
         let limit = Duration::from_secs(REST_SECONDS);
@@ -81,11 +81,12 @@ impl<'a, R: time::Clock + Files + Wait> Clock for HostClock<'a, R> {
 
     ghost given = { λ _. None };
 
+    /// A clock of the same host and bell, which has told no moment yet. It never fails.
     fn twin(&self, _alloc: Global) -> Result<HostClock<'a, R>, AllocError> {
         Ok(HostClock::new(self.watch.rt, self.watch.bell))
     }
 
-    /// The last moment again where the host doesn't tell the time.
+    /// The host's time in seconds, below 2^40; the last moment again where the host doesn't tell it.
     fn now(&mut self) -> u64 {
         if let Ok(time) = self.watch.rt.since_1970() {
             self.moment = time.as_secs();

@@ -12,11 +12,11 @@ use std::io::ErrorKind;
 use std::os::unix::fs::{FileExt, MetadataExt, OpenOptionsExt};
 use std::{fs, io};
 
-/// How often a read is made that a signal interrupts.
+/// How many times a read is tried that signals interrupt.
 const TRIES: usize = 1000;
 
-/// A file of the working folder as a disk, which tells nothing of it. It is opened at the first call, made where it isn't
-/// there, readable for its owner alone, and locked as long as it is open.
+/// A file of the working folder as a disk, which tells nothing of it. It is opened at the first call, made where it
+/// isn't there, readable for its owner alone, and locked as long as it is open.
 #[derive(Drop)]
 pub struct HostDisk<'a, R> {
     rt: &'a R,
@@ -40,7 +40,8 @@ impl<'a, R: Files<File = File>> HostDisk<'a, R> {
         }
     }
 
-    /// A file that was just made at a path. Its syncs do nothing: nothing is on the disk for sure before [`HostDisk::settle`].
+    /// A file that was just made at a path. Its syncs do nothing: nothing is on the disk for sure before
+    /// [`HostDisk::settle`].
     pub(crate) fn lazy(rt: &'a R, path: &'static str, file: File) -> HostDisk<'a, R> {
         HostDisk {
             rt,
@@ -91,6 +92,7 @@ impl<'a, R: Files<File = File>> HostDisk<'a, R> {
         }
     }
 
+    /// Reads octets of the file from a place on, and answers how many; the file is opened first.
     fn read_file(&mut self, at: u64, buffer: &mut [u8]) -> io::Result<usize>
         ensures count { IfOk result (λ n. n ≤ length buffer.old) }
         ensures faults { self.new.faults ≡ self.old.faults }
@@ -99,6 +101,7 @@ impl<'a, R: Files<File = File>> HostDisk<'a, R> {
         read_past_signals(self.file()?, at, buffer)
     }
 
+    /// Writes octets to a place of the file, which is opened first.
     fn write_file(&mut self, at: u64, piece: &[u8]) -> io::Result<()>
         ensures { self.new.faults ≡ self.old.faults }
     {
@@ -106,6 +109,7 @@ impl<'a, R: Files<File = File>> HostDisk<'a, R> {
         self.file()?.write_all_at(piece, at)
     }
 
+    /// Puts what was written on the disk; a file that is being made waits for [`HostDisk::settle`].
     fn sync_file(&mut self) -> io::Result<()>
         ensures { self.new.faults ≡ self.old.faults }
     {
@@ -116,13 +120,13 @@ impl<'a, R: Files<File = File>> HostDisk<'a, R> {
         self.file()?.sync_data()
     }
 
-    /// What of the file counts.
+    /// How much of the file counts.
     pub(crate) fn survey(&mut self, alloc: Global) -> io::Result<Survey> {
         self.open()?;
         look_over(alloc, self.file()?)
     }
 
-    /// A call failed.
+    /// Counts that a call failed.
     fn failed(&mut self) -> Failed
         ensures later { self.old.faults ≤ self.new.faults }
         ensures rises { HasRisen self.old.faults self.new.faults }
@@ -145,6 +149,7 @@ impl<'a, R: Files<File = File>> Disk for HostDisk<'a, R> {
 
     ghost faults = { λ d. d.faults };
 
+    /// Reads octets of the file; it fails where the file can't be opened or read.
     fn read(&mut self, at: u64, buffer: &mut [u8]) -> Result<usize, Failed> {
         match self.read_file(at, buffer) {
             Ok(count) => Ok(count),
@@ -152,6 +157,7 @@ impl<'a, R: Files<File = File>> Disk for HostDisk<'a, R> {
         }
     }
 
+    /// Writes octets to the file; it fails where the file can't be opened or written.
     fn write_at(&mut self, at: u64, piece: &[u8]) -> Result<(), Failed> {
         match self.write_file(at, piece) {
             Ok(()) => Ok(()),
@@ -159,6 +165,7 @@ impl<'a, R: Files<File = File>> Disk for HostDisk<'a, R> {
         }
     }
 
+    /// Puts what was written on the disk; it fails where the host does.
     fn sync(&mut self) -> Result<(), Failed> {
         match self.sync_file() {
             Ok(()) => Ok(()),
@@ -191,8 +198,8 @@ pub(crate) fn read_past_signals(file: &File, at: u64, buffer: &mut [u8]) -> io::
 ///
 /// # Errors
 ///
-/// Where it can't be opened or made, where it is no regular file or begins with an octet that no gate has, and where another
-/// process has its lock. The file is then as it was.
+/// Where it can't be opened or made, where it is no regular file or begins with an octet that no gate has, and where
+/// another process has its lock. The file is then as it was.
 pub(crate) fn open_store<R: Files<File = File>>(rt: &R, path: &str) -> io::Result<File> {
     let file = match make_new(rt, path) {
         Ok(file) => file,

@@ -63,6 +63,7 @@ impl<'a, R: Net<Stream = TcpStream> + Clock + Files + Wait + Sync> Ports for Hos
 
     ghost faults = { λ ports. ports.faults };
 
+    /// A UDP socket at this address, for a worker; it fails where there is none.
     fn open_datagrams(
         &mut self,
         listen: &Peer,
@@ -81,6 +82,7 @@ impl<'a, R: Net<Stream = TcpStream> + Clock + Files + Wait + Sync> Ports for Hos
         }
     }
 
+    /// A TCP listener at this address, for a worker; it fails where there is none.
     fn open_acceptor(&mut self, listen: &Peer, _worker: u8) -> Result<TcpAcceptor<'a, R>, Failed> {
         let listener = share_listener(self.rt, &mut self.listener, listen);
         let acceptor = accept_at(self.rt, self.alloc, self.bell, listener);
@@ -96,6 +98,7 @@ impl<'a, R: Net<Stream = TcpStream> + Clock + Files + Wait + Sync> Ports for Hos
         }
     }
 
+    /// A dialer for a worker; it fails only where one more can't be counted.
     fn dialer(&mut self, _worker: u8) -> Result<TcpDialer<'a, R>, Failed> {
         match self.dialers_out.checked_add(1) {
             Some(out) => {
@@ -109,6 +112,7 @@ impl<'a, R: Net<Stream = TcpStream> + Clock + Files + Wait + Sync> Ports for Hos
         }
     }
 
+    /// Takes a UDP device back, and counts that it had faults.
     fn close_datagrams(&mut self, device: UdpDatagrams<'a, R>) {
         self.datagrams_out -= 1;
         if device.faults > 0 {
@@ -116,6 +120,7 @@ impl<'a, R: Net<Stream = TcpStream> + Clock + Files + Wait + Sync> Ports for Hos
         }
     }
 
+    /// Takes an acceptor back, and counts that it had faults.
     fn close_acceptor(&mut self, device: TcpAcceptor<'a, R>) {
         self.acceptors_out -= 1;
         if device.faults > 0 {
@@ -123,6 +128,7 @@ impl<'a, R: Net<Stream = TcpStream> + Clock + Files + Wait + Sync> Ports for Hos
         }
     }
 
+    /// Takes a dialer back.
     fn close_dialer(&mut self, _device: TcpDialer<'a, R>) {
         self.dialers_out -= 1;
     }

@@ -1,4 +1,5 @@
-//! The devices of a running server: standard input and output, UDP and TCP sockets of IPv4, the host's clock, and a file as a disk.
+//! The devices of a running server: standard input and output, UDP and TCP sockets of IPv4, the host's clock, and a
+//! file as a disk.
 #![tactic(auto)]
 
 mod address;
@@ -10,7 +11,8 @@ mod frames;
 mod host_clock;
 mod host_disk;
 mod host_ports;
-mod renewing;
+mod notifies;
+mod renew;
 mod replies;
 mod standard;
 mod stop;

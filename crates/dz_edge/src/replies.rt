@@ -6,10 +6,10 @@ use crate::frames::FRAME_OCTETS;
 use crate::waiting::Waiting;
 use std::alloc::{AllocError, Global};
 
-/// A turn takes no further frame once its replies have so many octets.
+/// A turn takes no further frame once its replies have this many octets.
 pub(crate) const REPLY_OCTETS: usize = 16_384;
 
-/// Room for the replies of a turn in which no zone's stream is.
+/// Room for the replies of a turn without a zone's stream.
 const ROOM_OCTETS: usize = REPLY_OCTETS + FRAME_OCTETS;
 
 /// The replies of a worker's turns, in one room for all: a turn begins and ends with none.
@@ -28,7 +28,7 @@ pub(crate) struct Replies {
 pub(crate) enum Refused {
     /// More octets would wait than may.
     Full,
-    /// Memory is wanting.
+    /// Out of memory.
     Memory,
 }
 
@@ -41,7 +41,7 @@ impl Replies {
         })
     }
 
-    /// A turn begins, while so much waits at the other connections.
+    /// Begins a turn, while this much waits at the other connections.
     pub fn begin(&mut self, beside: Waiting)
         ensures octets { self.new.octets.items ≡ [] }
         ensures beside { self.new.beside ≡ beside }
@@ -71,7 +71,7 @@ impl Replies {
         Ok(())
     }
 
-    /// Whether so many octets more may wait.
+    /// Whether this many octets more may wait.
     fn has_room(&self, count: usize) -> bool
         ensures { IsTrue result ↔ (self.now.beside.octets + length self.now.octets.items + count
             ≤ WAITING_OCTETS) }
@@ -82,7 +82,7 @@ impl Replies {
         }
     }
 
-    /// Makes room for so many octets more.
+    /// Makes room for this many octets more.
     fn grow(&mut self, count: usize) -> Result<(), AllocError>
         ensures octets { self.new.octets.items ≡ self.old.octets.items }
         ensures beside { self.new.beside ≡ self.old.beside }
@@ -95,7 +95,7 @@ impl Replies {
         self.octets.reserve_exact(count.max(spare))
     }
 
-    /// A turn ends: the replies go, and a room goes with them that has grown for a zone's stream.
+    /// Ends a turn: the replies go, and with them a room that has grown for a zone's stream.
     pub fn end(&mut self, alloc: Global)
         ensures octets { self.new.octets.items ≡ [] }
         ensures room { vec_capacity self.new.octets ≤ ROOM_OCTETS }

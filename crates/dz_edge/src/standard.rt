@@ -5,7 +5,7 @@ ghost use Rattle.std.specs.Prelude.{◌≡◌, ◌≤◌, length, None, IfSome};
 use dz_io::{Failed, Sink, Source};
 use std::io::{ErrorKind, Read, Write};
 
-/// How often a read is made that a signal interrupts.
+/// How many times a read is tried that signals interrupt.
 const TRIES: usize = 1000;
 
 /// A reader as a source that doesn't tell its octets.
@@ -16,6 +16,7 @@ pub struct ReadSource<R> {
 }
 
 impl<R: Drop> ReadSource<R> {
+    /// A source over a reader, without a fault yet.
     pub fn new(reader: R) -> ReadSource<R>
         ensures { result.faults ≡ 0 }
     {
@@ -32,6 +33,7 @@ impl<R: Read> Source for ReadSource<R> {
 
     ghost faults = { λ source. source.faults };
 
+    /// Reads octets, and answers how many; it fails where the reader does.
     fn read(&mut self, buffer: &mut [u8]) -> Result<usize, Failed> {
         match read_past_signals(&mut self.reader, buffer) {
             Some(count) => Ok(count),
@@ -65,6 +67,7 @@ pub struct WriteSink<W> {
 }
 
 impl<W: Drop> WriteSink<W> {
+    /// A sink over a writer, without a fault yet.
     pub fn new(writer: W) -> WriteSink<W>
         ensures { result.faults ≡ 0 }
     {
@@ -79,6 +82,7 @@ impl<W: Write> Sink for WriteSink<W> {
 
     ghost faults = { λ sink. sink.faults };
 
+    /// Writes all octets; it fails where the writer does.
     fn write(&mut self, piece: &[u8]) -> Result<(), Failed> {
         match self.writer.write_all(piece) {
             Ok(()) => Ok(()),

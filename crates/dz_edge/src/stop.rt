@@ -6,7 +6,7 @@ use std::sync::atomic::{AtomicBool, Ordering};
 /// The signals that end a server, SIGHUP, SIGINT and SIGTERM, in the masks of /proc/self/status.
 const ENDING: u64 = 0x4003;
 
-/// The word in front of the mask of the signals that are pending for the whole process.
+/// The word before the mask of the signals that are pending for the whole process.
 const PENDING: &[u8] = b"ShdPnd:";
 
 /// How many reads take the whole of /proc/self/status.
@@ -33,7 +33,7 @@ impl Stop {
         self.flag.load(Ordering::SeqCst)
     }
 
-    /// The server is to stop.
+    /// Tells that the server is to stop.
     pub fn set(&self) {
         self.flag.store(true, Ordering::SeqCst)
     }

@@ -1,4 +1,4 @@
-//! What a store's file has that counts, by the heads of its records.
+//! How much of a store's file counts, by the heads of its records.
 
 ghost use Rattle.std.specs.Prelude.{◌≡◌, ◌<◌, ◌≤◌, ◌+◌, ◌-◌, ◌^◌, min, IfOk, IfSome};
 
@@ -20,13 +20,13 @@ pub(crate) struct Survey {
 }
 
 impl Survey {
-    /// Counts a record, and no longer the one before it of its zone.
-    fn count(&mut self, record: &Record, before: u64)
-        ensures { self.new.all ≡ min (self.old.all + record.now.size) (2 ^ 64 - 1) }
+    /// Counts a record, in place of the one before it of its zone.
+    fn count(&mut self, one: &Record, before: u64)
+        ensures { self.new.all ≡ min (self.old.all + one.now.size) (2 ^ 64 - 1) }
     {
-        self.all = self.all.saturating_add(record.size);
-        if record.is_kept {
-            self.live = self.live.saturating_add(record.size);
+        self.all = self.all.saturating_add(one.size);
+        if one.is_kept {
+            self.live = self.live.saturating_add(one.size);
         }
         self.live = self.live.saturating_sub(before);
     }

@@ -11,8 +11,8 @@ use std::net::{Net, TcpListener};
 use std::sync::Wait;
 use std::time::Clock;
 
-/// A TCP listener and the connections that were made to it, of which each link is a turn. It doesn't tell its links, and
-/// is closed once the server is to stop.
+/// A TCP listener and the connections that were made to it, of which each link is a turn. It doesn't tell its links,
+/// and is closed once the server is to stop.
 #[derive(Drop)]
 pub struct TcpAcceptor<'a, R> {
     pub(crate) turns: Turns<'a, R>,
@@ -70,7 +70,7 @@ impl<'a, R: Clock + Files + Wait> Acceptor for TcpAcceptor<'a, R> {
 
     ghost faults = { λ acceptor. acceptor.faults };
 
-    /// Fails after a run of errors only, since a later connection may come well.
+    /// The next turn. It fails only after a run of errors, since a later connection may come through.
     fn accept(&mut self) -> Result<Accepted<Turn>, Failed> {
         match self.turns.next() {
             Some(Accepted::Closed) => {
@@ -88,6 +88,7 @@ impl<'a, R: Clock + Files + Wait> Acceptor for TcpAcceptor<'a, R> {
         }
     }
 
+    /// Takes a turn back: its replies are sent, and its connection waits for the next one.
     fn done(&mut self, link: Turn) {
         self.turns.done(link);
         self.out = None;

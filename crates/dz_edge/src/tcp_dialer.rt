@@ -45,6 +45,7 @@ impl<'a, R: Net<Stream = TcpStream> + Clock + Files + Wait + Sync> Dialer for Tc
 
     ghost faults = { λ dialer. dialer.faults };
 
+    /// A new connection to a peer; it fails where the peer doesn't answer within the limit.
     fn dial(&mut self, peer: &Peer) -> Result<TcpLink<'a, R>, Failed> {
         match connect(self.rt, self.bell, peer) {
             Some(link) => {
@@ -58,6 +59,7 @@ impl<'a, R: Net<Stream = TcpStream> + Clock + Files + Wait + Sync> Dialer for Tc
         }
     }
 
+    /// Takes a connection back, closes it, and counts that it had faults.
     fn done(&mut self, link: TcpLink<'a, R>) {
         self.out = None;
         if link.faults > 0 {

@@ -13,11 +13,11 @@ use std::time::{Clock, Duration};
 /// How many seconds a read or a write waits for the peer.
 const LIMIT_SECONDS: u64 = 10;
 
-/// How often a read is made that a signal interrupts, or that waits.
+/// How many times a read is tried that signals interrupt, or that waits.
 const TRIES: usize = 1000;
 
-/// A TCP connection to a primary. It doesn't tell its octets. Its reads look each second whether the server is to stop, and
-/// fail then.
+/// A TCP connection to a primary. It doesn't tell its octets. Its reads look each second whether the server is to stop,
+/// and fail then.
 #[derive(Drop)]
 pub struct TcpLink<'a, R> {
     watch: Watch<'a, R>,
@@ -52,6 +52,7 @@ impl<'a, R: Clock + Files + Wait> Source for TcpLink<'a, R> {
 
     ghost faults = { λ link. link.faults };
 
+    /// Reads octets, and answers how many; it fails after the limit, or where the server is to stop.
     fn read(&mut self, buffer: &mut [u8]) -> Result<usize, Failed> {
         match read_within(&mut self.watch, &mut self.stream, buffer) {
             Some(count) => Ok(count),
@@ -70,6 +71,7 @@ impl<'a, R: Clock + Files + Wait> Sink for TcpLink<'a, R> {
 
     ghost faults = { λ link. link.faults };
 
+    /// Writes all octets; it fails where the socket does.
     fn write(&mut self, piece: &[u8]) -> Result<(), Failed> {
         match self.stream.write_all(piece) {
             Ok(()) => Ok(()),

@@ -25,6 +25,7 @@ const ANY: Peer = Peer {
 /// The reply to a NOTIFY that was taken: its front, which no question follows.
 const TAKEN: &[u8] = b"\x12\x34\xa4\x00";
 
+/// The IPv4 peer at this address.
 fn port_of<R: Abort>(rt: &R, address: std::io::Result<SocketAddr>) -> Peer {
     match address {
         Ok(address) => Peer {
@@ -75,6 +76,57 @@ fn a_datagram_comes_to_the_socket_that_sent_it(rt: HostRuntime) -> Result<(), Al
     assert_eq!(rt; bell.count(&rt), 1);
     bell.stop(&rt);
     assert_eq!(rt; one.receive(&mut buffer), Ok(Received::Closed));
+    ports.close_datagrams(one);
+    ports.close_datagrams(other);
+    Ok(())
+}
+
+/// Whether the next packet that a device receives is this one.
+fn is_next<R: Wait>(device: &mut UdpDatagrams<'_, R>, packet: &[u8], buffer: &mut [u8]) -> bool
+    requires { 65535 ≤ length buffer.old }
+{
+    match device.receive(buffer) {
+        Ok(Received::Packet { length, peer: _ }) => {
+            buffer.get(..length).unwrap_or(&[]) == packet
+        }
+        _ => false,
+    }
+}
+
+/// Two NOTIFYs by their fronts (RFC 1996 section 3.7).
+const NOTIFY: &[u8] = b"\x12\x34\x24\x00";
+
+const LATER: &[u8] = b"\x12\x35\x24\x00";
+
+/// A packet comes before a NOTIFY that was sent before it, since another NOTIFY has its session.
+fn expect_packet_first<R: Abort + Wait>(
+    rt: &R,
+    one: &mut UdpDatagrams<'_, R>,
+    other: &mut UdpDatagrams<'_, R>,
+    here: &Peer,
+    buffer: &mut [u8],
+)
+    requires { 65535 ≤ length buffer.old }
+{
+    assert!(rt; passes(one, other, here, NOTIFY, buffer));
+    let sent = one.send(here, LATER).is_ok() && one.send(here, b"one packet").is_ok();
+    assert!(rt; sent && is_next(one, b"one packet", buffer));
+}
+
+#[test]
+fn a_notify_waits_while_another_has_its_session(rt: HostRuntime) -> Result<(), AllocError> {
+    let bell = Bell::new();
+    let mut ports = HostPorts::new(&rt, rt.alloc(), &bell);
+    let mut buffer = vec![in rt.alloc(); 0_u8; 65_535]?;
+    let Ok(mut one) = ports.open_datagrams(&ANY, 0) else {
+        panic!(rt; "not opened");
+    };
+    let Ok(mut other) = ports.open_datagrams(&ANY, 1) else {
+        panic!(rt; "not opened");
+    };
+    let here = port_of(&rt, one.socket.local_addr());
+    expect_packet_first(&rt, &mut one, &mut other, &here, &mut buffer);
+    assert!(rt; is_next(&mut other, LATER, &mut buffer));
     ports.close_datagrams(one);
     ports.close_datagrams(other);
     Ok(())
@@ -181,6 +233,7 @@ fn client<R: Net<Stream = TcpStream> + Abort>(rt: &R, here: &Peer) -> TcpStream 
     }
 }
 
+/// Writes octets to a connection.
 fn write<R: Abort>(rt: &R, stream: &mut TcpStream, octets: &[u8]) {
     assert!(rt; stream.set_nodelay(true).is_ok());
     assert!(rt; stream.write_all(octets).is_ok());

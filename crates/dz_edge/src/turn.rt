@@ -3,14 +3,15 @@ ghost use Rattle.std.specs.Prelude.{◌≡◌, ◌≤◌, refl, length, None};
 
 use crate::buffers::Buffers;
 use crate::connection::Connection;
-use crate::frames::{LENGTH_OCTETS, frame_end, takes_notify};
+use crate::frames::{frame_end, takes_notify};
 use crate::replies::REPLY_OCTETS;
 use dz_io::{Failed, Link, Sink, Source};
+use dz_name::dns::LENGTH_OCTETS;
 
 /// A turn of a TCP connection, as a link: whole frames of it, which were read before, and their replies, which are sent
 /// once the turn is done. So none of its calls waits. It doesn't tell its octets.
 ///
-/// It ends between two frames: behind the last whole one, or once the replies are many.
+/// It ends between two frames: after the last whole one, or once the replies are many.
 #[derive(Drop)]
 pub struct Turn {
     pub(crate) connection: Connection,
@@ -48,7 +49,7 @@ impl Frames {
         }
     }
 
-    /// Whether it stands between two frames.
+    /// Whether it is between two frames.
     pub fn is_between(&self) -> bool {
         self.at == self.end
     }
@@ -104,6 +105,7 @@ impl Source for Turn {
 
     ghost faults = { λ turn. turn.faults };
 
+    /// Copies octets of the next frame, and answers how many; it never reads the socket, and never fails.
     fn read(&mut self, buffer: &mut [u8]) -> Result<usize, Failed> {
         if self.frames.is_between() {
             self.begin_frame();
@@ -134,8 +136,8 @@ impl Sink for Turn {
 
     ghost faults = { λ turn. turn.faults };
 
-    /// The piece is a reply after its length. Where more would wait than may, or memory is wanting, this link fails alone:
-    /// its connection is closed as it is done, and its replies go.
+    /// Adds a piece, which is a reply after its length. Where more would wait than may, or memory runs out, this link
+    /// fails alone: its connection is closed as it is done, and its replies go.
     fn write(&mut self, piece: &[u8]) -> Result<(), Failed> {
         if self.buffers.replies.add(piece).is_err() {
             self.faults = self.faults.saturating_add(1);

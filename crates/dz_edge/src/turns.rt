@@ -38,7 +38,7 @@ const LOOK_MILLIS: u64 = 200;
 /// How many milliseconds after an error the listener is tried again.
 const AGAIN_MILLIS: u64 = 100;
 
-/// After how many errors in a row of the poll a listener counts as failed.
+/// After how many errors of the poll in a row a listener counts as failed.
 const ERRORS: u32 = 100;
 
 /// Whether the listener has a connection.
@@ -46,14 +46,15 @@ const ERRORS: u32 = 100;
 enum Door {
     /// It may have one.
     Open,
-    /// It has none. The system will tell of the next.
+    /// It has none. The system will tell when the next comes.
     Quiet,
     /// It failed, as where no descriptor is left. It is tried again a little later.
     Failed,
 }
 
-/// The connections of a worker, which have turns. In a round each that is ready has one turn; between two rounds the worker
-/// looks which are, and accepts what is new. It waits for no client: a connection without a whole frame lies in the poll.
+/// The connections of a worker, which take turns. In a round each that is ready has one turn; between two rounds the
+/// worker looks which are ready, and accepts what is new. It waits for no client: a connection without a whole frame is
+/// left to the poll.
 #[derive(Drop)]
 pub(crate) struct Turns<'a, R> {
     rt: &'a R,
@@ -142,8 +143,8 @@ impl<'a, R: Clock + Files + Wait> Turns<'a, R> {
         None
     }
 
-    /// Sends the replies of a turn, and puts its connection back. After a fault the connection is closed, and no more waits
-    /// than before.
+    /// Sends the replies of a turn, and puts its connection back. After a fault the connection is closed, and no more
+    /// waits than before.
     pub fn done(&mut self, turn: Turn)
         ensures { turn.faults ≢ 0
             → self.new.crowd.waiting.octets ≤ self.old.crowd.waiting.octets }
@@ -190,8 +191,8 @@ impl<'a, R: Clock + Files + Wait> Turns<'a, R> {
         self.crowd.queue_for_zone(place);
     }
 
-    /// The next turn of the round, or the one after it, of a connection that asks for a whole zone: its stream takes long to
-    /// put together, so that all other connections that are ready have a turn before each.
+    /// The next turn of the round, or the one after the round, of a connection that asks for a whole zone. Its stream
+    /// takes long to put together, so all other connections that are ready have a turn before each.
     fn next_turn(&mut self) -> Option<Turn>
         ensures faults { IfSome result (λ turn. turn.faults ≡ 0) }
         ensures none { IfSome result (λ turn. turn.buffers.replies.octets.items ≡ []) }
@@ -209,7 +210,8 @@ impl<'a, R: Clock + Files + Wait> Turns<'a, R> {
         }
     }
 
-    /// Takes what a connection has, and gives its turn where that has a whole frame, and asks for no zone or is to have it.
+    /// Takes what a connection has, and gives its turn where it has a whole frame, and doesn't ask for a zone or is to
+    /// have it.
     fn take_turn(&mut self, place: usize, for_zone: bool) -> Option<Turn>
         ensures faults { IfSome result (λ turn. turn.faults ≡ 0) }
         ensures none { IfSome result (λ turn. turn.buffers.replies.octets.items ≡ []) }
@@ -261,8 +263,8 @@ impl<'a, R: Clock + Files + Wait> Turns<'a, R> {
         self.crowd.release(place);
     }
 
-    /// Accepts what is new, looks which connections are ready, and begins a round of them. It answers whether the system
-    /// told.
+    /// Accepts what is new, looks which connections are ready, and begins a round of them. It answers whether the poll
+    /// succeeded.
     fn begin_round(&mut self) -> bool {
         self.try_again();
         self.accept_guests();
@@ -302,7 +304,7 @@ impl<'a, R: Clock + Files + Wait> Turns<'a, R> {
         }
     }
 
-    /// Accepts connections while there may be some, so many at most.
+    /// Accepts connections while there may be some, `GUESTS` at most.
     fn accept_guests(&mut self) {
         'guests: for _ in 0..GUESTS {
             if self.door != Door::Open {

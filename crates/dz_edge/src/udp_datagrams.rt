@@ -4,7 +4,7 @@ ghost use Rattle.dz_io.specs.Packets.{Receives};
 
 use crate::Bell;
 use crate::address::{peer_of, socket_address};
-use crate::frames::takes_notify;
+use crate::frames::{is_notify, takes_notify};
 use dz_io::{Datagrams, Failed, Peer, Received};
 use std::io::ErrorKind;
 use std::net::{Net, UdpSocket};
@@ -17,7 +17,7 @@ const LOOK_MILLIS: u64 = 200;
 /// After how many errors in a row a socket counts as failed.
 const ERRORS: u32 = 100;
 
-/// How often a packet is sent that a signal interrupts.
+/// How many times a packet is sent that signals interrupt.
 const TRIES: usize = 1000;
 
 /// A UDP socket. It doesn't tell its packets, and is closed once the server is to stop.
@@ -26,6 +26,8 @@ pub struct UdpDatagrams<'a, R> {
     rt: &'a R,
     bell: &'a Bell,
     pub(crate) socket: UdpSocket,
+    /// Whether a NOTIFY that it received has its session.
+    hears: bool,
     is_closed: bool,
     pub(crate) faults: u64,
 }
@@ -48,9 +50,58 @@ impl<'a, R> UdpDatagrams<'a, R> {
             rt,
             bell,
             socket,
+            hears: false,
             is_closed: false,
             faults: 0,
         }
+    }
+}
+
+impl<'a, R: Wait> UdpDatagrams<'a, R> {
+    /// The session of a NOTIFY has ended, if there was one.
+    fn end_session(&mut self)
+        ensures closed { self.new.is_closed ≡ self.old.is_closed }
+        ensures faults { self.new.faults ≡ self.old.faults }
+    {
+        if self.hears {
+            self.hears = false;
+            self.bell.notifies.end(self.rt);
+        }
+    }
+
+    /// The next packet whose session may begin, or that the server is to stop; none after a run of errors.
+    fn next_packet(&mut self, buffer: &mut [u8]) -> Option<Received>
+        ensures came { IfSome result (λ r. Receives r buffer.new None None) }
+        ensures closed { self.new.is_closed ≡ self.old.is_closed }
+        ensures faults { self.new.faults ≡ self.old.faults }
+    {
+        'packets: for _ in 0..u64::MAX {
+            if let Some((length, peer)) = self.bell.notifies.next(self.rt, buffer) {
+                self.hears = true;
+                return Some(Received::Packet { length, peer });
+            }
+            match receive_next(&self.socket, self.bell, buffer)? {
+                Received::Closed => return Some(Received::Closed),
+                Received::Packet { length, peer } => {
+                    if self.may_begin(&peer, buffer.get(..length).unwrap_or(&[])) {
+                        return Some(Received::Packet { length, peer });
+                    }
+                }
+            }
+        }
+        None
+    }
+
+    /// Whether the session of a packet may begin at once: of any but a NOTIFY while another has its session.
+    fn may_begin(&mut self, peer: &Peer, packet: &[u8]) -> bool
+        ensures closed { self.new.is_closed ≡ self.old.is_closed }
+        ensures faults { self.new.faults ≡ self.old.faults }
+    {
+        if !is_notify(packet) {
+            return true;
+        }
+        self.hears = self.bell.notifies.begin(self.rt, peer, packet);
+        self.hears
     }
 }
 
@@ -63,9 +114,11 @@ impl<'a, R: Wait> Datagrams for UdpDatagrams<'a, R> {
 
     ghost faults = { λ device. device.faults };
 
-    /// Fails after a run of errors only, since a later packet may come well.
+    /// The next packet. A NOTIFY is kept back while another has its session, and comes once that has ended. The call
+    /// fails only after a run of errors, since a later packet may come through.
     fn receive(&mut self, buffer: &mut [u8]) -> Result<Received, Failed> {
-        match receive_next(&self.socket, self.bell, buffer) {
+        self.end_session();
+        match self.next_packet(buffer) {
             Some(Received::Closed) => {
                 self.is_closed = true;
                 Ok(Received::Closed)
@@ -78,9 +131,11 @@ impl<'a, R: Wait> Datagrams for UdpDatagrams<'a, R> {
         }
     }
 
-    /// Rings the bell behind the reply to a NOTIFY that was taken: then the zone that it tells of is due.
+    /// Sends a packet, and rings the bell after the reply to a NOTIFY that was taken: then the zone that it tells of is
+    /// due.
     fn send(&mut self, peer: &Peer, piece: &[u8]) -> Result<(), Failed> {
         let is_sent = send_whole(&self.socket, peer, piece);
+        self.end_session();
         if takes_notify(piece) {
             self.bell.ring(self.rt);
         }

@@ -2,8 +2,8 @@
 ghost use Rattle.std.specs.Prelude.{◌≡◌, ◌≤◌, ◌+◌, ◌↔◌, IsTrue};
 ghost use Rattle.dz_edge.specs.declared.waiting.TheConstants.{WAITING_OCTETS};
 
-/// How many octets of replies the connections of a worker keep together at most: those of which a socket hasn't taken the
-/// last, and those of the turn that runs. A connection that would keep more is closed.
+/// How many octets of replies the connections of a worker keep together at most: those of which a socket hasn't taken
+/// the last, and those of the turn that runs. A connection that would keep more is closed.
 pub const WAITING_OCTETS: usize = 256 * 1_048_576;
 
 /// How many octets of replies wait, of those that may.
@@ -21,14 +21,14 @@ impl Waiting {
         Waiting { octets: 0 }
     }
 
-    /// Whether so many octets more may wait.
+    /// Whether this many octets more may wait.
     pub fn has_room(self, count: usize) -> bool
         ensures { IsTrue result ↔ (self.octets + count ≤ WAITING_OCTETS) }
     {
         count <= WAITING_OCTETS - self.octets
     }
 
-    /// So many octets more wait.
+    /// This many octets more wait.
     pub fn add(&mut self, count: usize)
         requires { self.old.octets + count ≤ WAITING_OCTETS }
         ensures { self.new.octets ≡ self.old.octets + count }
@@ -36,7 +36,7 @@ impl Waiting {
         self.octets += count;
     }
 
-    /// So many octets wait no more.
+    /// This many octets no longer wait.
     pub fn take_off(&mut self, count: usize)
         requires { count ≤ self.old.octets }
         ensures { self.new.octets + count ≡ self.old.octets }

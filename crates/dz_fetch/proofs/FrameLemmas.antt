@@ -44,7 +44,7 @@ whole_octets octets whole =
     let long : nat_lt (length octets) (2 + number_of_two octets) ≡ false = grind (arith, nat_tests) in
     rw (there, long) refl
 
--- the number in front is read from the first two octets
+-- the leading number is read from the first two octets
 front_number : (front more : Octets) → length front ≡ 2 → number_of_two (front ++ more) ≡ number_of_two front
 unfolding number_of_two
 front_number [] more two = absurd (omega arith)
@@ -52,7 +52,7 @@ front_number (a ∷ []) more two = absurd (omega arith)
 front_number (a ∷ b ∷ []) more two = refl
 front_number (a ∷ b ∷ c ∷ rest) more two = absurd (omega arith)
 
--- octets that are as long as the number in front says are a frame
+-- octets that are as long as the leading number says are a frame
 frame_is : (octets : Octets) → All (λ octet. octet < 256) octets → length octets ≡ 2 + number_of_two octets → IsFrame octets
 frame_is octets below whole =
     let size = number_of_two octets in
@@ -82,7 +82,7 @@ octets_below octets fits k d inside = subst (λ (n : ℕ). n < 256) (get_or_defa
 pub short_part : (old octets : Octets) (before after left : Option Octets) → ReadsOn 2 old octets before after left → length octets < 2 → IsPart octets left
 short_part old octets before after left reads few = record { part = few_octets octets few; ended = reads.ends few }
 
--- the octets behind a length of two octets: they are a frame, or a part of one
+-- the octets after a length of two octets: they are a frame, or a part of one
 pub next_is : (front octets : Octets) (size count : ℕ) (before after left : Option Octets) (whole : Bool) → All (λ octet. octet < 256) octets → length front ≡ 2 → size ≡ number_of_two front → count ≡ length octets
     → ReadsOn (2 + size) front octets before after left → nat_eq count (2 + size) ≡ whole → IsNext whole octets left
 next_is front octets size count before after left true below two is counts reads test =

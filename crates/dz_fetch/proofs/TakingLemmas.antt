@@ -15,8 +15,8 @@ use Rattle.dz_take.specs.Transfer.{Transfer, Decision, refused}
 use Rattle.dz_take.specs.declared.outcome.TakeFault.TheVariants.{TooLong}
 use Rattle.dz_take.proofs.DecidingLemmas.{decided_push}
 use Rattle.dz_job.specs.Job.{JobOf, transfer_for}
-use Rattle.dz_stream.specs.Stream.{IsReadOf}
-use Rattle.dz_stream.proofs.StreamLemmas.{read_is}
+use Rattle.dz_job.specs.Stream.{IsReadOf}
+use Rattle.dz_job.proofs.StreamLemmas.{read_is}
 use Rattle.dz_fetch.specs.Fetching.{IsTakenFrom}
 use Rattle.dz_fetch.specs.inner.Frames.{IsFrame, IsPart, AreFrames, HasTaken}
 use Rattle.dz_fetch.proofs.GainLemmas.{gains_more}
@@ -76,7 +76,7 @@ ends_open transfer read part before between after left frames one two here none 
 }
 
 -- ---- the transfer
--- a part of a frame behind whole frames has no message
+-- a part of a frame after whole frames has no message
 messages_same : (read part : Octets) → AreFrames read → first_size part ≡ None → messages_in (read ++ part) ≡ messages_in read
 messages_same read part frames rest =
     let same : read ++ part ≡ stream (messages_in read) ++ part = ap (λ o. o ++ part) frames.are in

@@ -8,13 +8,13 @@ use Rattle.dz_message.specs.Frame.{stream, messages_in}
 use Rattle.dz_take.specs.Outcome.{decided}
 use Rattle.dz_take.specs.Taken.{Taken}
 use Rattle.dz_job.specs.Job.{JobOf, transfer_for}
-use Rattle.dz_stream.specs.Stream.{IsReadOf}
+use Rattle.dz_job.specs.Stream.{IsReadOf}
 use Rattle.dz_fetch.specs.Query.{query_of}
 use Rattle.dz_fetch.specs.declared.fetched.Fetched.{Fetched}
 use Rattle.dz_fetch.specs.declared.fetched.Fetched.TheVariants as fetched
 
--- a job's transfer was read of the octets that were given: it has their whole frames, and its outcome is that of all of
--- them. Where they decide something, nothing behind was given; where they don't, nothing is left
+-- a job's transfer was read from the given octets: it has their whole frames, and its outcome is that of all of them.
+-- Where they decide something, nothing past them was given; where they don't, nothing is left
 pub record IsReadFrom (job : JobOf) (given : Octets) (left : Option Octets) (read : Taken) : Type 0 where
   pub transfer : read.transfer ≡ transfer_for job
   pub frames : read.octets ≡ stream (messages_in given)
@@ -55,6 +55,7 @@ abbrev pub ShowsDial : Option Dialled → ℕ → ℕ → Type 0
 ShowsDial (Some link) before now = ⊤
 ShowsDial None before now = HasRisen before now
 
+-- the link, where one was dialled
 abbrev pub links_of : Option Dialled → List Dialled
 links_of None = []
 links_of (Some link) = link ∷ []
@@ -66,7 +67,7 @@ pub record IsFetch (result : Fetched) (job : JobOf) (before after : Option (List
   pub gains : Gains (links_of link) before after
   pub shown : ShowsDial link faults now
 
--- a count of faults stands where the transfer was read, and rose where the answer is a fault
+-- a count of faults is unchanged where the transfer was read, and rose where the answer is a link fault
 abbrev pub Counts : Fetched → ℕ → ℕ → Type 0
 Counts (fetched.Finished read) before now = now ≡ before
 Counts fetched.LinkFault before now = HasRisen before now

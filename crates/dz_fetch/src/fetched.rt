@@ -7,8 +7,8 @@ use dz_take::Finished;
 pub enum Fetched {
     /// It was read, up to what decides it or to where the link ended.
     Finished(Finished),
-    /// The dial failed, or a call on the link or source.
+    /// The dial failed, or a call on the link or source did.
     LinkFault,
-    /// Memory was wanting.
+    /// Out of memory.
     OutOfMemory,
 }

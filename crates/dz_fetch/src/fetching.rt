@@ -6,13 +6,13 @@ ghost use Rattle.dz_fetch.specs.inner.Frames.{IsAsked};
 
 use crate::Fetched;
 use crate::query::framed_query;
-use crate::taking::take_all;
+use crate::take::take_all;
 use dz_io::{Dialer, Failed, Link, Sink};
 use dz_job::Job;
 use std::alloc::Global;
 
-/// Dials the job's primary, writes the job's query, reads messages up to the first that decides or to the link's end, and
-/// gives the link back. It dials before it takes memory.
+/// Dials the job's primary, writes the job's query, reads messages up to the first that decides or to the link's end,
+/// and gives the link back. It dials before it takes memory.
 pub fn fetch<D: Dialer>(alloc: Global, dialer: &mut D, job: &Job) -> Fetched
     requires { D.out dialer.old ≡ None }
     ensures out { D.out dialer.new ≡ None }
@@ -32,7 +32,7 @@ pub fn fetch<D: Dialer>(alloc: Global, dialer: &mut D, job: &Job) -> Fetched
     }
 }
 
-// Writes the job's query to a link, and reads what it gives.
+/// Writes the job's query to a link, and reads what it gives.
 fn ask<L: Link>(alloc: Global, link: &mut L, job: &Job) -> Fetched
     ensures asked { IsAsked result (query_of job.now) (L.held link.old) (L.held link.new) }
     ensures taken { IsTaken result job.now (L.given link.old) (L.given link.new) (L.left link.new) }

@@ -4,17 +4,17 @@ ghost use Rattle.dz_io.specs.Device.{Gains, IsAtEnd, HasCause, HasCauseOf};
 ghost use Rattle.dz_fetch.specs.inner.Frames.{ReadsOn, IsNext};
 
 use dz_io::{Failed, Source};
-use dz_message::LENGTH_OCTETS;
+use dz_name::dns::LENGTH_OCTETS;
 use dz_name::numbers::number_of_two;
 
-// Why nothing was read.
+/// Why nothing was read.
 #[derive(Clone, Copy, Debug, PartialEq, Eq)]
 pub(crate) enum ReadError {
     Fault,
     OutOfMemory,
 }
 
-// Reads at most so many octets into the front of the buffer, and answers how many.
+/// Reads at most this many octets into the front of the buffer, and answers how many.
 fn read_front<S: Source>(source: &mut S, buffer: &mut [u8], room: usize) -> Result<usize, Failed>
     requires some { 0 < room }
     requires fits { room ≤ length buffer.old }
@@ -29,7 +29,7 @@ fn read_front<S: Source>(source: &mut S, buffer: &mut [u8], room: usize) -> Resu
     source.read(front)
 }
 
-// Reads on until there are so many octets, or the source ends.
+/// Reads on until there are this many octets, or the source ends.
 fn read_to<S: Source>(source: &mut S, octets: &mut Vec<u8>, want: usize) -> Result<(), ReadError>
     requires { length octets.old.items ≤ want }
     ensures read { OnOk result (ReadsOn want octets.old.items octets.new.items
@@ -53,7 +53,7 @@ fn read_to<S: Source>(source: &mut S, octets: &mut Vec<u8>, want: usize) -> Resu
     Ok(())
 }
 
-// Reads the next frame, its length with it, and answers whether it is whole.
+/// Reads the next frame, with its length, and answers whether it is whole.
 pub(crate) fn read_frame<S: Source>(source: &mut S, frame: &mut Vec<u8>) -> Result<bool, ReadError>
     ensures next { IfOk result (λ whole. IsNext whole frame.new.items (S.left source.new)) }
     ensures given { OnOk result (Gains frame.new.items (S.given source.old) (S.given source.new)) }

@@ -5,8 +5,8 @@ mod fetched;
 mod fetching;
 mod frames;
 mod query;
-mod taking;
+mod take;
 
 pub use fetched::Fetched;
 pub use fetching::fetch;
-pub use taking::take_all;
+pub use take::take_all;

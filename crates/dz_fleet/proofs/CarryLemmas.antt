@@ -6,7 +6,7 @@ use Rattle.std.proofs.lemmas.List.{map-append, take_more}
 use Rattle.std.proofs.lemmas.Bool.{cases_Bool, eqb-true}
 use Rattle.std.proofs.lemmas.Bool.Decides.{nat_tests}
 use Rattle.dz_member.specs.Membership.{MemberOf}
-use Rattle.dz_schedule.specs.Values.{ValuesOf, fresh}
+use Rattle.dz_timer.specs.Values.{ValuesOf, fresh}
 use Rattle.dz_history.specs.State.{State, member_at}
 use Rattle.dz_history.specs.Places.{place_at}
 use Rattle.dz_fleet.specs.Values.{value_in, kept, carried_from, carried, relisted_values}

@@ -4,7 +4,7 @@ use Rattle.std.specs.Prelude.{Option, slice_get, slice_set, filter, IsSome, ifâ—
 use Rattle.std.specs.Option.{option_map_or}
 use Rattle.std.proofs.lemmas.Option.{get_or_from_slice_get}
 use Rattle.dz_io.specs.declared.peer.Peer.{Peer}
-use Rattle.dz_schedule.specs.Values.{ValuesOf, fresh, failed, refused}
+use Rattle.dz_timer.specs.Values.{ValuesOf, fresh, failed, refused}
 use Rattle.dz_history.specs.declared.entry.Entry.{Entry}
 use Rattle.dz_history.specs.State.{State, IsState, held_at, primaries_at}
 use Rattle.dz_history.specs.After.{after}

@@ -5,12 +5,12 @@ use Rattle.std.proofs.lemmas.Bool.{cases_Bool}
 use Rattle.std.proofs.lemmas.Option.{slice_get-get_or}
 use Rattle.dz_name.specs.Words.{Name, Octets}
 use Rattle.dz_zone.specs.Version.{Zone}
-use Rattle.dz_member.specs.declared.config.CatalogSettings.{CatalogSettings}
-use Rattle.dz_member.specs.Config.{IsAllowed}
+use Rattle.dz_settings.specs.declared.config.CatalogSettings.{CatalogSettings}
+use Rattle.dz_settings.specs.Config.{IsAllowed}
 use Rattle.dz_notify.specs.declared.notify.Heard.{Heard}
 use Rattle.dz_notify.specs.declared.notify.Heard.TheVariants as heard
-use Rattle.dz_schedule.specs.Values.{ValuesOf, departed, succeeded}
-use Rattle.dz_schedule.specs.Values as schedule
+use Rattle.dz_timer.specs.Values.{ValuesOf, departed, succeeded}
+use Rattle.dz_timer.specs.Values as schedule
 use Rattle.dz_take.specs.Taken.{CanAsk}
 use Rattle.dz_take.specs.Outcome.{outcome, octets_used}
 use Rattle.dz_history.specs.declared.aftermath.Aftermath.{Aftermath}
@@ -48,12 +48,12 @@ use Rattle.dz_fleet.proofs.WakeLemmas.{same_busy}
 use Rattle.dz_fleet.proofs.StateLemmas.{AreOwn, state_step, state_opened, own_step, held_own}
 
 -- what holds of every core that can come about
-record IsWell (c : Core) : Type 0 where
-  sound : IsSound c
-  state : IsState (state_of c)
-  apart : IsApart (state_of c)
-  placed : IsPlacedIn (state_of c)
-  own : AreOwn (state_of c)
+pub record IsWell (c : Core) : Type 0 where
+  pub sound : IsSound c
+  pub state : IsState (state_of c)
+  pub apart : IsApart (state_of c)
+  pub placed : IsPlacedIn (state_of c)
+  pub own : AreOwn (state_of c)
 
 well_same : (c d : Core) → d.list ≡ c.list → IsWell c → IsSound d → IsWell d
 well_same c d e ok sound = record {
@@ -64,7 +64,7 @@ well_same c d e ok sound = record {
   own = subst (λ (l : List Entry). AreOwn (after l)) (sym e) ok.own;
 }
 
-well_opened : (config : List CatalogSettings) → IsAllowed config → IsWell (opened_core config)
+pub well_opened : (config : List CatalogSettings) → IsAllowed config → IsWell (opened_core config)
 well_opened config allowed =
     let k = opened_kept config (opened config) allowed refl (state_opened config allowed) in
     record {
@@ -104,7 +104,7 @@ well_first c now (Some place) ok moment free first = elim (cases_Bool (nat_lt no
   | inr late ↦ rw late (well_handed c now place ok moment free first)
 ]
 
-well_due : (c : Core) (now : ℕ) → IsWell c → now < 2 ^ 40 → IsWell (after_due c (due_of c now))
+pub well_due : (c : Core) (now : ℕ) → IsWell c → now < 2 ^ 40 → IsWell (after_due c (due_of c now))
 well_due c now ok moment = elim (cases_Bool (is_full c)) [
   | inl full ↦ rw full ok
   | inr free ↦ rw free (well_first c now (first_place c) ok moment free refl)
@@ -129,13 +129,13 @@ module _ (c : Core) (job : JobOf) (now : ℕ) (ok : IsWell c) (among : IsAmong j
   well_failure : ended_of c job ≡ None → IsWell (after_failure c job now)
   well_failure none = well_same c (after_failure c job now) refl ok (rw (job_seated none).at (waits_on none false))
 
-  well_refusal : ended_of c job ≡ None → IsWell (after_refusal c job now)
+  pub well_refusal : ended_of c job ≡ None → IsWell (after_refusal c job now)
   well_refusal none = well_same c (after_refusal c job now) refl ok (rw (job_seated none).at (waits_on none true))
 
   well_landed : (n : ℕ) → ended_of c job ≡ Some n → IsWell (landed c job)
   well_landed n e = well_same c (landed c job) refl ok (sound_landed c job n ok.state ok.apart ok.sound among e)
 
-  well_end : (o : Option ℕ) → ended_of c job ≡ o → IsWell (after_end c job now o)
+  pub well_end : (o : Option ℕ) → ended_of c job ≡ o → IsWell (after_end c job now o)
   well_end None e = well_failure e
   well_end (Some n) e = well_landed n e
 
@@ -233,7 +233,7 @@ module _ (c : Core) (job : JobOf) (octets : Octets) (now : ℕ) (ok : IsWell c) 
   well_verdict (Stale n) tell = well_landed c job now ok fly.there n (tell.ended n refl)
   well_verdict OutOfMemory tell = absurd (tell.memory refl)
 
-  well_settled : IsWell (settled c job octets now)
+  pub well_settled : IsWell (settled c job octets now)
   well_settled = subst IsWell (sym (settled_by c job octets used now (verdict_of c job octets) refl)) (well_verdict (verdict_of c job octets) (tells c job octets))
 
 -- ---- a NOTIFY comes

@@ -110,7 +110,7 @@ later_kept : (job : JobOf) (t : ℕ) (jobs : List JobOf) → t ≡ job.flight.ti
 later_kept job t jobs e h = all_kept (λ j. not (j.flight.ticket == job.flight.ticket)) jobs
     (all_weaker (λ (other : JobOf). t < other.flight.ticket) (λ (j : JobOf). not (j.flight.ticket == job.flight.ticket) ≡ true) jobs (λ x h. kept_test x.flight.ticket job.flight.ticket (λ e'. omega arith)) h)
 
--- the job in front is the one that goes, or it stays
+-- the first job is the one that goes, or it stays
 front_goes : (job j : JobOf) (js : List JobOf) → j.flight ≡ job.flight → AllByRecursion (λ other. j.flight.ticket < other.flight.ticket) js → others (j ∷ js) job ≡ js
 front_goes job j js e h =
     let t : j.flight.ticket ≡ job.flight.ticket = ap (λ (f : Flight). f.ticket) e in
@@ -212,7 +212,7 @@ found_passes list p (g ∷ gs) f h e = elim (cases_Bool (p g)) [
   | inr n ↦ found_passes list p gs f h.1 (rw n at e)
 ]
 
--- what is found by the ticket of a job in flight is beside where its incarnation ended
+-- what is found by the ticket of a job in flight has the position at which its incarnation ended
 pub found_ended : (list : List Entry) (flight : Flight) (fs : List Flying) (f : Flying) → AreApart (map job_in fs) → AllByRecursion (IsMarked list) fs → IsAmong flight (map job_in fs)
     → Some f ≡ find (λ g. g.flight.ticket == flight.ticket) fs → f.ended ≡ ended list flight.zone flight.incarnation
 found_ended list flight fs f h marks a e =

@@ -8,8 +8,8 @@ use Rattle.std.proofs.lemmas.Bool.Decides.{nat_tests}
 use Rattle.std.proofs.lemmas.Option.{get_or_from_slice_get, slice_get-get_or}
 use Rattle.std.proofs.lemmas.List.Quantifiers.{position-Some}
 use Rattle.dz_io.specs.declared.peer.Peer.{Peer}
-use Rattle.dz_schedule.specs.Values.{ValuesOf, fresh, departed}
-use Rattle.dz_schedule.specs.Schedule.{is_first}
+use Rattle.dz_timer.specs.Values.{ValuesOf, fresh, departed}
+use Rattle.dz_timer.specs.Schedule.{is_first}
 use Rattle.dz_history.specs.declared.entry.Entry.{Entry}
 use Rattle.dz_history.specs.State.{State, IsState, primaries_at}
 use Rattle.dz_history.specs.After.{after}

@@ -3,7 +3,7 @@ use Rattle.std.proofs.Common.{◌≡◌, ℕ, ◌<◌, Bool, true, false, List, 
 use Rattle.std.specs.Prelude.{Option, ◌==◌, ◌&&◌, not, is_some, filter, slice_get, slice_set, if◌then◌else◌}
 use Rattle.std.specs.Option.{option_or}
 use Rattle.std.proofs.lemmas.Bool.{cases_Bool}
-use Rattle.dz_schedule.specs.Values.{ValuesOf}
+use Rattle.dz_timer.specs.Values.{ValuesOf}
 use Rattle.dz_history.specs.declared.entry.Entry.{Entry}
 use Rattle.dz_history.specs.State.{State, IsState, stands}
 use Rattle.dz_history.specs.After.{after, step}
@@ -87,7 +87,7 @@ pub marked_jobs : (s : State) (position : ℕ) (fs : List Flying) → map job_in
 marked_jobs s position [] = refl
 marked_jobs s position (f ∷ fs) = rw (marked_job s position f, marked_jobs s position fs) refl
 
--- where nothing ended an incarnation before, it stood; the mark is made where it doesn't stand after the entry
+-- where nothing ended an incarnation before, it was current; the mark is made where it isn't current after the entry
 fresh_mark : (s t : State) (f : Flying) (n : ℕ) (b : Bool) → stands s f.flight.zone f.flight.incarnation ≡ true → stands t f.flight.zone f.flight.incarnation ≡ b → f.ended ≡ None
     → (marked t n f).ended ≡ option_or None (if stands s f.flight.zone f.flight.incarnation && not (stands t f.flight.zone f.flight.incarnation) then Some n else None)
 fresh_mark s t f n true st e none = rw (none, st, e) refl

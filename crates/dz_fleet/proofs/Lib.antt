@@ -8,6 +8,7 @@ pub mod FlyingLemmas
 pub mod GrowLemmas
 pub mod HandLemmas
 pub mod KeptLemmas
+mod LastLemmas
 pub mod MadeLemmas
 pub mod RelistLemmas
 pub mod RenewLemmas

@@ -5,9 +5,9 @@ use Rattle.std.proofs.lemmas.Option.{get_or_from_slice_get}
 use Rattle.dz_io.specs.declared.peer.Peer.{Peer}
 use Rattle.dz_zone.specs.Version.{Zone}
 use Rattle.dz_take.specs.declared.ask.Ask.{Ask}
-use Rattle.dz_schedule.specs.Values.{ValuesOf, fresh}
+use Rattle.dz_timer.specs.Values.{ValuesOf, fresh}
 use Rattle.dz_history.specs.declared.entry.Entry.{Entry}
-use Rattle.dz_member.specs.declared.key.Key.{Key}
+use Rattle.dz_settings.specs.declared.key.Key.{Key}
 use Rattle.dz_history.specs.State.{State, held_at, key_at, primaries_at}
 use Rattle.dz_history.specs.After.{after}
 use Rattle.dz_history.specs.Places.{Seat, seats}

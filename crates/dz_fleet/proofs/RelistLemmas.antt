@@ -17,7 +17,7 @@ use Rattle.dz_name.specs.Order.{same_decides, same_ties}
 use Rattle.dz_member.specs.Membership.{MemberOf}
 use Rattle.dz_member.specs.Fold.{number_of, member_of}
 use Rattle.dz_member.specs.Membership as membership
-use Rattle.dz_schedule.specs.Values.{ValuesOf, fresh}
+use Rattle.dz_timer.specs.Values.{ValuesOf, fresh}
 use Rattle.dz_history.specs.State.{State, IsState, stands, catalog_at, member_at, incarnation_at, primaries_at}
 use Rattle.dz_history.specs.Places.{Seat, seats, catalog_seat, member_seat, place_from, place_at, IsApart}
 use Rattle.dz_history.proofs.StateLemmas.{incarnation_member, primaries_catalog, primaries_member}

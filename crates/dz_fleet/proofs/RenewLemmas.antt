@@ -10,7 +10,7 @@ use Rattle.dz_member.specs.declared.listing.Broken.{Broken as Reason}
 use Rattle.dz_catalog.specs.Listing.{listing_of}
 use Rattle.dz_take.specs.Transfer.{Decision, up_to_date, new, refused}
 use Rattle.dz_zone.specs.Version.{Zone}
-use Rattle.dz_schedule.specs.Values.{ValuesOf}
+use Rattle.dz_timer.specs.Values.{ValuesOf}
 use Rattle.dz_history.specs.declared.aftermath.Aftermath.{Aftermath}
 use Rattle.dz_history.specs.declared.aftermath.Aftermath.TheVariants.{Member, Broken, Changes}
 use Rattle.dz_history.specs.declared.entry.Taken.{Taken}

@@ -5,7 +5,7 @@ use Rattle.std.specs.Option.{option_or, option_map_or}
 use Rattle.std.proofs.lemmas.Option.{slice_get_within}
 use Rattle.std.proofs.lemmas.Bool.{cases_Bool, eqb-true}
 use Rattle.std.proofs.lemmas.List.{length-set, length-append}
-use Rattle.dz_schedule.specs.Values.{ValuesOf}
+use Rattle.dz_timer.specs.Values.{ValuesOf}
 use Rattle.dz_history.specs.declared.entry.Entry.{Entry}
 use Rattle.dz_history.specs.State.{State, IsState, stands, incarnation_at}
 use Rattle.dz_history.specs.After.{after, step}
@@ -111,14 +111,14 @@ or_none : {X : Type 0} (a b : Option X) → option_or a b ≡ None → (a ≡ No
 or_none None b h = (refl, h)
 or_none (Some x) b h = absurd (cc)
 
--- what stood and did not end stands
+-- what was current and did not end is current
 stays_on : (s : State) (e : Entry) (zone : List (List ℕ)) (i n : ℕ) → stands s zone i ≡ true → (if ends s e zone i then Some n else None) ≡ None → stands (step s e) zone i ≡ true
 stays_on s e zone i n before none = elim (cases_Bool (stands (step s e) zone i)) [
   | inl t ↦ t
   | inr f ↦ absurd (let g : Some n ≡ None = rw (before, f) at none in cc)
 ]
 
--- two jobs of one zone whose incarnations stand are of one incarnation
+-- two jobs of one zone whose incarnations are current are of one incarnation
 one_stands : (o : Option ℕ) (a b : ℕ) → option_map_or (λ i. i == a) o false ≡ true → option_map_or (λ i. i == b) o false ≡ true → a ≡ b
 one_stands None a b h g = absurd (cc)
 one_stands (Some i) a b h g = sym (eqb-true i a h) ∙ eqb-true i b g

@@ -3,9 +3,9 @@ use Rattle.std.proofs.Common.{◌≡◌, ℕ, ◌<◌, List, [], ◌∷◌, leng
 use Rattle.std.specs.Prelude.{slice_get}
 use Rattle.std.proofs.lemmas.List.{length-replicate, get_or-replicate}
 use Rattle.std.proofs.lemmas.Option.{slice_get_within}
-use Rattle.dz_member.specs.declared.config.CatalogSettings.{CatalogSettings}
-use Rattle.dz_member.specs.Config.{IsAllowed}
-use Rattle.dz_schedule.specs.Values.{fresh}
+use Rattle.dz_settings.specs.declared.config.CatalogSettings.{CatalogSettings}
+use Rattle.dz_settings.specs.Config.{IsAllowed}
+use Rattle.dz_timer.specs.Values.{fresh}
 use Rattle.dz_history.specs.declared.entry.Entry.TheVariants.{Setup}
 use Rattle.dz_history.specs.State.{State, IsState, opened}
 use Rattle.dz_history.specs.After.{after, step}
@@ -20,7 +20,7 @@ use Rattle.dz_fleet.specs.Values.{value_at}
 use Rattle.dz_fleet.specs.inner.Kept.{IsKept}
 use Rattle.dz_fleet.proofs.RelistLemmas.{some_primary}
 
-opened_state : (config : List CatalogSettings) → after (Setup config ∷ []) ≡ opened config
+pub opened_state : (config : List CatalogSettings) → after (Setup config ∷ []) ≡ opened config
 unfolding step
 opened_state config = refl
 

@@ -4,7 +4,7 @@ use Rattle.std.specs.Prelude.{Option, is_some, ◌==◌, IsSome, if◌then◌els
 use Rattle.std.specs.Option.{option_map_or}
 use Rattle.dz_zone.specs.Version.{Zone}
 use Rattle.dz_zonemd.specs.Standing.{standing}
-use Rattle.dz_member.specs.declared.config.Policy.{Policy}
+use Rattle.dz_settings.specs.declared.config.Policy.{Policy}
 use Rattle.dz_take.specs.Taken.{CanAsk}
 use Rattle.dz_take.specs.Outcome.{outcome, octets_used}
 use Rattle.dz_take.specs.Transfer.{Decision, up_to_date, new, refused}
@@ -29,7 +29,7 @@ use Rattle.dz_fleet.specs.Weighing.{renewed_for, is_taken, aftermath_in}
 use Rattle.dz_fleet.specs.Sound.{IsAmong, IsSound, IsFlying}
 use Rattle.dz_fleet.proofs.SoundLemmas.{among_stands}
 
--- ---- an incarnation that stands is one
+-- ---- an incarnation that is current is the only one
 some_of : (o : Option ℕ) (i : ℕ) → option_map_or (λ j. j == i) o false ≡ true → IsSome o
 some_of None i h = absurd (cc)
 some_of (Some j) i h = refl

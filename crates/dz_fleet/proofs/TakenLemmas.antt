@@ -3,7 +3,7 @@ use Rattle.std.proofs.Common.{◌≡◌, ℕ, ◌<◌, true, List, [], ◌∷◌
 use Rattle.std.specs.Prelude.{Option, slice_get, slice_set, filter, IsSome, option_map}
 use Rattle.std.specs.Option.{unwrap_or}
 use Rattle.std.proofs.lemmas.Option.{get_or_from_slice_get, slice_get_within}
-use Rattle.dz_schedule.specs.Values.{ValuesOf, fresh, succeeded}
+use Rattle.dz_timer.specs.Values.{ValuesOf, fresh, succeeded}
 use Rattle.dz_history.specs.declared.aftermath.Aftermath.{Aftermath}
 use Rattle.dz_history.specs.declared.aftermath.Aftermath.TheVariants.{Member, Broken, Changes}
 use Rattle.dz_history.specs.declared.entry.Entry.{Entry}
@@ -32,7 +32,7 @@ use Rattle.dz_fleet.proofs.SoundLemmas.{among_stands}
 use Rattle.dz_fleet.proofs.EndLemmas.{placed_at}
 use Rattle.dz_fleet.proofs.KeptLemmas.{stay, kept_taken, marked_jobs}
 
--- the incarnation of a transfer stands after it
+-- the incarnation of a transfer is current after it
 pub own_from : (s : State) (job : JobOf) (octets : List ℕ) (o : Option ℕ) → o ≡ catalog_at s job.flight.zone → stands s job.flight.zone job.flight.incarnation ≡ true
     → stands (step s (entry_for job octets)) job.flight.zone job.flight.incarnation ≡ true
 own_from s job octets None e h = stands_by_fold (step s (entry_for job octets)) s job.flight.zone job.flight.incarnation (fold_of_member s (taken_for job octets) (sym e)) ∙ h
@@ -45,7 +45,7 @@ values_same s t values Member = refl
 values_same s t values (Broken reason) = refl
 values_same s t values (Changes cs) = refl
 
--- what was made whole, and what stands then
+-- what was made whole, and what holds then
 pub record AreTaken (t : State) (list : List Entry) (values values' : List ValuesOf) (job : JobOf) (octets : List ℕ) (aftermath : Aftermath) : Type 0 where
   pub now : t ≡ step (after list) (entry_for job octets)
   pub relisted : values' ≡ unwrap_or (values_for (after list) values (step (after list) (entry_for job octets)) aftermath) values

@@ -5,7 +5,7 @@ use Rattle.std.specs.List.{list_any}
 use Rattle.std.proofs.lemmas.Bool.{cases_Bool, cases_eq}
 use Rattle.std.proofs.lemmas.Bool.Decides.{nat_tests}
 use Rattle.std.proofs.lemmas.List.{get_or-set_same, get_or-set_other}
-use Rattle.dz_schedule.specs.Values.{ValuesOf, fresh}
+use Rattle.dz_timer.specs.Values.{ValuesOf, fresh}
 use Rattle.dz_history.specs.State.{State, IsState, stands, incarnation_at}
 use Rattle.dz_history.specs.Places.{Seat, seats, place_at, IsApart}
 use Rattle.dz_history.proofs.PlaceLemmas.{place_seat}
@@ -18,7 +18,7 @@ use Rattle.dz_fleet.proofs.FlightLemmas.{of_parts, none_others, any_others, any_
 abbrev pub AreWaiting : State → List JobOf → List ValuesOf → Type 0
 AreWaiting s jobs values = (place : ℕ) (seat : Seat) → slice_get (seats s) place ≡ Some seat → IsWaiting s jobs seat (value_at values place)
 
--- what has a place stands
+-- what has a place is current
 pub seat_stands : (s : State) (seat : Seat) → incarnation_at s seat.zone ≡ Some seat.incarnation → stands s seat.zone seat.incarnation ≡ true
 seat_stands s seat e = rw e (let same : seat.incarnation ≡ seat.incarnation = refl in grind (arith, nat_tests))
 
@@ -50,7 +50,7 @@ waiting_end s job jobs values v p ok apart distinct among at own lt idle turn wa
       rw now record { busy = before.busy ∙ sym (any_others seat job jobs distinct among (elsewhere s job place p seat ok apart at there other)); turn = before.turn }
 ]
 
--- a job ends whose incarnation doesn't stand
+-- a job ends whose incarnation isn't current
 pub waiting_landed : (s : State) (job : JobOf) (jobs : List JobOf) (values : List ValuesOf) → IsState s → IsApart s → AreApart jobs → IsAmong job.flight jobs
     → (stands s job.flight.zone job.flight.incarnation ≡ true → ⊥) → AreWaiting s jobs values → AreWaiting s (others jobs job) values
 waiting_landed s job jobs values ok apart distinct among gone waits place seat there =

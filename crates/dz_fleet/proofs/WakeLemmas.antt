@@ -4,7 +4,7 @@ use Rattle.std.specs.Prelude.{slice_get, slice_set}
 use Rattle.std.proofs.lemmas.Option.{get_or_from_slice_get}
 use Rattle.dz_timer.specs.Timing.{Timing}
 use Rattle.dz_timer.specs.Timing as timer
-use Rattle.dz_schedule.specs.Values.{ValuesOf, fresh, notified}
+use Rattle.dz_timer.specs.Values.{ValuesOf, fresh, notified}
 use Rattle.dz_history.specs.declared.entry.Entry.{Entry}
 use Rattle.dz_history.specs.State.{State}
 use Rattle.dz_history.specs.After.{after}

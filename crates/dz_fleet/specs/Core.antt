@@ -1,5 +1,5 @@
--- Meaning: the core of the server: the list of taken transfers, the jobs in flight and what each zone waits for, and what
--- each event makes of them (RFC 9432 section 5, RFC 1995 section 4, RFC 1996 section 3, RFC 8976 section 4).
+-- Meaning: the core of the server (RFC 9432 section 5, RFC 1995 section 4, RFC 1996 section 3, RFC 8976 section 4). It
+-- is the list of taken transfers, the jobs in flight, and what each zone waits for; events change them.
 use Rattle.std.specs.Prelude.{◌≡◌, ℕ, ◌+◌, ◌-◌, ◌^◌, ◌%◌, ◌==◌, ◌||◌, Bool, true, false, not, nat_le, nat_lt, List, [], ◌∷◌, ◌++◌, length, filter, take, slice_index_or, replicate, position, Option, Some, None, if◌then◌else◌}
 use Rattle.std.specs.Option.{option_map, option_map_or}
 use Rattle.dz_name.specs.Words.{Name, Octets}
@@ -7,12 +7,12 @@ use Rattle.dz_io.specs.declared.peer.Peer.{Peer}
 use Rattle.dz_zone.specs.Version.{Zone}
 use Rattle.dz_zonemd.specs.Standing.{standing}
 use Rattle.dz_zonemd.specs.Acceptance.{accepts}
-use Rattle.dz_member.specs.declared.config.CatalogSettings.{CatalogSettings}
-use Rattle.dz_member.specs.declared.config.Policy.{Policy}
+use Rattle.dz_settings.specs.declared.config.CatalogSettings.{CatalogSettings}
+use Rattle.dz_settings.specs.declared.config.Policy.{Policy}
 use Rattle.dz_notify.specs.declared.notify.Heard.{Heard}
 use Rattle.dz_notify.specs.declared.notify.Heard.TheVariants as heard
-use Rattle.dz_schedule.specs.Values.{ValuesOf, fresh, departed, succeeded, failed, refused, notified}
-use Rattle.dz_schedule.specs.Schedule.{is_first}
+use Rattle.dz_timer.specs.Values.{ValuesOf, fresh, departed, succeeded, failed, refused, notified}
+use Rattle.dz_timer.specs.Schedule.{is_first}
 use Rattle.dz_take.specs.declared.ask.Ask.{Ask}
 use Rattle.dz_take.specs.declared.ask.Ask.TheVariants.{Axfr, Ixfr}
 use Rattle.dz_take.specs.declared.outcome.TakeFault.{TakeFault}
@@ -67,6 +67,7 @@ is_full c = nat_le 16 (length c.flight) || nat_le (2 ^ 64 - 2) c.tickets
 abbrev pub first_place : Core → Option ℕ
 first_place c = position (is_first c.values) c.values
 
+-- why no job is handed out at this moment
 abbrev pub quiet_of : Core → ℕ → QuietOf
 quiet_of c now = record {
   count = length c.list;
@@ -76,7 +77,8 @@ quiet_of c now = record {
   earliest = option_map (λ place. (value_at c.values place).timing.next) (first_place c);
 }
 
--- the whole zone where none is held or where it is wanted, and else differences (RFC 1995 section 4)
+-- the form that is asked for: the whole zone where none is held or where it is wanted, and else differences (RFC 1995
+-- section 4)
 abbrev pub ask_of : Option Zone → Bool → Ask
 ask_of None whole = Axfr
 ask_of (Some zone) whole = if whole then Axfr else Ixfr
@@ -85,10 +87,11 @@ ask_of (Some zone) whole = if whole then Axfr else Ixfr
 abbrev pub primary_at : Option (List Peer) → ℕ → Peer
 primary_at peers number = slice_index_or (option_map_or (λ ps. ps) peers []) number record { address = []; port = 0 }
 
+-- the zone at a place, with its incarnation
 abbrev pub seat_at : State → ℕ → Seat
 seat_at s place = slice_index_or (seats s) place record { zone = []; incarnation = 0 }
 
--- the job of a zone, with the next ticket and that ticket as its ID
+-- what the job of a zone asks for, with the next ticket, of which the low 16 bits are the ID
 abbrev pub flight_for : Core → ℕ → Seat → ValuesOf → Flight
 flight_for c now seat v = record {
   ticket = c.tickets + 1;
@@ -100,16 +103,20 @@ flight_for c now seat v = record {
   moment = now;
 }
 
+-- the job of a zone at this moment, with the version that is held and the key of its catalog
 abbrev pub job_for : Core → ℕ → Seat → ValuesOf → JobOf
 job_for c now seat v = record { flight = flight_for c now seat v; held = held_at (state_of c) seat.zone; key = key_at (state_of c) seat.zone }
 
+-- the job of the zone at a place
 unfoldable pub job_at : Core → ℕ → ℕ → JobOf
 job_at c now place = job_for c now (seat_at (state_of c) place) (value_at c.values place)
 
+-- what is due, where this is the place of the first zone: its job once its moment has come
 abbrev pub due_from : Core → ℕ → Option ℕ → Due
 due_from c now None = due.Idle (quiet_of c now)
 due_from c now (Some place) = if nat_lt now (value_at c.values place).timing.next then due.Idle (quiet_of c now) else due.Job (job_at c now place)
 
+-- what is due at this moment
 abbrev pub due_of : Core → ℕ → Due
 due_of c now = if is_full c then due.Full (quiet_of c now) else due_from c now (first_place c)
 
@@ -124,7 +131,7 @@ after_due c (due.Idle quiet) = c
 after_due c (due.Full quiet) = c
 after_due c due.OutOfMemory = c
 
--- what is answered and what is left; want of memory leaves all
+-- what is answered and what is left; running out of memory changes nothing
 abbrev pub IsDue : Core → ℕ → Due → Core → Type 0
 IsDue c now due.OutOfMemory d = d ≡ c
 IsDue c now answer d = (answer ≡ due_of c now) × (d ≡ after_due c answer)
@@ -134,46 +141,52 @@ IsDue c now answer d = (answer ≡ due_of c now) × (d ≡ after_due c answer)
 abbrev pub ended_of : Core → JobOf → Option ℕ
 ended_of c job = ended c.list job.flight.zone job.flight.incarnation
 
--- the other jobs stay in flight
+-- the jobs in flight other than this one
 abbrev pub others : List JobOf → JobOf → List JobOf
 others jobs job = filter (λ j. not (j.flight.ticket == job.flight.ticket)) jobs
 
+-- the core without a job in flight
 abbrev pub landed : Core → JobOf → Core
 landed c job = record c { flight = others c.flight job }
 
--- how many primaries a zone has
+-- how many primaries a zone has; 1 for one that isn't served
 abbrev pub primaries_of : State → Name → ℕ
 primaries_of s zone = option_map_or (λ ps. length ps) (primaries_at s zone) 1
 
--- the zone of a job waits after a failure at a moment, and after what it brought was refused
+-- what a zone waits for after its job failed at a moment
 abbrev pub failed_in : State → Name → ℕ → ValuesOf → ValuesOf
 failed_in s zone now v = failed v now (retry_in (held_at s zone)) (primaries_of s zone)
 
+-- what a zone waits for after the transfer of its job was refused
 abbrev pub refused_in : State → Name → ℕ → ValuesOf → ValuesOf
 refused_in s zone now v = refused v now (retry_in (held_at s zone)) (primaries_of s zone)
 
+-- the core after a job failed at a moment
 abbrev pub after_failure : Core → JobOf → ℕ → Core
 after_failure c job now =
     let zone = job.flight.zone in
     record (landed c job) { values = changed c.values (place_at (state_of c) zone) (failed_in (state_of c) zone now) }
 
+-- the core after the transfer of a job was refused
 abbrev pub after_refusal : Core → JobOf → ℕ → Core
 after_refusal c job now =
     let zone = job.flight.zone in
     record (landed c job) { values = changed c.values (place_at (state_of c) zone) (refused_in (state_of c) zone now) }
 
--- an old serial alone leaves what is asked for next
+-- an old serial alone leaves what is asked for next unchanged
 abbrev pub is_old_serial : TakeFault → Bool
 is_old_serial (OldSerial serial) = true
 is_old_serial fault = false
 
--- the entry joins the list, and the zone waits for its next refresh from the moment of the job
+-- the entry that a job with these octets makes
 abbrev pub entry_for : JobOf → Octets → Entry
 entry_for job octets = Transfer (taken_for job octets)
 
+-- what zones wait for after a success: this one for its next refresh, from the moment of the job
 abbrev pub succeeded_in : State → Name → ℕ → List ValuesOf → List ValuesOf
 succeeded_in t zone moment values = changed values (place_at t zone) (λ v. succeeded v moment (refresh_in (held_at t zone)))
 
+-- the core after a transfer was taken: its entry joins the list
 unfoldable pub after_success : Core → JobOf → Octets → Aftermath → Core
 after_success c job octets aftermath =
     let t = step (state_of c) (entry_for job octets) in
@@ -200,7 +213,7 @@ verdict_from c job (new zone) None =
 abbrev pub used_of : JobOf → Octets → Octets
 used_of job octets = take (octets_used (transfer_for job) octets) octets
 
--- whether they are signed, where the zone's catalog has a key
+-- what is wrong with the signatures of these octets, where the zone's catalog has a key
 unfoldable pub tsig_of : Core → JobOf → Octets → Option TsigFault
 tsig_of c job octets = tsig_in (key_at (state_of c) job.flight.zone) (transfer_for job) (used_of job octets) job.flight.moment
 
@@ -211,14 +224,16 @@ screened (Some f) (transfer.refused fault) = transfer.refused fault
 screened (Some f) up_to_date = transfer.refused (Tsig f)
 screened (Some f) (new zone) = transfer.refused (Tsig f)
 
+-- the verdict on a job that ended with these octets
 unfoldable pub verdict_of : Core → JobOf → Octets → Verdict
 verdict_of c job octets = verdict_from c job (screened (tsig_of c job octets) (outcome (transfer_for job) octets)) (ended_of c job)
 
--- what a verdict makes of the core; want of memory counts as a failure
+-- the core after a job that failed, whose incarnation had ended or not
 abbrev pub after_end : Core → JobOf → ℕ → Option ℕ → Core
 after_end c job now (Some position) = landed c job
 after_end c job now None = after_failure c job now
 
+-- the core after a verdict; running out of memory counts as a failure
 abbrev pub after_verdict : Core → JobOf → Octets → ℕ → Verdict → Core
 after_verdict c job octets now (Published position serial aftermath) = after_success c job octets aftermath
 after_verdict c job octets now (Confirmed position serial) = after_success c job octets Member
@@ -231,11 +246,12 @@ after_verdict c job octets now OutOfMemory = after_end c job now (ended_of c job
 abbrev pub settled : Core → JobOf → Octets → ℕ → Core
 settled c job octets now = after_verdict c job (used_of job octets) now (verdict_of c job octets)
 
--- it fails; for want of memory it ends in the same way
+-- how a job fails: stale where an entry ended its incarnation
 abbrev pub failure_of : Option ℕ → Failure
 failure_of (Some position) = failures.Stale position
 failure_of None = failures.Failed
 
+-- the core after a job that failed; where memory runs out a job ends in the same way
 abbrev pub failed_core : Core → JobOf → ℕ → Core
 failed_core c job now = after_end c job now (ended_of c job)
 
@@ -245,6 +261,7 @@ IsOffered c job octets now OutOfMemory d = d ≡ failed_core c job now
 IsOffered c job octets now verdict d = (verdict ≡ verdict_of c job octets) × (d ≡ settled c job octets now)
 
 -- ---- a NOTIFY comes (RFC 1996 section 3.11)
+-- how a NOTIFY from a peer is heard
 abbrev pub heard_of : Core → Peer → Name → Heard
 heard_of c peer zone = heard_from peer (primaries_at (state_of c) zone)
 

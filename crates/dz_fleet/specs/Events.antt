@@ -2,8 +2,8 @@
 use Rattle.std.specs.Prelude.{⊤, ◌≡◌, ◌⊎◌, ℕ, ◌<◌, ◌^◌, Bool, true, false, List, [], ◌∷◌, ◌++◌, length, fold}
 use Rattle.dz_name.specs.Words.{Name, Octets}
 use Rattle.dz_io.specs.declared.peer.Peer.{Peer}
-use Rattle.dz_member.specs.declared.config.CatalogSettings.{CatalogSettings}
-use Rattle.dz_member.specs.Config.{IsAllowed}
+use Rattle.dz_settings.specs.declared.config.CatalogSettings.{CatalogSettings}
+use Rattle.dz_settings.specs.Config.{IsAllowed}
 use Rattle.dz_notify.specs.declared.notify.Heard.{Heard}
 use Rattle.dz_history.specs.declared.entry.Entry.{Entry}
 use Rattle.dz_history.specs.Legal.{IsLegal}
@@ -14,8 +14,8 @@ use Rattle.dz_fleet.specs.declared.due.Due.{Due}
 use Rattle.dz_fleet.specs.Core.{Core, opened_core, due_of, after_due, IsDue, settled, failed_core, IsOffered, heard_of, after_notify}
 use Rattle.dz_fleet.specs.Sound.{IsSound, IsFlying}
 
--- an event, some of them at a moment in seconds: a job is asked for, and there is memory for it or none; a job ends with
--- these octets; there is no memory for what a job brought; a job fails; a NOTIFY of a zone comes from a peer
+-- an event, some at a moment in seconds: a job is asked for, with memory for it or without; it ends with these octets;
+-- memory runs out for what it brought; it fails; or a NOTIFY of a zone comes
 pub data Event : Type 0 where
   asked : ℕ → Bool → Event
   ended : JobOf → Octets → ℕ → Event
@@ -40,15 +40,16 @@ CanHappen c (starved job now) = IsFlying c job × (now < 2 ^ 40)
 CanHappen c (failed job now) = IsFlying c job × (now < 2 ^ 40)
 CanHappen c (notified peer zone) = ⊤
 
--- the core after events, each of which can happen after those in front of it
+-- the core after events, one after the other
 abbrev pub after_events : Core → List Event → Core
 after_events c events = fold next c events
 
+-- each of the events can happen after those before it
 unfoldable pub CanHappenInTurn : Core → List Event → Type 0
 CanHappenInTurn c [] = ⊤
 CanHappenInTurn c (event ∷ events) = CanHappen c event × CanHappenInTurn (next c event) events
 
--- a list that others join at the end
+-- a list that begins another one
 abbrev pub IsFrontOf : List Entry → List Entry → Type 0
 IsFrontOf front list = (more : List Entry) × (list ≡ front ++ more)
 
@@ -56,7 +57,7 @@ IsFrontOf front list = (more : List Entry) × (list ≡ front ++ more)
 abbrev pub ListOnlyGrows : Type 0
 ListOnlyGrows = (c : Core) (events more : List Event) → IsFrontOf (after_events c events).list (after_events c (events ++ more)).list
 
--- it holds of the core of every allowed configuration, and stays so whatever can happen
+-- a property holds of the core of every allowed configuration, and stays so whatever can happen
 abbrev pub Stays : (Core → Type 0) → Type 0
 Stays holds = (config : List CatalogSettings) (events : List Event) → IsAllowed config → CanHappenInTurn (opened_core config) events
     → holds (after_events (opened_core config) events)
@@ -69,8 +70,8 @@ ListStaysLegal = Stays (λ c. IsLegal c.list)
 abbrev pub CoreStaysSound : Type 0
 CoreStaysSound = Stays IsSound
 
--- each call leaves the core after an event: what `due`, `offer` and `notify` ensure says so, and what `settle` and `fail`
--- ensure is that event
+-- each call leaves the core after an event: what `due`, `offer` and `notify` ensure says so, and what `settle` and
+-- `fail` ensure is that event
 pub record CallsAreEvents : Type 0 where
   pub due : (c : Core) (now : ℕ) (answer : Due) (d : Core) → IsDue c now answer d → (memory : Bool) × (d ≡ next c (asked now memory))
   pub offer : (c : Core) (job : JobOf) (octets : Octets) (now : ℕ) (verdict : Verdict) (d : Core) → IsOffered c job octets now verdict d

@@ -1,5 +1,6 @@
 pub mod Absence
 pub mod Core
+pub mod Last
 pub mod Events
 pub mod Quiet
 pub mod Values

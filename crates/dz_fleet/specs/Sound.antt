@@ -2,7 +2,7 @@
 use Rattle.std.specs.Prelude.{⊤, ◌≡◌, ◌⊎◌, ℕ, ◌+◌, ◌-◌, ◌^◌, ◌<◌, ◌≤◌, ◌==◌, ◌&&◌, Bool, true, false, List, [], ◌∷◌, length, slice_get, Some, None}
 use Rattle.std.specs.List.{AllByRecursion, list_any}
 use Rattle.dz_name.specs.Name.{same_name}
-use Rattle.dz_schedule.specs.Values.{ValuesOf}
+use Rattle.dz_timer.specs.Values.{ValuesOf}
 use Rattle.dz_history.specs.State.{State, held_at, stands}
 use Rattle.dz_history.specs.declared.entry.Entry.{Entry}
 use Rattle.dz_history.specs.After.{after}
@@ -20,11 +20,12 @@ use Rattle.dz_fleet.specs.Values.{value_at}
 abbrev pub is_of : Seat → JobOf → Bool
 is_of seat job = same_name job.flight.zone seat.zone && job.flight.incarnation == seat.incarnation
 
+-- the zone of a job, with its incarnation
 abbrev pub seat_of : JobOf → Seat
 seat_of job = record { zone = job.flight.zone; incarnation = job.flight.incarnation }
 
--- a job in flight: its ticket was handed out, its incarnation began by an entry that is there and stands until one ends
--- it, and while it stands the job's version is the one that is held
+-- a job in flight: its ticket was handed out, its incarnation began by an entry that is there and is current until one
+-- ends it, and while it is current the job's version is the one that is held
 pub record IsSent (list : List Entry) (tickets : ℕ) (job : JobOf) : Type 0 where
   pub valid : IsJob job
   pub ticket : job.flight.ticket ≤ tickets
@@ -46,7 +47,8 @@ pub record IsWaiting (s : State) (jobs : List JobOf) (seat : Seat) (v : ValuesOf
   pub busy : v.timing.busy ≡ list_any (is_of seat) jobs
   pub turn : v.turn < primaries_of s seat.zone
 
--- the list is legal and has begun; there are values for each place; there are at most 16 jobs, and tickets for all entries
+-- the list is legal and has begun; there are values for each place; there are at most 16 jobs, and tickets for all
+-- entries
 pub record IsSound (c : Core) : Type 0 where
   pub legal : IsLegal c.list
   pub begun : 0 < length c.list
@@ -58,12 +60,13 @@ pub record IsSound (c : Core) : Type 0 where
   pub drawn : length c.list + length c.flight ≤ c.tickets + 1
   pub most : c.tickets ≤ 2 ^ 64 - 2
 
--- a job is this core's: one in flight agrees with it, and while its incarnation stands its version is the one that is
--- held
+-- a job in flight asks for the same
 unfoldable pub IsAmong : Flight → List JobOf → Type 0
 IsAmong flight [] = ⊥
 IsAmong flight (job ∷ jobs) = (job.flight ≡ flight) ⊎ IsAmong flight jobs
 
+-- a job is this core's: one in flight agrees with it, and while its incarnation is current its version is the one that
+-- is held
 pub record IsFlying (c : Core) (job : JobOf) : Type 0 where
   pub there : IsAmong job.flight c.flight
   pub held : stands (state_of c) job.flight.zone job.flight.incarnation ≡ true → job.held ≡ held_at (state_of c) job.flight.zone

@@ -2,7 +2,7 @@
 use Rattle.std.specs.Prelude.{◌≡◌, ℕ, ◌^◌, ◌<◌, Bool, true, false, List, [], length, Option, Some, None}
 use Rattle.dz_name.specs.Words.{Octets}
 use Rattle.dz_take.specs.Outcome.{octets_used}
-use Rattle.dz_schedule.specs.Values.{ValuesOf}
+use Rattle.dz_timer.specs.Values.{ValuesOf}
 use Rattle.dz_history.specs.declared.entry.Entry.{Entry}
 use Rattle.dz_history.specs.declared.entry.Entry.TheVariants.{Setup, Transfer}
 use Rattle.dz_history.specs.declared.aftermath.Aftermath.{Aftermath}
@@ -20,8 +20,8 @@ pub record Renewed : Type 0 where
   pub state : State
   pub values : Option (List ValuesOf)
 
--- the entry that the transfer makes or would make, the moment of its end, the verdict, what stands afterwards where it is
--- taken, and whether the step is still to be handed out
+-- the entry that the transfer makes or would make, the moment of its end, the verdict, what holds afterwards where it
+-- is taken, and whether the step is still to be handed out
 pub record Weighing : Type 0 where
   pub entry : Entry
   pub moment : ℕ
@@ -29,24 +29,28 @@ pub record Weighing : Type 0 where
   pub renewed : Option Renewed
   pub is_there : Bool
 
+-- the octets of an entry's transfer
 abbrev pub octets_in : Entry → Octets
 octets_in (Setup config) = []
 octets_in (Transfer t) = t.octets
 
+-- what each zone waits for afterwards, where a listing was processed
 abbrev pub values_for : State → List ValuesOf → State → Aftermath → Option (List ValuesOf)
 values_for s values t (Changes changes) = Some (relisted_values s values t.fold.members)
 values_for s values t Member = None
 values_for s values t (Broken reason) = None
 
+-- what holds after a transfer that is taken
 abbrev pub renewal_for : Core → JobOf → Octets → Aftermath → Option Renewed
 renewal_for c job octets aftermath =
     let t = step (state_of c) (entry_for job octets) in
     Some record { state = t; values = values_for (state_of c) c.values t aftermath }
 
--- what a transfer that is taken changes beside itself
+-- what a transfer that is taken changes beyond its own zone
 unfoldable pub aftermath_in : Core → JobOf → Octets → Aftermath
 aftermath_in c job octets = aftermath_of (state_of c) job.flight.zone (decision_of (state_of c) (taken_for job octets))
 
+-- what holds afterwards by a verdict; none where nothing is taken
 abbrev pub renewed_for : Core → JobOf → Octets → Verdict → Option Renewed
 renewed_for c job octets (Published position serial aftermath) = renewal_for c job octets aftermath
 renewed_for c job octets (Confirmed position serial) = renewal_for c job octets Member

@@ -51,7 +51,7 @@ impl Absent {
         self.ticket
     }
 
-    /// Whether a job in flight has this number, so that the two differ elsewhere.
+    /// Whether a job in flight has this number, and so differs from this one in something else.
     pub fn differs(&self) -> bool
         ensures { result ≡ self.now.differs }
     {
@@ -60,8 +60,8 @@ impl Absent {
 }
 
 impl Fleet {
-    /// Whether a job in flight agrees with this one in all that it asks for, and, while its incarnation stands, the version
-    /// that was held as it was handed out is the one that is held. The records are compared one by one.
+    /// Whether a job in flight agrees with this one in all that it asks for, and, while its incarnation is current, the
+    /// version that was held as it was handed out is the one that is held. The records are compared one by one.
     pub fn is_in_flight(&self, job: &Job) -> bool
         ensures { IsTrue result ↔ IsFlying self.now job.now }
     {
@@ -80,7 +80,7 @@ impl Fleet {
         }
     }
 
-    /// Why a job that isn't this fleet's is none.
+    /// Why a job that isn't this fleet's is absent from it.
     fn absent(&self, job: &Job) -> Absent
         ensures { result ≡ absent_of self.now job.now }
     {
@@ -113,7 +113,7 @@ fn same_flight(a: &Flight, b: &Flight) -> bool
     a.ticket == b.ticket && a.zone == b.zone && a.incarnation == b.incarnation && same_query(a, b)
 }
 
-/// Whether two jobs ask the same primary for the same at the same moment.
+/// Whether two jobs ask the same primary for the same at the same moment, with the same ID.
 fn same_query(a: &Flight, b: &Flight) -> bool
     ensures { result ≡ same_query a.now b.now }
 {
@@ -123,6 +123,7 @@ fn same_query(a: &Flight, b: &Flight) -> bool
         && a.moment == b.moment
 }
 
+/// Whether two jobs ask for the same form.
 fn same_ask(a: Ask, b: Ask) -> bool
     ensures { result ≡ same_ask a b }
 {
@@ -133,13 +134,14 @@ fn same_ask(a: Ask, b: Ask) -> bool
     }
 }
 
+/// Whether two peers have the same address and port.
 fn same_peer(a: &Peer, b: &Peer) -> bool
     ensures { result ≡ same_peer a.now b.now }
 {
     a.address == b.address && a.port == b.port
 }
 
-/// Whether the version of a job is the one that is held, while its incarnation stands.
+/// Whether the version of a job is the one that is held, while its incarnation is current.
 fn is_as_held(holdings: &Holdings, job: &Job) -> bool
     ensures { let zone = job.now.flight.zone in
         IsTrue result ↔ (stands holdings.now zone job.now.flight.incarnation ≡ true
@@ -183,7 +185,7 @@ fn same_records(a: &[Rr], b: &[Rr]) -> bool
     true
 }
 
-/// Whether owner, type, TTL and RDATA agree, which the octets of both tell at once.
+/// Whether owner name, type, TTL and RDATA agree, which the octets of both show at once.
 fn is_copy(a: &Rr, b: &Rr) -> bool
     ensures { result ≡ is_copy a.now b.now }
 {

@@ -60,6 +60,7 @@ impl Model for Quiet {
 }
 
 impl Quiet {
+    /// Why no job was handed out, of these parts; moments are in seconds.
     pub(crate) fn new(
         count: u64,
         moment: u64,

@@ -1,13 +1,13 @@
 //! Jobs in flight.
 
 use dz_job::Flight;
-use dz_member::Key;
+use dz_settings::Key;
 use dz_zone::Version;
 use std::snapshot::Snapshot;
 use std::sync::Arc;
 
-/// A job in flight, and the position of the entry that ended its incarnation. The version that was held
-/// and the key are seen by contracts alone.
+/// A job in flight, and the position of the entry that ended its incarnation. The version that was held and the key are
+/// seen by contracts alone.
 #[derive(Drop)]
 pub(crate) struct Flying {
     pub(crate) flight: Flight,

@@ -7,7 +7,7 @@ ghost use Rattle.dz_history.specs.Places.{seats, place_at};
 use dz_history::Holdings;
 use dz_name::Name;
 
-/// The place of a zone: catalogs stand in the order of the configuration, and then members in canonical order.
+/// The place of a zone: catalogs come in the order of the configuration, and then members in canonical order.
 pub(crate) fn place_of(holdings: &Holdings, zone: &Name) -> Option<usize>
     ensures { result ≡ place_at holdings.now zone.now }
 {

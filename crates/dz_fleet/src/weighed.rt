@@ -7,14 +7,14 @@ ghost use Rattle.dz_fleet.specs.inner.Renewing.{renewed_by, IsStep};
 
 use dz_history::{Entry, Holdings, Step};
 use dz_job::Verdict;
-use dz_schedule::Schedule;
 use dz_table::Table;
+use dz_timer::Schedule;
 use std::alloc::AllocError;
 use std::marker::Model;
 use std::snapshot::Snapshot;
 use std::sync::Arc;
 
-/// What stands afterwards, made whole when the transfer was weighed: the same; other holdings; or other holdings and what
+/// What holds afterwards, completed when the transfer was weighed: the same; other holdings; or other holdings and what
 /// each of their zones waits for.
 #[derive(Drop)]
 pub(crate) enum Renewal {
@@ -23,7 +23,7 @@ pub(crate) enum Renewal {
     Relisted(Holdings, Schedule),
 }
 
-/// A transfer that was weighed: its verdict, and all the memory that its taking wants.
+/// A transfer that was weighed: its verdict, and all the memory that its taking needs.
 #[derive(Drop)]
 pub struct Weighed {
     pub(crate) step: Option<Step>,
@@ -100,6 +100,7 @@ impl Weighed {
         self.step.take()
     }
 
+    /// The entry, the moment of its end in seconds, the verdict, and what holds afterwards.
     pub(crate) fn into_parts(self) -> (Snapshot<Entry>, u64, Verdict, Renewal)
         ensures entry { result.0.value ≡ self.entry }
         ensures moment { result.1 ≡ self.moment }
@@ -110,7 +111,7 @@ impl Weighed {
     }
 }
 
-/// The table afterwards, shared once more.
+/// The table afterwards, shared; none where it is the same. `AllocError` where memory runs out.
 fn table_of(renewal: &Renewal) -> Result<Option<Arc<Table>>, AllocError>
     ensures { IfOk result (λ table. option_map arc_value table
         ≡ option_map (λ r. r.state.table) (renewed_by renewal.now)) }

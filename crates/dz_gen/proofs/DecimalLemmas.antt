@@ -6,7 +6,7 @@ use Rattle.std.specs.List.{AllByRecursion, list_all, fold}
 use Rattle.std.proofs.lemmas.Bool.{and_parts}
 use Rattle.std.proofs.lemmas.Bool.Decides.{nat_tests}
 use Rattle.std.proofs.lemmas.Fmt.{decimal_by_steps, first_decimal}
-use Rattle.dz_member.specs.Number.{value_of, is_decimal, number_of}
+use Rattle.dz_name.specs.Decimal.{value_of, is_decimal, number_of}
 use Rattle.dz_gen.proofs.ByteLemmas.{AreBytes}
 
 abbrev pub IsDigit : ℕ → Type 0

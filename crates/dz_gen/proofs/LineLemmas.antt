@@ -7,9 +7,9 @@ use Rattle.std.proofs.lemmas.Bool.Decides.{nat_tests}
 use Rattle.std.proofs.lemmas.List.Splits.{slice_split-cons_no}
 use Rattle.hex.specs.Hex.{decode_of, encode_lower, encode_with, hex_digit_value, lower_digits}
 use Rattle.hex.proofs.HexLemmas.{IsDigits-lower_digits, decode_of-encode_lower}
-use Rattle.dz_io.specs.Lines.{HasNoNewline}
+use Rattle.dz_script.specs.Lines.{HasNoNewline}
 use Rattle.dz_name.specs.Words.{Octets}
-use Rattle.dz_request.specs.declared.frame.Transport.TheVariants.{Udp}
+use Rattle.dz_header.specs.declared.transport.Transport.TheVariants.{Udp}
 use Rattle.dz_script.specs.Event.{ticket_of, take_from, ask_from, event_of}
 use Rattle.dz_script.specs.Fields.{fields_of}
 use Rattle.dz_script.specs.Hex.{taken_octets, octets_in}

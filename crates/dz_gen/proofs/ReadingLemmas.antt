@@ -7,8 +7,8 @@ use Rattle.std.proofs.lemmas.List.{map-append, append-nil}
 use Rattle.std.proofs.lemmas.List.Elements.{All-filter, All-head, All-tail}
 use Rattle.std.proofs.lemmas.List.FromFn.{get_or-range_with_len, length-range_with_len}
 use Rattle.hex.specs.Hex.{encode_lower}
-use Rattle.dz_io.specs.Lines.{lines_of, octets_of, content, HasNoNewline, IsClosedLine}
-use Rattle.dz_io.proofs.SplitLemmas.{lines_of-octets_of, content-closed}
+use Rattle.dz_script.specs.Lines.{lines_of, octets_of, content, HasNoNewline, IsClosedLine}
+use Rattle.dz_script.proofs.SplitLemmas.{lines_of-octets_of, content-closed}
 use Rattle.dz_name.specs.Name.{wire_of}
 use Rattle.dz_name.specs.Text.{items, labels_from, with_label, name_of_text}
 use Rattle.dz_name.specs.Words.{Octets}
@@ -27,7 +27,7 @@ use Rattle.dz_gen.proofs.DecimalLemmas.{IsNumber, number_spelled, number_tested}
 use Rattle.dz_gen.proofs.MessageLemmas.{IsZone, AreSome, IsRequest, catalog_some, changes_some, part_some, whole_some, zone_changes_some, query_request, www_short, other_short}
 use Rattle.dz_gen.proofs.LineLemmas.{IsField, IsText, field_text, text-append, no_newline, number_field, hex_field, first_field, last_field, event_read, taken_back, request_back, job_said, take_said, ask_said}
 
--- ---- lines, one behind another
+-- ---- lines, one after another
 -- a text is these lines, whole, and each of them is read
 record Reads (text : Octets) (lines : List Line) : Type 0 where
   done : List Octets

@@ -17,7 +17,7 @@ count_of test text = length (filter test (slice_split is_newline text))
 abbrev pub begins : Octets → Octets → Bool
 begins word line = starts_with nat_eq line word
 
--- a line is a reply of a response code, by its digit: the eighth behind `reply ` (RFC 1035 section 4.1.1)
+-- a line is a reply of a response code, by its digit: the eighth after `reply ` (RFC 1035 section 4.1.1)
 abbrev pub has_code : Octets → Octets → Bool
 has_code digit line = starts_with nat_eq line (codes "reply ") && starts_with nat_eq (drop 13 line) digit
 
@@ -25,8 +25,7 @@ has_code digit line = starts_with nat_eq line (codes "reply ") && starts_with na
 unfoldable pub tally : Octets → ℕ → Octets
 tally word n = word ++ (decimal n ++ 10 ∷ [])
 
--- how many jobs were asked for, what came of them, how many replies had the codes NOERROR, SERVFAIL and REFUSED, and the
--- SHA-384 of the whole text
+-- how many jobs were asked for, and what came of them
 abbrev pub events : Octets → Octets
 events text =
     (((tally (codes "jobs ") (count_of (begins (codes "job ")) text)
@@ -35,11 +34,13 @@ events text =
     ++ tally (codes "added ") (count_of (begins (codes "added ")) text))
     ++ tally (codes "reset ") (count_of (begins (codes "reset ")) text)
 
+-- how many replies had the codes NOERROR, SERVFAIL and REFUSED
 abbrev pub replies : Octets → Octets
 replies text =
     (tally (codes "noerror ") (count_of (has_code (codes "0")) text)
     ++ tally (codes "servfail ") (count_of (has_code (codes "2")) text))
     ++ tally (codes "refused-replies ") (count_of (has_code (codes "5")) text)
 
+-- the whole summary, with the SHA-384 of the text
 abbrev pub summary : Octets → Octets
 summary text = (events text ++ replies text) ++ (codes "digest " ++ (encode_lower (sha384 text) ++ 10 ∷ []))

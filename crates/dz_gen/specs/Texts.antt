@@ -13,11 +13,12 @@ digits k = drop (length (decimal k)) (codes "0000") ++ decimal k
 abbrev pub numbered : Octets → ℕ → Octets → Octets
 numbered before k behind = before ++ (digits k ++ behind)
 
--- the name that a text stands for (RFC 1035 section 5.1); the texts below all are names
+-- a name that was read; the texts below are all names
 abbrev pub name_or_root : Result Name NameError → Name
 name_or_root (Ok name) = name
 name_or_root (Err error) = []
 
+-- the name that a text spells (RFC 1035 section 5.1)
 abbrev pub named : Octets → Name
 named text = name_or_root (name_of_text text)
 

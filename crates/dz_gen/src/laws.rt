@@ -3,7 +3,7 @@
 ghost use Rattle.dz_gen.specs.Reading.{IsReadable};
 
 /// A reader of scripts takes each line of the script of up to 1,000 zones, as the settings, jobs and requests that it
-/// stands for.
+/// spells.
 pub fn is_readable(number: u16)
     ensures { IsReadable number }
 {}

@@ -19,6 +19,7 @@ use std::alloc::{AllocError, Global};
 /// QR and AA.
 const RESPONSE: u16 = 0x8400;
 
+/// One question of class IN.
 fn question(alloc: Global, name: &Name, kind: u16) -> Result<Vec<Question>, AllocError>
     ensures { IfOk result (λ questions. questions.items ≡ question name.now kind ∷ []) }
 {
@@ -31,7 +32,7 @@ fn question(alloc: Global, name: &Name, kind: u16) -> Result<Vec<Question>, Allo
     Ok(questions)
 }
 
-/// A message. None here is too long; should one be, that is told as want of memory.
+/// A message. None here is too long; should one be, the error is that memory ran out.
 fn message(
     alloc: Global,
     id: u16,
@@ -54,7 +55,7 @@ fn message(
     }
 }
 
-/// A response behind its length.
+/// A response, preceded by its length.
 fn response(
     alloc: Global,
     id: u16,

@@ -18,7 +18,8 @@ use std::alloc::{AllocError, Global};
 /// The TTL of most records, in seconds.
 const HOUR: u32 = 3600;
 
-/// A record with a TTL of an hour. Each that is asked for here can be made; should one not, that is told as want of memory.
+/// A record with a TTL of an hour. Each that is asked for here can be made; should one not, the error is that memory
+/// ran out.
 pub(crate) fn hourly(
     alloc: Global,
     owner: Name,
@@ -172,7 +173,7 @@ fn digest(alloc: Global, apex: &Name, serial: u32, records: Vec<Rr>) -> Result<R
     hourly(alloc, *apex, TYPE_ZONEMD, rdata)
 }
 
-/// Puts the SHA-384 of the version that records make. They make one; should they not, that is told as want of memory.
+/// Puts the SHA-384 of the version that records make. They make one; should they not, the error is that memory ran out.
 fn put_digest(
     alloc: Global,
     apex: &Name,

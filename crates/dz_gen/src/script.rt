@@ -16,12 +16,13 @@ use std::alloc::{AllocError, Global};
 /// How many zones a script has at most.
 pub const ZONES: u16 = 1000;
 
+/// The lines of the configuration: the catalog and its group `strict`.
 const SETTINGS: &[u8] =
     b"catalog cat.test. present 192.0.2.1\ngroup cat.test. strict require 192.0.2.2\n";
 
-/// The script of a life of a server with so many zones, 1 to 1,000, which share a catalog. Each is transferred; each tenth
-/// breaks off and comes again. The first is reset, the others change by differences. All are asked for before and after they
-/// expire.
+/// The script of a life of a server with the given number of zones, 1 to 1,000, which share a catalog. Each is
+/// transferred; each tenth breaks off and comes again. The first is reset, the others change by differences. All are
+/// asked for before and after they expire.
 pub fn generate(alloc: Global, number: u16) -> Result<Octets, AllocError>
     requires some { 1 ≤ number }
     requires number { number ≤ ZONES }

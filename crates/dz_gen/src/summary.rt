@@ -9,9 +9,9 @@ use itoa::Buffer;
 use sha2::{Digest, Sha384};
 use std::alloc::{AllocError, Global};
 
-/// The summary, in nine lines, of what a server wrote: how many jobs were handed out, how many transfers were published and
-/// refused, how many zones were added and reset, how many replies had the codes NOERROR, SERVFAIL and REFUSED, and the
-/// SHA-384 of the whole text in hex.
+/// The summary, in nine lines, of what a server wrote: how many jobs were handed out, how many transfers were published
+/// and refused, and how many zones were added and reset. Then come how many replies had the codes NOERROR, SERVFAIL and
+/// REFUSED, and the SHA-384 of the whole text in hex.
 pub fn sum_up(alloc: Global, text: &[u8]) -> Result<Octets, AllocError>
     ensures { IfOk result (λ lines. lines ≡ summary text.now) }
 {

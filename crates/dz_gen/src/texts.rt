@@ -24,7 +24,7 @@ pub(crate) fn numbered(
     Ok(text)
 }
 
-/// The zeros that stand before so many digits of four.
+/// The zeros before this many digits of four.
 fn zeros_before(count: usize) -> &'static [u8]
     ensures { result.now ≡ drop count (codes "0000") }
 {
@@ -32,7 +32,7 @@ fn zeros_before(count: usize) -> &'static [u8]
     zeros.get(count..).unwrap_or(&[])
 }
 
-/// The name that a text stands for. Each text here stands for one; should one not, that is told as want of memory.
+/// The name that a text spells. Each text here is a name; should one not be, the error is that memory ran out.
 pub(crate) fn named(text: &[u8]) -> Result<Name, AllocError>
     ensures { IfOk result (λ name. name ≡ named text.now) }
 {

@@ -1,4 +1,4 @@
--- The OPT record of a reply, one field behind another.
+-- The OPT record of a reply, one field after another.
 use Rattle.std.proofs.Common.{◌≡◌, ℕ, ◌/◌, List, [], ◌∷◌, ◌++◌, sym, Some, None, if◌then◌else◌}
 use Rattle.dz_name.specs.Numbers.{two}
 use Rattle.dz_header.specs.Edns.{opt_octets}

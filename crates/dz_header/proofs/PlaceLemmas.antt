@@ -1,4 +1,4 @@
--- What stands at an offset of some octets.
+-- What is at an offset of some octets.
 use Rattle.std.proofs.Common.{◌≡◌, ℕ, ◌+◌, ◌-◌, List, ◌∷◌, ◌++◌, length, take, drop, get_or, get_or-drop, sym, ◌∙◌, ap, arith, length-append, length-drop}
 use Rattle.std.specs.Prelude.{slice_index, slice_range}
 use Rattle.std.proofs.lemmas.List.{take_at, drop_at, drop-drop}
@@ -7,7 +7,7 @@ use Rattle.std.proofs.lemmas.List.{take_at, drop_at, drop-drop}
 pub length_there : (m : List ℕ) (at : ℕ) (part rest : List ℕ) → drop at m ≡ part ++ rest → length m - at ≡ length part + length rest
 length_there m at part rest is = sym (length-drop at m) ∙ (ap length is ∙ length-append part rest)
 
--- what stands behind a part
+-- what follows a part
 pub drop_there : (m : List ℕ) (at n : ℕ) (part rest : List ℕ) → drop at m ≡ part ++ rest → length part ≡ n → drop (at + n) m ≡ rest
 drop_there m at n part rest is count = sym (drop-drop n at m) ∙ (ap (drop n) is ∙ drop_at part rest n count)
 

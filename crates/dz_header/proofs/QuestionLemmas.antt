@@ -1,4 +1,4 @@
--- Questions whose name has no pointer: their octets spell them, wherever they stand.
+-- Questions whose name has no pointer: their octets spell them, wherever they are.
 use Rattle.std.proofs.Common.{inl, inr, ◌≡◌, ℕ, ◌+◌, ◌-◌, ◌<◌, ◌≤◌, true, false, List, [], ◌∷◌, ◌++◌, length, take, drop, refl, sym, ◌∙◌, ap, arith, append_assoc, length-append, length-drop, length-take-le, Ok, Err}
 use Rattle.std.specs.Prelude.{map, ◌≢◌, IfOk, slice_index, slice_range, nat_lt, Result}
 use Rattle.std.specs.List.{AllByRecursion}
@@ -11,7 +11,7 @@ use Rattle.dz_name.specs.Reading.{Reading, Reads, at_root, at_label, at_pointer,
 use Rattle.dz_name.proofs.KeptLemmas.{wire_some, length-lower}
 use Rattle.dz_name.proofs.ReadingLemmas.{length_label, name_at_reads, name_at_is, name_at_name, name_at_within}
 use Rattle.dz_header.specs.declared.question.Question.{Question}
-use Rattle.dz_name.specs.declared.reading.WireFault.{WireFault}
+use Rattle.dz_name.specs.declared.wire_fault.WireFault.{WireFault}
 use Rattle.dz_header.specs.Question.{question_of, question_behind, question_at}
 use Rattle.dz_header.proofs.PlaceLemmas.{length_there, drop_there, index_there, range_there}
 
@@ -20,7 +20,7 @@ pub record IsRaw (label : List ℕ) : Type 0 where
   pub some : 0 < length label
   pub short : length label < 64
 
--- a name stands from one offset to another in the letters of the message, without pointers
+-- a name is between two offsets in the letters of the message, without pointers
 pub record IsSpelled (m : List ℕ) (at end : ℕ) (name : List (List ℕ)) : Type 0 where
   pub raws : List (List ℕ)
   pub there : drop at m ≡ wire_of raws ++ drop end m
@@ -57,7 +57,7 @@ not_two m (bad_kind within some below) = tt
 not_two m (forward within pointer behind) = tt
 not_two m (too_long within some short whole more) = tt
 
--- a reading that ends as many octets behind its begin as its wire form has followed no pointer
+-- a reading that ends as many octets after its beginning as its wire form has followed no pointer
 abbrev InPlace : List ℕ → ℕ → Reading → Type 0
 InPlace m at r = IfOk r (λ p. p.1 ≡ at + length (wire_of p.0) → IsSpelled m at p.1 p.0)
 
@@ -231,7 +231,7 @@ echo_length echo q is =
 same_question : (name : List (List ℕ)) (octets : List ℕ) (q : Question) → name ≡ q.name → number_of_two octets ≡ q.kind → number_of_two (drop 2 octets) ≡ q.class → question_of name octets ≡ q
 same_question name octets q n k c = rw (n, k, c) refl
 
--- the same octets read as the same question where they stand in another message
+-- the same octets read as the same question where they are in another message
 pub echo_reads : (m : List ℕ) (at : ℕ) (echo rest : List ℕ) (q : Question) → IsEcho echo q → drop at m ≡ echo ++ rest → question_at m at ≡ Ok (q, at + length echo)
 unfolding question_at
 echo_reads m at echo rest q is there =

@@ -5,7 +5,7 @@ use Rattle.std.proofs.lemmas.List.{take_at, take_all, append-nil}
 use Rattle.std.proofs.lemmas.Bool.Decides.{nat_tests, leb_tells}
 use Rattle.dz_header.specs.Writing.{Writing, octets_with, also, room_with}
 
--- what was written stands at the front of some octets; more is put behind it where it fits
+-- what was written is at the beginning of some octets; more is put after it where it fits
 pub joined_at : (limit n : ℕ) (before after more : List ℕ) (end : Option ℕ) → n ≤ limit → limit ≤ length before
     → end ≡ (if nat_le (length more) (limit - n) then Some (n + length more) else None)
     → (IsSome end → after ≡ take n before ++ (more ++ drop (n + length more) before))
@@ -22,7 +22,7 @@ joined_at limit n before after more end le room is kept =
       | inr w ↦ let none : end ≡ None = rw w.0 at is in rw (size, w.0, none) refl
     ]
 
--- what was written stands at the front, and behind it what stood there
+-- what was written is at the beginning, followed by what was there
 pub room_at : (limit n : ℕ) (before after more : List ℕ) (end : Option ℕ) → n ≤ limit → limit ≤ length before
     → end ≡ (if nat_le (length more) (limit - n) then Some (n + length more) else None)
     → (IsSome end → after ≡ take n before ++ (more ++ drop (n + length more) before))
@@ -65,7 +65,7 @@ joined_append limit (Some octets) a b =
           rw (e, w.0) refl
     ]
 
--- to write two pieces is to write one behind the other
+-- to write two pieces is to write one after the other
 pub also_append : (w : Writing) (a b : List ℕ) → also w (a ++ b) ≡ also (also w a) b
 unfolding also
 also_append w a b = rw (joined_append w.limit w.octets a b) refl

@@ -3,6 +3,7 @@ use Rattle.std.specs.Prelude.{ℕ}
 use Rattle.dz_header.specs.declared.code.ResponseCode.{ResponseCode}
 use Rattle.dz_header.specs.declared.code.ResponseCode.TheVariants.{NoError, FormErr, ServFail, NxDomain, NotImp, Refused, YxDomain, NotAuth, BadVers}
 
+-- the number of a response code (RFC 6895 section 2.3)
 abbrev pub number_of : ResponseCode → ℕ
 number_of NoError = 0
 number_of FormErr = 1

@@ -1,4 +1,4 @@
--- Meaning: EDNS, what an OPT record says, and the one that a reply has (RFC 6891 section 6.1, RFC 3225 section 3).
+-- Meaning: EDNS, what an OPT record says, and the OPT record of a reply (RFC 6891 section 6.1, RFC 3225 section 3).
 use Rattle.std.specs.Prelude.{ℕ, ◌/◌, ◌%◌, ◌==◌, [], ◌∷◌, ◌++◌, Option, Some, None, if◌then◌else◌}
 use Rattle.dz_name.specs.Numbers.{two}
 use Rattle.dz_name.specs.declared.dns.TheConstants.{TYPE_OPT, EDNS_OCTETS}
@@ -8,17 +8,17 @@ use Rattle.dz_header.specs.declared.flags.TheConstants.{CODES}
 use Rattle.dz_header.specs.declared.record_head.RecordHead.{RecordHead}
 use Rattle.dz_name.specs.Words.{Octets}
 
--- size in its class; version and DO in its TTL
+-- what an OPT record says: the payload size in its class, and version and DO in its TTL (RFC 6891 section 6.1.3)
 unfoldable pub edns_of : RecordHead → Edns
 edns_of head = record { size = head.class; version = head.ttl / VERSION % VERSIONS; dnssec_ok = head.ttl / DNSSEC_OK % 2 == 1 }
 
--- one OPT record where the request has one
+-- how many OPT records a reply has: one where the request has one
 abbrev pub opt_count : Option Edns → ℕ
 opt_count None = 0
 opt_count (Some edns) = 1
 
--- the OPT record of a reply: payload size 1232, the upper eight bits of the code, version 0, DO as it was asked, and no
--- options
+-- the OPT record of a reply: payload size 1232, the upper eight bits of the code, version 0, DO as in the request, and
+-- no options
 unfoldable pub opt_octets : ℕ → Option Edns → Octets
 opt_octets code None = []
 opt_octets code (Some edns) =

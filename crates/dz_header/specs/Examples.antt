@@ -28,7 +28,7 @@ pub read_again : header_in (0 ∷ 16 ∷ 133 ∷ 0 ∷ 0 ∷ 1 ∷ 0 ∷ 2 ∷ 0
 unfolding header_in number_of_two
 read_again = refl
 
--- an OPT record of size 4096 and version 0 with DO, and an octet behind it
+-- an OPT record of size 4096 and version 0 with DO, followed by an octet
 abbrev opt : Octets
 opt = 0 ∷ 0 ∷ 41 ∷ 16 ∷ 0 ∷ 0 ∷ 0 ∷ 128 ∷ 0 ∷ 0 ∷ 0 ∷ 7 ∷ []
 
@@ -40,7 +40,7 @@ pub edns_of_opt : edns_of (record { kind = 41; class = 4096; ttl = 32768; size =
 unfolding edns_of
 edns_of_opt = refl
 
--- BADVERS is 16: its upper eight bits stand in the OPT record
+-- BADVERS is 16: its upper eight bits are in the OPT record
 pub opt_of_badvers : opt_octets 16 (Some (record { size = 4096; version = 1; dnssec_ok = true })) ≡ 0 ∷ 0 ∷ 41 ∷ 4 ∷ 208 ∷ 1 ∷ 0 ∷ 128 ∷ 0 ∷ 0 ∷ 0 ∷ []
 unfolding opt_octets two
 opt_of_badvers = refl

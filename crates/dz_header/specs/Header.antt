@@ -6,7 +6,7 @@ use Rattle.dz_header.specs.declared.header.Header.{Header}
 use Rattle.dz_name.specs.declared.dns.TheConstants.{HEADER_OCTETS}
 use Rattle.dz_name.specs.Words.{Octets}
 
--- the six numbers in the first twelve octets
+-- the header in the first twelve octets: its six numbers
 unfoldable pub header_in : Octets → Header
 header_in octets = record {
   id = number_of_two octets;
@@ -14,9 +14,10 @@ header_in octets = record {
   counts = number_of_two (drop 4 octets) ∷ number_of_two (drop 6 octets) ∷ number_of_two (drop 8 octets) ∷ number_of_two (drop 10 octets) ∷ [];
 }
 
+-- the header at the beginning of some octets; none where there are fewer than twelve
 abbrev pub header_of : Octets → Option Header
 header_of octets = if nat_lt (length octets) HEADER_OCTETS then None else Some (header_in octets)
 
--- a header as octets
+-- the twelve octets of a header
 unfoldable pub header_octets : Header → Octets
 header_octets header = two header.id ++ (two header.flags ++ flat_map two header.counts)

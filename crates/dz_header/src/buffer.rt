@@ -12,9 +12,10 @@ use crate::writer::{BUFFER_OCTETS, Writer};
 use std::alloc::{AllocError, Global};
 use std::marker::Model;
 
-/// Memory for one request and its reply: 65,537 octets to read into, and as many to write. It is taken once and never
-/// grows, so one buffer serves any number of requests. A message over TCP has at most 65,535 octets behind its length
-/// in two (RFC 1035 section 4.2.2). The halves are apart: a device may read into the one while the other is written.
+/// Memory for one request and its reply: 65,537 octets to read into, and as many to write. It is allocated once and
+/// never grows, so one buffer serves any number of requests. A message over TCP has at most 65,535 octets, preceded by
+/// its length in two (RFC 1035 section 4.2.2). The halves are separate: a device may read into one while the other is
+/// written.
 #[derive(Drop)]
 pub struct ReplyBuffer {
     /// The 65,537 octets that requests are read into.
@@ -36,7 +37,7 @@ impl Model for ReplyBuffer {
 }
 
 impl ReplyBuffer {
-    /// A buffer with nothing written.
+    /// A buffer in which nothing is written.
     ///
     /// # Errors
     ///
@@ -70,8 +71,8 @@ impl ReplyBuffer {
         &mut self.reply
     }
 
-    /// The 65,537 octets of the reply, to be filled by other means, as by a device that reads into them: what was written
-    /// is let go.
+    /// The 65,537 octets of the reply, to be filled by other means, such as a device that reads into them. What was
+    /// written is discarded.
     pub fn reply_mut(&mut self) -> &mut [u8]
         ensures* lends { sem 𝓛 (Lends the_row (Array u8 0) self.entry result
             (with_reply_room self.entry.now)) }
@@ -81,7 +82,7 @@ impl ReplyBuffer {
         self.reply.room_mut()
     }
 
-    /// The first octets of the reply; behind what was written stands what earlier replies left.
+    /// The first `count` octets of the reply; what was written is followed by what earlier replies left.
     pub fn reply(&self, count: usize) -> &[u8]
         requires { count ≤ BUFFER_OCTETS }
         ensures size { length result.now ≡ count }

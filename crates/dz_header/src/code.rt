@@ -18,7 +18,7 @@ pub enum ResponseCode {
 }
 
 impl ResponseCode {
-    /// The code's number, of at most twelve bits.
+    /// The number of the code, of at most twelve bits.
     pub fn number(self) -> u16
         ensures value { result ≡ number_of self }
         ensures small { result < 4096 }

@@ -1,4 +1,4 @@
-//! EDNS: what an OPT record says, and the one that a reply has.
+//! EDNS: what an OPT record says, and the OPT record of a reply.
 
 ghost use Rattle.std.specs.Prelude.{◌≡◌, ◌≤◌, Some, if◌then◌else◌};
 ghost use Rattle.dz_header.specs.Code.{number_of};
@@ -12,9 +12,9 @@ use crate::writer::Writer;
 use dz_name::dns::{EDNS_OCTETS, TYPE_OPT};
 use dz_name::numbers::two;
 
-/// The lowest bit of the version within the TTL of an OPT record; the version has eight bits, and flags stand below it.
+/// The lowest bit of the version within the TTL of an OPT record; the version has eight bits, and flags are below it.
 pub(crate) const VERSION: u32 = 65_536;
-/// How many versions there are.
+/// How many EDNS versions there are.
 pub(crate) const VERSIONS: u32 = 256;
 /// The bit DO within the TTL of an OPT record (RFC 3225 section 3).
 pub(crate) const DNSSEC_OK: u32 = 32_768;
@@ -28,7 +28,7 @@ pub struct Edns {
     pub dnssec_ok: bool,
 }
 
-/// What an OPT record says by what stands behind its owner (RFC 6891 section 6.1.3).
+/// What an OPT record says, from the fields after its owner name (RFC 6891 section 6.1.3).
 #[tactic(auto, unfolding(crate::specs::Edns::edns_of))]
 pub fn edns_of(head: RecordHead) -> Edns
     ensures { result ≡ edns_of head }
@@ -51,8 +51,8 @@ pub fn opt_count(edns: Option<Edns>) -> usize
     }
 }
 
-/// Writes the OPT record of a reply, where the request has one (RFC 6891 sections 6.1 and 7): payload size 1232, the upper
-/// eight bits of the code, version 0, DO as it was asked, and no options.
+/// Writes the OPT record of a reply, where the request has one (RFC 6891 sections 6.1 and 7): payload size 1232, the
+/// upper eight bits of the code, version 0, DO as in the request, and no options.
 pub fn put_opt(writer: &mut Writer, code: ResponseCode, edns: Option<Edns>)
     ensures { writer.new.writing ≡ also writer.old.writing (opt_octets (number_of code) edns) }
 {
@@ -62,6 +62,7 @@ pub fn put_opt(writer: &mut Writer, code: ResponseCode, edns: Option<Edns>)
     }
 }
 
+/// Writes the OPT record of a reply to a request with EDNS.
 fn put_edns(writer: &mut Writer, code: ResponseCode, edns: Edns)
     ensures { writer.new.writing
         ≡ also writer.old.writing (opt_octets (number_of code) (Some edns)) }

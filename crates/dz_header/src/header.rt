@@ -8,8 +8,8 @@ use crate::flags::{AUTHORITATIVE, CODES, OPCODE, RECURSION_DESIRED, RESPONSE, TR
 use dz_name::dns::HEADER_OCTETS;
 use dz_name::numbers::{number_of_two, two};
 
-/// The header of a message (RFC 1035 section 4.1.1): ID, flags with opcode and response code, and the numbers of
-/// questions, answer, authority and additional records.
+/// The header of a message (RFC 1035 section 4.1.1): ID, flags with opcode and response code, and the counts of
+/// questions and of answer, authority and additional records.
 #[derive(Clone, Copy, Debug, PartialEq, Eq)]
 pub struct Header {
     pub id: u16,
@@ -32,28 +32,28 @@ impl Header {
         self.flags / OPCODE % CODES
     }
 
-    /// Whether who answers has authority over the name of the question, AA.
+    /// Whether the responder is an authority for the name in the question, AA.
     pub fn is_authoritative(&self) -> bool
         ensures { result ≡ is_authoritative self.now.flags }
     {
         self.flags / AUTHORITATIVE % 2 == 1
     }
 
-    /// Whether the message was cut, since it was longer than the transport allows, TC.
+    /// Whether the message was truncated because it was longer than the transport allows, TC.
     pub fn is_truncated(&self) -> bool
         ensures { result ≡ is_truncated self.now.flags }
     {
         self.flags / TRUNCATED % 2 == 1
     }
 
-    /// Whether the question is to be pursued recursively, RD.
+    /// Whether the query is to be pursued recursively, RD.
     pub fn recursion_desired(&self) -> bool
         ensures { result ≡ is_recursion_desired self.now.flags }
     {
         self.flags / RECURSION_DESIRED % 2 == 1
     }
 
-    /// The response code, below 16: its lower four bits, the upper ones stand in an OPT record (RFC 6891 section 6.1.3).
+    /// The response code, below 16: its lower four bits. The upper ones are in an OPT record (RFC 6891 section 6.1.3).
     pub fn code(&self) -> u16
         ensures { result ≡ code_of self.now.flags }
     {
@@ -72,6 +72,7 @@ pub fn read_header(message: &[u8]) -> Option<Header>
     }
 }
 
+/// The header in the first twelve octets, which are there.
 #[tactic(auto, unfolding(crate::specs::Header::header_in))]
 fn header_in(message: &[u8]) -> Header
     requires { HEADER_OCTETS ≤ length message.now }

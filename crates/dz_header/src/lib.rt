@@ -1,5 +1,5 @@
-//! The parts of a message that stand outside its records (RFC 1035 section 4.1): header, question, and records by their
-//! shape; and the memory in which a request is read and its reply written.
+//! The parts of a message outside its records (RFC 1035 section 4.1): header, question, and records by their shape; and
+//! the memory in which a request is read and its reply written.
 #![tactic(auto)]
 
 mod buffer;
@@ -10,6 +10,7 @@ mod header;
 mod question;
 mod record_head;
 mod shape;
+mod transport;
 mod writer;
 
 pub use buffer::ReplyBuffer;
@@ -20,4 +21,5 @@ pub use header::{Header, read_header, write_header};
 pub use question::{QUESTION_OCTETS, Question, read_question};
 pub use record_head::{HEAD_OCTETS, RecordHead, read_head};
 pub use shape::{Shape, read_shape, skip_records};
+pub use transport::Transport;
 pub use writer::{BUFFER_OCTETS, Writer};

@@ -17,11 +17,11 @@ pub struct Question {
     pub class: u16,
 }
 
-/// Reads the question that stands at an offset of a message (RFC 1035 section 4.1.2). With it comes the offset behind it.
+/// Reads the question at an offset of a message (RFC 1035 section 4.1.2), and returns it with the offset after it.
 ///
 /// # Errors
 ///
-/// The first fault of its name, and then `Short` where type and class aren't all there.
+/// The first fault of its name, or else `Short` where type and class aren't complete.
 #[tactic(auto, unfolding(crate::specs::Question::question_at))]
 pub fn read_question(message: &Wire<'_>, at: usize) -> Result<(Question, usize), WireFault>
     ensures reads { result ≡ question_at message.now at }

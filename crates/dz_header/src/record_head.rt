@@ -1,15 +1,15 @@
-//! What stands between the owner of a record and its RDATA.
+//! The fields between the owner name of a record and its RDATA.
 
 ghost use Rattle.std.specs.Prelude.{◌≡◌, ◌≤◌, length};
 ghost use Rattle.dz_header.specs.RecordHead.{head_in, head_of};
 
 use dz_name::numbers::{number_of_four, number_of_two};
 
-/// How many octets stand between the owner of a record and its RDATA (RFC 1035 section 4.1.3).
+/// How many octets there are between the owner name of a record and its RDATA (RFC 1035 section 4.1.3).
 pub const HEAD_OCTETS: usize = 10;
 
-/// What stands behind the owner of a record (RFC 1035 section 4.1.3): type, class, TTL in seconds, and how many octets the
-/// RDATA behind it has.
+/// The fields after the owner name of a record (RFC 1035 section 4.1.3): type, class, TTL in seconds, and the number of
+/// octets of the RDATA that follows.
 #[derive(Clone, Copy, Debug, PartialEq, Eq)]
 pub struct RecordHead {
     pub kind: u16,
@@ -18,7 +18,7 @@ pub struct RecordHead {
     pub size: u16,
 }
 
-/// What the first ten octets say, which stand behind an owner; none where there are fewer.
+/// Reads the fields after an owner name from the first ten octets; none where there are fewer.
 pub fn read_head(octets: &[u8]) -> Option<RecordHead>
     ensures { result ≡ head_of octets.now }
 {
@@ -29,6 +29,7 @@ pub fn read_head(octets: &[u8]) -> Option<RecordHead>
     }
 }
 
+/// The fields in the first ten octets, which are there.
 #[tactic(auto, unfolding(crate::specs::RecordHead::head_in))]
 fn head_in(octets: &[u8]) -> RecordHead
     requires { HEAD_OCTETS ≤ length octets.now }

@@ -6,20 +6,20 @@ ghost use Rattle.dz_header.specs.Shape.{behind_owner, behind_head, shape_of, beh
 use crate::record_head::{HEAD_OCTETS, RecordHead, read_head};
 use dz_name::dns::LABEL_OCTETS;
 
-/// The least length octet that is the first of a pointer: its two top bits are 11 (RFC 1035 section 4.1.4).
+/// The least first octet of a pointer: its two top bits are 11 (RFC 1035 section 4.1.4).
 pub(crate) const POINTER: usize = 192;
 
-/// What a record shows without its owner and RDATA being read.
+/// What a record shows without its owner name and RDATA being read.
 #[derive(Clone, Copy, Debug, PartialEq, Eq)]
 pub struct Shape {
-    /// Whether the owner is the single zero octet, the root.
+    /// Whether the owner name is the single zero octet, the root.
     pub root: bool,
     /// Type, class, TTL and the length of the RDATA.
     pub head: RecordHead,
 }
 
-/// The shape of the record at the front of some octets, its RDATA as it stands there, and what stands behind the record.
-/// None where it isn't all there, or its owner is neither labels and a zero octet nor labels and a pointer.
+/// The shape of the record at the beginning of some octets, its RDATA as it is there, and what follows the record. None
+/// where it isn't complete, or its owner name is neither labels and a zero octet nor labels and a pointer.
 #[tactic(auto, unfolding(crate::specs::Shape::shape_of))]
 pub fn read_shape(octets: &[u8]) -> Option<(Shape, &[u8], &[u8])>
     ensures { option_map (λ x. (x.0, x.1.now, x.2.now)) result ≡ shape_of octets.now }
@@ -28,7 +28,7 @@ pub fn read_shape(octets: &[u8]) -> Option<(Shape, &[u8], &[u8])>
     behind_head(octets.is_empty() || octets[0] == 0, rest)
 }
 
-/// What stands behind so many records.
+/// What follows the given number of records; none where one of them has no shape.
 #[tactic(auto, using(crate::proofs::ShapeLemmas::skipped_step, crate::proofs::ShapeLemmas::skipped_done))]
 pub fn skip_records(octets: &[u8], count: u32) -> Option<&[u8]>
     ensures { option_map (λ rest. rest.now) result ≡ behind_records count octets.now }
@@ -41,7 +41,7 @@ pub fn skip_records(octets: &[u8], count: u32) -> Option<&[u8]>
     Some(rest)
 }
 
-/// The head behind an owner, the RDATA, and what stands behind the record.
+/// The fields after an owner name, the RDATA, and what follows the record; none where they aren't complete.
 #[tactic(auto, unfolding(crate::specs::Shape::behind_head))]
 fn behind_head(root: bool, octets: &[u8]) -> Option<(Shape, &[u8], &[u8])>
     ensures { option_map (λ x. (x.0, x.1.now, x.2.now)) result ≡ behind_head root octets.now }
@@ -56,7 +56,7 @@ fn behind_head(root: bool, octets: &[u8]) -> Option<(Shape, &[u8], &[u8])>
     Some((Shape { root, head }, rdata, behind))
 }
 
-/// What stands behind the owner of a record.
+/// What follows the owner name of a record; none where it isn't complete or has a bad length octet.
 #[tactic(auto, using(crate::proofs::ShapeLemmas::owner_none, crate::proofs::ShapeLemmas::owner_ends, crate::proofs::ShapeLemmas::owner_label, crate::proofs::ShapeLemmas::owner_cut, crate::proofs::ShapeLemmas::owner_bad, crate::proofs::ShapeLemmas::owner_half, crate::proofs::ShapeLemmas::owner_points))]
 fn behind_owner(octets: &[u8]) -> Option<&[u8]>
     ensures { option_map (λ rest. rest.now) result ≡ behind_owner 0 octets.now }
@@ -83,7 +83,7 @@ fn behind_owner(octets: &[u8]) -> Option<&[u8]>
     None
 }
 
-/// What stands behind so many octets.
+/// What follows the given number of octets.
 fn behind(octets: &[u8], count: usize) -> &[u8]
     requires { count ≤ length octets.now }
     ensures { result.now ≡ drop count octets.now }

@@ -1,4 +1,4 @@
-//! Octets up to a limit, in memory that is taken once.
+//! Octets up to a limit, in memory that is allocated once.
 
 ghost use Rattle.std.specs.Prelude.{◌≡◌, ◌+◌, ◌-◌, ◌≤◌, ◌++◌, take, drop, length, nat_le, List, ℕ, Some, None, IfOk, IsSome, IsNone, is_some, not, option_map, if◌then◌else◌};
 ghost use Rattle.std.specs.Borrow.{Array, Lends, sem, u8};
@@ -14,9 +14,9 @@ use std::marker::Model;
 /// How many octets a buffer has: a message over TCP of 65,535 octets and its length in two (RFC 1035 section 4.2.2).
 pub const BUFFER_OCTETS: usize = MESSAGE_OCTETS + 2;
 
-/// Octets that are written up to a limit of at most 65,537, in memory that is taken once and never grows. Contracts see
-/// the limit, and the octets, or none once more was to be written than fits; and the whole room of 65,537 octets, at
-/// whose front stands what is written.
+/// Octets that are written up to a limit of at most 65,537, in memory that is allocated once and never grows. Contracts
+/// see the limit, and the octets written, or none once more was to be written than fits. They also see the whole room
+/// of 65,537 octets, which begins with what is written.
 #[derive(Drop)]
 pub struct Writer {
     octets: Vec<u8>,
@@ -45,7 +45,7 @@ impl Model for Writer {
 }
 
 impl Writer {
-    /// A writer with no octets, which may write none.
+    /// A writer with no octets and a limit of 0.
     ///
     /// # Errors
     ///
@@ -62,7 +62,7 @@ impl Writer {
         })
     }
 
-    /// Empties the writer, and sets the limit: so many octets may be written.
+    /// Empties the writer, and sets the number of octets that may be written.
     pub fn begin(&mut self, limit: usize)
         requires { limit ≤ BUFFER_OCTETS }
         ensures writing { self.new.writing ≡ empty limit }
@@ -72,8 +72,8 @@ impl Writer {
         self.limit = limit;
     }
 
-    /// Writes octets behind the others, where there is room for all of them. Where there isn't, and from then on,
-    /// nothing is written any more.
+    /// Writes octets after the others, where there is room for all of them. Where there isn't, nothing is written, then
+    /// or later.
     #[tactic(auto, unfolding(crate::specs::Writing::also))]
     pub fn put(&mut self, more: &[u8])
         ensures writing { self.new.writing ≡ also self.old.writing more.now }
@@ -99,7 +99,7 @@ impl Writer {
         &self.octets[..self.len.unwrap()]
     }
 
-    /// So many octets from the front; behind what was written stands what was written earlier.
+    /// The first `count` octets of the room; what was written is followed by what was written earlier.
     pub fn first(&self, count: usize) -> &[u8]
         requires { count ≤ BUFFER_OCTETS }
         ensures size { length result.now ≡ count }
@@ -110,7 +110,8 @@ impl Writer {
         &self.octets[..count]
     }
 
-    /// The 65,537 octets to be filled by other means, as by a device that reads into them: what was written is let go.
+    /// The 65,537 octets, to be filled by other means, such as a device that reads into them. What was written is
+    /// discarded.
     pub fn room_mut(&mut self) -> &mut [u8]
         ensures* lends { sem 𝓛 (Lends the_row (Array u8 0) self.entry result
             (with_room self.entry.now)) }
@@ -122,6 +123,7 @@ impl Writer {
         self.octets.as_mut_slice()
     }
 
+    /// Writes octets after the others, or notes that they don't fit.
     fn extend(&mut self, more: &[u8])
         ensures limit { self.new.writing.limit ≡ self.old.writing.limit }
         ensures octets { self.new.writing.octets
@@ -132,7 +134,8 @@ impl Writer {
     }
 }
 
-/// Writes octets behind the first ones, where they fit before the limit: how many there are then.
+/// Writes octets after the first `len`, where they fit before the limit, and returns the new length; none where they
+/// don't.
 #[tactic(auto, unfolding(crate::specs::Writing::octets_with), using(crate::proofs::WriterLemmas::joined_at, crate::proofs::WriterLemmas::room_at))]
 fn append(octets: &mut Vec<u8>, len: Option<usize>, limit: usize, more: &[u8]) -> Option<usize>
     requires within { ForSome len (λ n. n ≤ limit) }
@@ -150,7 +153,8 @@ fn append(octets: &mut Vec<u8>, len: Option<usize>, limit: usize, more: &[u8]) -
     }
 }
 
-/// Writes octets at a place, where they fit before the limit; the place behind them.
+/// Writes octets at an offset, where they fit before the limit, and returns the offset after them; none where they
+/// don't.
 fn place(octets: &mut Vec<u8>, at: usize, limit: usize, more: &[u8]) -> Option<usize>
     requires within { at ≤ limit }
     requires room { limit ≤ length octets.old.items }

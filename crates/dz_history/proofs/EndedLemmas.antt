@@ -6,7 +6,7 @@ use Rattle.std.proofs.lemmas.Bool.{cases_Bool}
 use Rattle.std.proofs.lemmas.Bool.Decides.{nat_tests}
 use Rattle.dz_name.specs.Words.{Name}
 use Rattle.dz_member.proofs.NumberLemmas.{first_of}
-use Rattle.dz_member.specs.declared.config.CatalogSettings.{CatalogSettings}
+use Rattle.dz_settings.specs.declared.config.CatalogSettings.{CatalogSettings}
 use Rattle.dz_history.specs.declared.entry.Entry.{Entry}
 use Rattle.dz_history.specs.declared.entry.Entry.TheVariants.{Setup, Transfer}
 use Rattle.dz_history.specs.State.{State, nothing, opened, catalog_at, incarnation_at, incarnation_from, stands}
@@ -70,6 +70,6 @@ ended_within s (e ∷ es) zone i n legal old h = elim (cases_Bool (ends s e zone
 pub ended_old : (es : List Entry) (zone : Name) (i n : ℕ) → IsLegal es → ended es zone i ≡ Some n → (i < length es) × (n < length es)
 ended_old es zone i n legal h = let r = ended_within nothing es zone i n legal none_old h in (omega (arith, r.0), omega (arith, r.1))
 
--- what stands began by an entry of the list
+-- what is current began by an entry of the list
 pub old_is : (es : List Entry) → IsLegal es → IsOld (after es)
 old_is es legal = by_entries (λ fs. IsOld (after fs)) none_old (λ fs e l c old. subst IsOld (sym (after_more fs e)) (step_old (after fs) e c old)) es legal

@@ -37,7 +37,7 @@ place_read p f (d ∷ rest) k y e h =
     let there : slice_get xs k ≡ Some (get_or xs k d) = slice_get-get_or xs k d (place_within p xs k e) in
     sym (read_from f (slice_get xs k) y h (get_or xs k d) there) ∙ ap (option_and_then f) (place_found p xs k (get_or xs k d) (sym e) there)
 
--- the same of a function that may have none of what stands there
+-- the same of a function that may give nothing of what is there
 told_from : {X Y : Type 0} (f : X → Option Y) (o : Option X) (y : Option Y) → IfSome o (λ x. f x ≡ y) → (x : X) → o ≡ Some x → f x ≡ y
 told_from f None y h x e = absurd (cc)
 told_from f (Some z) y h x e = let s : z ≡ x = cc in rw s at h

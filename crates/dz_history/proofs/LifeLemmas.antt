@@ -1,4 +1,4 @@
--- An incarnation that ended never stands again.
+-- An incarnation that ended is never current again.
 use Rattle.std.proofs.Common.{◌≡◌, ℕ, Bool, true, false, ◌&&◌, not, List, [], ◌∷◌, ◌++◌, length, refl, sym, ◌∙◌, ap, arith, inl, inr, Some, None}
 use Rattle.std.specs.Prelude.{Option}
 use Rattle.dz_name.specs.Words.{Name}

@@ -12,7 +12,7 @@ use Rattle.dz_name.specs.Name.{same_name}
 use Rattle.dz_name.specs.Order.{same_decides}
 use Rattle.dz_zone.specs.Version.{Zone}
 use Rattle.dz_take.specs.Transfer.{Decision, up_to_date, new, refused}
-use Rattle.dz_member.specs.declared.config.CatalogSettings.{CatalogSettings}
+use Rattle.dz_settings.specs.declared.config.CatalogSettings.{CatalogSettings}
 use Rattle.dz_member.specs.Membership.{MemberOf}
 use Rattle.dz_member.specs.Fold.{number_of, member_of}
 use Rattle.dz_table.specs.Slot.{SlotOf}
@@ -66,7 +66,7 @@ came_now es t i version lt is made =
       made = ap (λ (xs : List Entry). decision_of (after xs) t) (take-append_seam es (Transfer t ∷ [])) ∙ made;
     }
 
--- ---- of one zone one incarnation stands
+-- ---- of one zone one incarnation is current
 one_of : (o : Option ℕ) (i j : ℕ) → option_map_or (λ k. k == i) o false ≡ true → option_map_or (λ k. k == j) o false ≡ true → i ≡ j
 one_of None i j e f = absurd (cc)
 one_of (Some k) i j e f = let a : (k == i) ≡ true = e in let b : (k == j) ≡ true = f in grind (arith, nat_tests)

@@ -11,7 +11,7 @@ use Rattle.std.proofs.lemmas.Option.{slice_get-get_or, slice_get-map, slice_get_
 use Rattle.dz_name.specs.Words.{Name}
 use Rattle.dz_name.specs.Name.{canonical_order, same_name}
 use Rattle.dz_name.specs.Order.{canonical_total, same_decides, same_ties}
-use Rattle.dz_member.specs.declared.config.CatalogSettings.{CatalogSettings}
+use Rattle.dz_settings.specs.declared.config.CatalogSettings.{CatalogSettings}
 use Rattle.dz_member.specs.Membership.{MemberOf, settings_at}
 use Rattle.dz_member.specs.Fold.{number_of}
 use Rattle.dz_member.proofs.NumberLemmas.{number_back, number_names}
@@ -25,7 +25,7 @@ pub seats_size : (s : State) → length (seats s) ≡ length s.fold.config + len
 seats_size s =
     omega (arith, length-append (map catalog_seat s.fold.config) (map member_seat s.fold.members), length-map s.fold.config catalog_seat, length-map s.fold.members member_seat)
 
--- ---- a list behind another
+-- ---- a list after another
 pub get_front : {X : Type 0} (xs ys : List X) (k : ℕ) → k < length xs → slice_get (xs ++ ys) k ≡ slice_get xs k
 get_front [] ys k h = absurd (omega arith)
 get_front (x ∷ xs) ys zero h = refl
@@ -92,7 +92,7 @@ seated_member s zone i m e f z =
       there = member_there s spot.place ∙ ap (option_map member_seat) spot.there ∙ ap Some (seat_of m zone i own z);
     }
 
--- an incarnation that stands, at a catalog and at a member
+-- an incarnation that is current, at a catalog and at a member
 pub stands_zero : (s : State) (zone : Name) (i number : ℕ) → Some number ≡ catalog_at s zone → stands s zone i ≡ true → 0 ≡ i
 stands_zero s zone i number e h = let t : (0 == i) ≡ true = ap (λ (o : Option ℕ). option_map_or (λ j. j == i) o false) (sym (incarnation_catalog s zone number e)) ∙ h in grind (arith, nat_tests)
 

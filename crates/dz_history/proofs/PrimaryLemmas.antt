@@ -10,9 +10,9 @@ use Rattle.std.proofs.lemmas.Option.{get_or_from_slice_get, slice_get_within}
 use Rattle.dz_name.specs.Words.{Name, Octets}
 use Rattle.dz_name.specs.Name.{same_name}
 use Rattle.dz_io.specs.declared.peer.Peer.{Peer}
-use Rattle.dz_member.specs.declared.config.CatalogSettings.{CatalogSettings}
+use Rattle.dz_settings.specs.declared.config.CatalogSettings.{CatalogSettings}
 use Rattle.dz_member.specs.declared.listing.Node.{Node}
-use Rattle.dz_member.specs.Config.{IsAllowed, is_catalog, is_group, is_word, is_count, are_primaries}
+use Rattle.dz_settings.specs.Config.{IsAllowed, is_catalog, is_group, is_word, is_count, are_primaries}
 use Rattle.dz_member.specs.Membership.{MemberOf, settings_at, group_at, group_of, settings_of, primaries_in, primaries_of}
 use Rattle.dz_member.specs.Fold.{FoldOf, number_of}
 use Rattle.dz_member.specs.Process.{process}

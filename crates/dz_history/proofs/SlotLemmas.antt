@@ -12,7 +12,7 @@ use Rattle.std.proofs.lemmas.Bool.{cases_Bool}
 use Rattle.std.proofs.lemmas.Bool.Decides.{nat_tests}
 use Rattle.dz_name.specs.Name.{same_name, canonical_order}
 use Rattle.dz_name.specs.Order.{canonical_total, canonical_same, same_decides, same_ties}
-use Rattle.dz_member.specs.declared.config.CatalogSettings.{CatalogSettings}
+use Rattle.dz_settings.specs.declared.config.CatalogSettings.{CatalogSettings}
 use Rattle.dz_member.specs.declared.membership.Membership.{Membership}
 use Rattle.dz_member.specs.Membership.{MemberOf, shown}
 use Rattle.dz_table.specs.Slot.{SlotOf}
@@ -44,7 +44,7 @@ pub slots_zones : (s : State) (ms : List MemberOf) → map (λ slot. slot.zone) 
 slots_zones s [] = refl
 slots_zones s (m ∷ ms) = rw (slot_zone s m, slots_zones s ms) refl
 
--- the numbers of a membership stand for nothing that its slot asks for
+-- the numbers of a membership mean nothing that its slot asks for
 pub slots_shown : (s : State) (a b : List CatalogSettings) (ms : List Membership) → map (λ m. slot_after s (shown a m)) ms ≡ map (slot_after s) (map (shown b) ms)
 unfolding slot_after
 slots_shown s a b [] = refl

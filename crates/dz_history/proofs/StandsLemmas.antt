@@ -1,4 +1,4 @@
--- What stands before and after a transfer's entry.
+-- What is current before and after a transfer's entry.
 use Rattle.std.proofs.Common.{◌≡◌, ◌⊎◌, ℕ, ◌<◌, Bool, true, false, List, [], ◌∷◌, refl, sym, ◌∙◌, ap, subst, arith, inl, inr, Some, None, cond}
 use Rattle.std.specs.Prelude.{Option, ⊤, ◌==◌, IfSome}
 use Rattle.std.specs.Option.{option_map, option_map_or, option_eq}
@@ -9,7 +9,7 @@ use Rattle.std.proofs.lemmas.Bool.Decides.{nat_tests}
 use Rattle.dz_name.specs.Words.{Name}
 use Rattle.dz_name.specs.Name.{same_name, same_label}
 use Rattle.dz_name.specs.Order.{same_decides}
-use Rattle.dz_member.specs.declared.config.CatalogSettings.{CatalogSettings}
+use Rattle.dz_settings.specs.declared.config.CatalogSettings.{CatalogSettings}
 use Rattle.dz_member.specs.declared.listing.Node.{Node}
 use Rattle.dz_member.specs.Membership.{MemberOf}
 use Rattle.dz_member.specs.Fold.{FoldOf, number_of, member_of}

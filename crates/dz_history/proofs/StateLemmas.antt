@@ -17,9 +17,9 @@ use Rattle.dz_catalog.specs.declared.fault.CatalogError.TheVariants.{Broken, Out
 use Rattle.dz_take.specs.Fit.{Fits}
 use Rattle.dz_take.specs.Outcome.{outcome}
 use Rattle.dz_take.proofs.FitLemmas.{outcomes_fit}
-use Rattle.dz_member.specs.declared.key.Key.{Key}
+use Rattle.dz_settings.specs.declared.key.Key.{Key}
 use Rattle.dz_member.specs.declared.listing.Node.{Node}
-use Rattle.dz_member.specs.Key.{IsKey}
+use Rattle.dz_settings.specs.Key.{IsKey}
 use Rattle.dz_member.specs.declared.listing.Broken.{Broken as Reason}
 use Rattle.dz_member.specs.Fold.{FoldOf, IsFold}
 use Rattle.dz_member.specs.Process.{process}

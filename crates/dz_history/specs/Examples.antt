@@ -3,8 +3,8 @@ use Rattle.std.specs.Prelude.{◌≡◌, refl, ℕ, List, [], ◌∷◌, Some, N
 use Rattle.dz_name.specs.Words.{Name, Octets}
 use Rattle.dz_zone.specs.Version.{Zone}
 use Rattle.dz_take.specs.Transfer.{up_to_date, new}
-use Rattle.dz_member.specs.declared.config.Policy.TheVariants.{Off}
-use Rattle.dz_member.specs.declared.config.CatalogSettings.{CatalogSettings}
+use Rattle.dz_settings.specs.declared.config.Policy.TheVariants.{Off}
+use Rattle.dz_settings.specs.declared.config.CatalogSettings.{CatalogSettings}
 use Rattle.dz_member.specs.declared.listing.Node.{Node}
 use Rattle.dz_member.specs.declared.listing.Broken.TheVariants.{NoVersion}
 use Rattle.dz_member.specs.Membership.{choice_of}
@@ -14,22 +14,27 @@ use Rattle.dz_table.specs.Table.{put}
 use Rattle.dz_history.specs.State.{State, opened, incarnation_at}
 use Rattle.dz_history.specs.After.{fresh, slot_after, relisted, listed, member_after, counted, taken}
 
+-- the catalog zone cat1.example.
 abbrev one : Name
 one = codes "cat1" ∷ codes "example" ∷ []
 
+-- the member zone example.
 abbrev zone : Name
 zone = codes "example" ∷ []
 
+-- a configuration of that catalog
 abbrev settings : List CatalogSettings
 settings = record { name = one; policy = Off; primaries = record { address = 192 ∷ 0 ∷ 2 ∷ 1 ∷ []; port = 53 } ∷ []; groups = []; key = None } ∷ []
 
+-- the member node of that zone under a label (RFC 9432 section 4.1)
 abbrev node : Octets → Node
 node label = record { label = label; zone = zone; coo = None; groups = [] }
 
+-- the label m1
 abbrev m1 : Octets
 m1 = codes "m1"
 
--- one listing of one zone: it begins without a version
+-- one listing of the zone: it begins without a version
 abbrev first : State
 first = counted (relisted (opened settings) one (node m1 ∷ []))
 
@@ -49,9 +54,11 @@ of_a_catalog = refl
 abbrev version : Zone
 version = record { apex = zone; records = [] }
 
+-- the version was taken at moment 100
 abbrev second : State
 second = taken first zone 100 (new version)
 
+-- the slot that has the version, refreshed at this moment
 abbrev holding : ℕ → SlotOf
 holding moment = record { zone = zone; refreshed = moment; version = Some version }
 

@@ -10,11 +10,12 @@ use Rattle.dz_history.specs.declared.entry.Entry.{Entry}
 use Rattle.dz_history.specs.State.{primaries_at}
 use Rattle.dz_history.specs.After.{after}
 
--- from a peer: a zone without primaries isn't served, and else the peer's address is one of theirs or a stranger's
+-- how a peer with these primaries of a zone is heard: a zone without primaries isn't served, and else the peer's
+-- address is one of theirs or a stranger's
 abbrev pub heard_from : Peer → Option (List Peer) → Heard
 heard_from peer None = heard.NotOurs
 heard_from peer (Some peers) = if list_any (λ p. bytes_eq p.address peer.address) peers then heard.Taken else heard.Stranger
 
--- of a zone, after a list of entries
+-- how a peer is heard of a zone, after a list of entries
 abbrev pub heard_at : List Entry → Peer → Name → Heard
 heard_at list peer zone = heard_from peer (primaries_at (after list) zone)

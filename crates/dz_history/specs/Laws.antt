@@ -15,11 +15,12 @@ use Rattle.dz_history.specs.State.{State, catalog_at, member_at, held_at}
 use Rattle.dz_history.specs.After.{slot_after, taken, decision_of, after}
 use Rattle.dz_history.specs.Legal.{IsLegal}
 
--- a catalog's version that has no listing changes no membership, and no slot of a member
+-- no membership, no listing and no slot of a member changed
 pub record Keeps (s after : State) : Type 0 where
   pub fold : after.fold ≡ s.fold
   pub table : after.table ≡ s.table
 
+-- a catalog's version that has no listing changes no membership, and no slot of a member (RFC 9432 section 5.1)
 abbrev pub BrokenKeeps : Type 0
 BrokenKeeps = (s : State) (catalog : Name) (number moment : ℕ) (zone : Zone) (reason : Reason) → catalog_at s catalog ≡ Some number
     → listing_of zone.apex zone.records ≡ Err reason → Keeps s (taken s catalog moment (new zone))
@@ -32,7 +33,7 @@ BeginsEmpty = (s : State) (m : MemberOf) → option_map (λ before. before.incar
 abbrev pub RefusedKeeps : Type 0
 RefusedKeeps = (s : State) (zone : Name) (moment : ℕ) (fault : TakeFault) → Keeps s (taken s zone moment (refused fault))
 
--- a version came by an entry of this zone and this incarnation, behind the one that the incarnation began by
+-- a version came by an entry of this zone and this incarnation, after the one that the incarnation began by
 pub record CameBy (entries : List Entry) (zone : Name) (incarnation : ℕ) (version : Zone) : Type 0 where
   pub place : ℕ
   pub taken : Taken

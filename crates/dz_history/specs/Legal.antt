@@ -2,8 +2,8 @@
 use Rattle.std.specs.Prelude.{⊤, ◌≡◌, ◌<◌, ◌^◌, true, List, [], ◌∷◌, length, Option, Some, None}
 use Rattle.dz_zonemd.specs.Standing.{standing}
 use Rattle.dz_zonemd.specs.Acceptance.{accepts}
-use Rattle.dz_member.specs.declared.config.Policy.{Policy}
-use Rattle.dz_member.specs.Config.{IsAllowed}
+use Rattle.dz_settings.specs.declared.config.Policy.{Policy}
+use Rattle.dz_settings.specs.Config.{IsAllowed}
 use Rattle.dz_take.specs.Transfer.{Decision, up_to_date, new, refused}
 use Rattle.dz_take.specs.Outcome.{octets_used}
 use Rattle.dz_take.specs.Taken.{CanAsk}
@@ -22,8 +22,8 @@ IsApproved (Some policy) (new zone) = accepts policy (standing zone.apex zone.re
 IsApproved None (new zone) = ⊥
 IsApproved policy (refused fault) = ⊥
 
--- a transfer can be taken: its incarnation stands, differences are from a version that is held, all octets are used, what
--- comes of them is approved, and they are signed where the zone's catalog has a key
+-- a transfer can be taken: its incarnation is current, differences are from a version that is held, all octets are
+-- used, what comes of them is approved, and they are signed where the zone's catalog has a key
 pub record IsTakeable (s : State) (t : Taken) : Type 0 where
   pub stands : stands s t.zone t.incarnation ≡ true
   pub asks : CanAsk t.ask (held_at s t.zone)
@@ -37,9 +37,11 @@ abbrev pub CanFollow : State → Entry → Type 0
 CanFollow s (Setup config) = (s.count ≡ 0) × IsAllowed config
 CanFollow s (Transfer t) = (0 < s.count) × IsTakeable s t
 
+-- each of these entries can follow, after this state
 unfoldable pub IsLegalFrom : State → List Entry → Type 0
 IsLegalFrom s [] = ⊤
 IsLegalFrom s (e ∷ es) = CanFollow s e × IsLegalFrom (step s e) es
 
+-- a list of entries that can come about
 abbrev pub IsLegal : List Entry → Type 0
 IsLegal entries = IsLegalFrom nothing entries

@@ -1,10 +1,11 @@
--- Meaning: the places of zones: the catalogs in the order of the configuration, and then the members in canonical order.
+-- Meaning: the places of zones: the catalogs in the order of the configuration, and then the members in canonical
+-- order.
 use Rattle.std.specs.Prelude.{◌≡◌, ℕ, ◌+◌, List, ◌++◌, length, map, position, slice_get, Option, Some, None, IsSome}
 use Rattle.std.specs.Option.{option_map}
 use Rattle.std.specs.List.{AllByRecursion}
 use Rattle.dz_name.specs.Words.{Name}
 use Rattle.dz_name.specs.Name.{same_name}
-use Rattle.dz_member.specs.declared.config.CatalogSettings.{CatalogSettings}
+use Rattle.dz_settings.specs.declared.config.CatalogSettings.{CatalogSettings}
 use Rattle.dz_member.specs.Membership.{MemberOf}
 use Rattle.dz_member.specs.Fold.{number_of}
 use Rattle.dz_history.specs.State.{State, catalog_at}
@@ -14,9 +15,11 @@ pub record Seat : Type 0 where
   pub zone : Name
   pub incarnation : ℕ
 
+-- a catalog with its incarnation, which is 0
 abbrev pub catalog_seat : CatalogSettings → Seat
 catalog_seat c = record { zone = c.name; incarnation = 0 }
 
+-- a member with its incarnation
 abbrev pub member_seat : MemberOf → Seat
 member_seat m = record { zone = m.zone; incarnation = m.incarnation }
 
@@ -24,11 +27,12 @@ member_seat m = record { zone = m.zone; incarnation = m.incarnation }
 abbrev pub seats : State → List Seat
 seats s = map catalog_seat s.fold.config ++ map member_seat s.fold.members
 
--- the place of a zone
+-- the place of a catalog, which is its number, or of a member, after the catalogs
 abbrev pub place_from : State → Name → Option ℕ → Option ℕ
 place_from s zone (Some number) = Some number
 place_from s zone None = option_map (λ place. length s.fold.config + place) (position (λ m. same_name m.zone zone) s.fold.members)
 
+-- the place of a zone, if it is a catalog or a member
 unfoldable pub place_at : State → Name → Option ℕ
 place_at s zone = place_from s zone (catalog_at s zone)
 

@@ -1,14 +1,14 @@
-//! What a new version changes beside itself.
+//! What a new version changes beyond its own zone.
 
 use dz_member::{Broken, Changes};
 
-/// What a new version changes beside itself.
+/// What a new version changes beyond its own zone.
 #[derive(Debug, Drop)]
 pub enum Aftermath {
-    /// Nothing: it is a member's.
+    /// Nothing: the version is a member's.
     Member,
-    /// It is a catalog's that has no listing, so all memberships stay.
+    /// The version is a catalog's and has no listing, so all memberships stay.
     Broken(Broken),
-    /// It is a catalog's, and this is what its listing changes.
+    /// The version is a catalog's, and this is what its listing changes.
     Changes(Changes),
 }

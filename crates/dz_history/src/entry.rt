@@ -1,7 +1,7 @@
 //! Entries of the list of taken transfers.
 
-use dz_member::Config;
 use dz_name::{Name, Octets};
+use dz_settings::Config;
 use dz_table::Table;
 use dz_take::Ask;
 use std::sync::Arc;
@@ -15,7 +15,7 @@ pub struct Taken {
     pub ask: Ask,
     /// The ID of the query.
     pub id: u16,
-    /// The messages, each behind its length in two octets.
+    /// The messages, each preceded by its length in two octets.
     pub octets: Octets,
     /// The moment of the transfer's job in seconds, below 2^40.
     pub moment: u64,

@@ -25,12 +25,14 @@ impl Model for Held {
 }
 
 impl Held {
+    /// No version.
     fn nothing() -> Held
         ensures { result ≡ None }
     {
         Held { version: None }
     }
 
+    /// This version.
     pub(crate) fn of(version: Arc<Version>) -> Held
         ensures { result ≡ Some version.value }
     {
@@ -39,13 +41,14 @@ impl Held {
         }
     }
 
+    /// The version, if there is one.
     pub(crate) fn version(&self) -> Option<&Arc<Version>>
         ensures { option_map (λ r. r.now.value) result ≡ self.now }
     {
         self.version.as_ref()
     }
 
-    /// The same version once more.
+    /// The same version, shared. `AllocError` where memory runs out.
     fn share(&self) -> Result<Held, AllocError>
         ensures { IfOk result (λ h. h ≡ self.now) }
     {
@@ -57,7 +60,7 @@ impl Held {
     }
 }
 
-/// So many times none.
+/// No version, the given number of times. `AllocError` where memory runs out.
 pub(crate) fn nothing_held(alloc: Global, count: usize) -> Result<Vec<Held>, AllocError>
     ensures { IfOk result (λ hs. hs.items ≡ replicate count None) }
 {
@@ -68,7 +71,7 @@ pub(crate) fn nothing_held(alloc: Global, count: usize) -> Result<Vec<Held>, All
     Ok(held)
 }
 
-/// The same versions once more.
+/// The same versions, shared. `AllocError` where memory runs out.
 pub(crate) fn share_all(alloc: Global, held: &[Held]) -> Result<Vec<Held>, AllocError>
     ensures { IfOk result (λ hs. hs.items ≡ held.now) }
 {
@@ -79,7 +82,7 @@ pub(crate) fn share_all(alloc: Global, held: &[Held]) -> Result<Vec<Held>, Alloc
     Ok(copies)
 }
 
-/// The same versions, but for this one at a place.
+/// The same versions, but for this one at a place. `AllocError` where memory runs out.
 pub(crate) fn with_version(
     alloc: Global,
     held: &[Held],
@@ -94,6 +97,7 @@ pub(crate) fn with_version(
     Ok(copies)
 }
 
+/// Puts a version at a place.
 fn put(held: &mut Vec<Held>, place: usize, one: Held)
     requires { place < length held.old.items }
     ensures { held.new.items ≡ slice_set held.old.items place one }

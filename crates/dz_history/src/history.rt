@@ -35,7 +35,7 @@ impl History {
         History { past: Past::Start }
     }
 
-    /// The same list once more.
+    /// The same list again.
     pub fn again(&self) -> History
         ensures { result ≡ self.now }
     {
@@ -44,7 +44,7 @@ impl History {
         }
     }
 
-    /// The list with an entry behind the others.
+    /// The list with an entry after the others.
     pub fn and(&self, entry: Snapshot<Entry>) -> History
         ensures { result ≡ self.now ++ entry.value ∷ [] }
     {

@@ -4,23 +4,24 @@ ghost use Rattle.std.specs.Prelude.{◌≡◌, Some, None, length, option_map, I
 ghost use Rattle.std.specs.Option.{option_and_then, ForSome};
 ghost use Rattle.std.specs.Arc.{arc_value};
 ghost use Rattle.dz_take.specs.Taken.{IsOfZone};
-ghost use Rattle.dz_member.specs.Config.{IsAllowed};
+ghost use Rattle.dz_settings.specs.Config.{IsAllowed};
 ghost use Rattle.dz_member.specs.Fold.{IsFold};
-ghost use Rattle.dz_member.specs.Key.{IsKey};
+ghost use Rattle.dz_settings.specs.Key.{IsKey};
 ghost use Rattle.dz_history.specs.State.{opened, catalog_at, incarnation_at, held_at, key_at, policy_at, primaries_at, stands, IsState};
 
 use crate::held::{Held, nothing_held, share_all};
-use dz_member::{Config, Fold, Key, Peers, Policy};
+use dz_member::Fold;
 use dz_name::Name;
+use dz_settings::{Config, Key, Peers, Policy};
 use dz_table::Table;
 use dz_zone::Version;
 use std::alloc::{AllocError, Global};
 use std::marker::Model;
 use std::sync::Arc;
 
-/// What is assigned and held after a list of taken transfers: the members of the catalogs, the version of each catalog and
-/// each member, and how many entries the list has. It never changes: a transfer makes a new one, which shares all but
-/// what the transfer changes.
+/// What is assigned and held after a list of taken transfers: the members of the catalogs, the version of each catalog
+/// and each member, and how many entries the list has. It never changes: a transfer makes a new one, which shares all
+/// but what the transfer changes.
 #[derive(Drop)]
 pub struct Holdings {
     pub(crate) fold: Arc<Fold>,
@@ -51,7 +52,7 @@ impl Model for Holdings {
 }
 
 impl Holdings {
-    /// What a configuration alone gives: its catalogs, without versions.
+    /// What a configuration alone gives: its catalogs, without versions. `AllocError` where memory runs out.
     pub fn start(alloc: Global, config: Config) -> Result<Holdings, AllocError>
         requires { IsAllowed config }
         ensures { IfOk result (λ h. h ≡ opened config) }
@@ -66,7 +67,7 @@ impl Holdings {
         })
     }
 
-    /// The same once more. It shares all.
+    /// The same holdings, with all of their parts shared. `AllocError` where memory runs out.
     pub fn share(&self, alloc: Global) -> Result<Holdings, AllocError>
         ensures { IfOk result (λ h. h ≡ self.now) }
     {
@@ -113,7 +114,7 @@ impl Holdings {
         }
     }
 
-    /// Whether an incarnation of a zone stands.
+    /// Whether an incarnation of a zone is current.
     pub fn stands(&self, zone: &Name, incarnation: u64) -> bool
         ensures { result ≡ stands self.now zone.now incarnation }
     {

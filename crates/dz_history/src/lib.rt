@@ -9,9 +9,9 @@ mod history;
 mod holdings;
 mod laws;
 mod past;
-mod relisting;
 mod slots;
-mod taking;
+mod table_after;
+mod take;
 
 pub use aftermath::Aftermath;
 pub use entry::{Entry, Step, Taken};

@@ -1,4 +1,4 @@
-//! A slot among others.
+//! A table with one slot changed.
 
 ghost use Rattle.std.specs.Prelude.{◌≡◌, IfOk};
 ghost use Rattle.dz_table.specs.Table.{put};
@@ -9,7 +9,7 @@ use std::alloc::{AllocError, Global};
 use std::marker::Brand;
 use std::sync::ledger::{Blank, Ledger};
 
-/// A table with a slot in place of that of its zone, or beside the others.
+/// A table with a slot in place of that of its zone, or in addition to the others. `AllocError` where memory runs out.
 pub(crate) fn table_with(alloc: Global, table: &Table, slot: Slot) -> Result<Table, AllocError>
     ensures { IfOk result (λ t. t ≡ put table.now slot) }
 {

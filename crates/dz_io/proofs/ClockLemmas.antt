@@ -7,7 +7,7 @@ use Rattle.dz_io.specs.Clocks.{GivesMoment}
 use Rattle.dz_io.specs.Memory.{one_more}
 use Rattle.dz_io.specs.MemoryDevices.{ClockOf, moment_at, moments_given}
 
--- the first so many moments, until the counter stands at its last value
+-- the first moments, of the given number, until the counter is at its maximum
 abbrev first_moments : (ℕ → ℕ) → Bool → ℕ → Option (List ℕ)
 first_moments f is_last n = if is_last then None else Some (map f (range_with_len 0 n))
 

@@ -1,13 +1,13 @@
--- Meaning: what a call does to what a device tells, its octets or its packets and links, and how its count of faults
--- tells of a failed call. A device that doesn't tell them has None.
+-- Meaning: what a call does to what a device reports, its octets or its packets and links, and how its count of faults
+-- shows a failed call. A device that doesn't report them has None.
 use Rattle.std.specs.Prelude.{◌≡◌, ◌≤◌, ℕ, List, [], ◌++◌, length, take, Option, option_map, IfSome, Result, OnOk, IsErr, IsErrOf}
 use Rattle.dz_io.specs.Counts.{HasRisen}
 
--- these octets were taken from the front of what was left
+-- these octets were taken from the beginning of what was left
 abbrev pub Gives : List ℕ → Option (List ℕ) → Option (List ℕ) → Type 0
 Gives octets before after = before ≡ option_map (λ rest. octets ++ rest) after
 
--- these octets were appended to what was held; so of packets, links and moments
+-- these octets were appended to what was held; likewise for packets, links and moments
 abbrev pub Gains : {A : Type 0} → List A → Option (List A) → Option (List A) → Type 0
 Gains octets before after = after ≡ option_map (λ held. held ++ octets) before
 
@@ -15,7 +15,7 @@ Gains octets before after = after ≡ option_map (λ held. held ++ octets) befor
 abbrev pub GainsPrefix : List ℕ → Option (List ℕ) → Option (List ℕ) → Type 0
 GainsPrefix octets before after = (n : ℕ) × (n ≤ length octets) × Gains (take n octets) before after
 
--- where it is told, it is this
+-- where it is reported, it is this
 abbrev pub Tells : {A : Type 0} → A → Option A → Type 0
 Tells what told = IfSome told (λ held. held ≡ what)
 
@@ -28,13 +28,13 @@ pub record Reads : Type 0 where
   pub given : Option (List ℕ)
   pub left : Option (List ℕ)
 
--- the count of faults of a call didn't fall, it stands where the call is Ok, and it rose where the call failed
+-- the count of faults didn't fall in a call, it is the same where the call is Ok, and it rose where the call failed
 pub record HasCause {T E : Type 0} (before now : ℕ) (result : Result T E) : Type 0 where
   pub later : before ≤ now
   pub kept : OnOk result (now ≡ before)
   pub failed : IsErr result → HasRisen before now
 
--- the same of a call with several errors: the count rose where the answer is this one of them
+-- the same for a call with several errors: the count rose where the result is this one of them
 pub record HasCauseOf {T E : Type 0} (before now : ℕ) (result : Result T E) (error : E) : Type 0 where
   pub later : before ≤ now
   pub kept : OnOk result (now ≡ before)

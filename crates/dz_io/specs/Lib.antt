@@ -6,8 +6,3 @@ pub mod Links
 pub mod Ports
 pub mod Clocks
 pub mod MemoryDevices
-pub mod Lines
-pub mod Script
-pub mod Run
-pub mod Examples
-pub mod inner

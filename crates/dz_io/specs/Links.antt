@@ -1,12 +1,12 @@
--- Meaning: the links that a dialer or an acceptor gives out one at a time, and what it tells of those that came back.
+-- Meaning: the links that a dialer or an acceptor gives out one at a time, and what it reports of those that came back.
 use Rattle.std.specs.Prelude.{◌≡◌, ℕ, Bool, true, List, [], Option}
 use Rattle.dz_io.specs.Device.{Tells}
 use Rattle.dz_io.specs.declared.peer.Peer.{Peer}
 use Rattle.dz_io.specs.declared.acceptor.Accepted.{Accepted}
 use Rattle.dz_io.specs.declared.acceptor.Accepted.TheVariants as accepted
 
--- a link that was dialled, from this end or from the other, as it came back: the peer at the other end, the octets that
--- were read, those that were left to be read and those that were written, and the count of its faults
+-- a link that was opened, from this end or the other, as it came back: the peer at the other end, the octets that were
+-- read, those still to be read and those written, and its count of faults
 pub record Dialled : Type 0 where
   pub peer : Peer
   pub read : Option (List ℕ)
@@ -14,6 +14,7 @@ pub record Dialled : Type 0 where
   pub written : Option (List ℕ)
   pub faults : ℕ
 
+-- such a link with these parts
 abbrev pub dialled : Peer → Option (List ℕ) → Option (List ℕ) → Option (List ℕ) → ℕ → Dialled
 dialled peer read left written faults = record { peer = peer; read = read; left = left; written = written; faults = faults }
 
@@ -23,12 +24,12 @@ pub record IsFreshLink (read written : Option (List ℕ)) (faults : ℕ) : Type 
   pub unwritten : Tells [] written
   pub faultless : faults ≡ 0
 
--- what an acceptor gave: this holds of the link and its peer; or there is none, and that holds
+-- what an acceptor gave: a link and its peer, of which the one holds; or none, and the other holds
 abbrev pub IsAccepted : {L : Type 0} → Accepted L → (L → Peer → Type 0) → Type 0 → Type 0
 IsAccepted (accepted.One link peer) given none = given link peer
 IsAccepted accepted.Closed given none = none
 
--- the mark of an acceptor that has answered that it is closed
+-- an acceptor is marked as closed once it has returned Closed
 abbrev pub ClosesTo : {L : Type 0} → Accepted L → Bool → Bool → Type 0
 ClosesTo (accepted.One link peer) before after = after ≡ before
 ClosesTo accepted.Closed before after = after ≡ true

@@ -1,4 +1,4 @@
--- Meaning: what ports tell of the devices that they open, one row for each of three kinds.
+-- Meaning: what ports report of the devices that they open, one row for each of three kinds.
 use Rattle.std.specs.Prelude.{◌≡◌, ◌+◌, ◌-◌, ℕ, Bool, false, List, [], ◌∷◌, ◌++◌, Option, None, option_map}
 use Rattle.dz_io.specs.Device.{Tells}
 use Rattle.dz_io.specs.Packets.{Packet}
@@ -6,31 +6,32 @@ use Rattle.dz_io.specs.Links.{Dialled}
 use Rattle.dz_io.specs.declared.peer.Peer.{Peer}
 use Rattle.dz_io.specs.declared.ports.Place.{Place}
 
--- devices of one kind: where they were opened, how many are out, and what those tell that came back
+-- devices of one kind: where they were opened, how many are out, and what those that came back report
 pub record Row (P T : Type 0) : Type 0 where
   pub opened : Option (List P)
   pub out : ℕ
   pub back : Option (List T)
 
--- one more was opened, at this place
+-- the row after one more was opened, at this place
 abbrev pub opening : {P T : Type 0} → P → Row P T → Row P T
 opening place row = record { opened = option_map (λ places. places ++ place ∷ []) row.opened; out = row.out + 1; back = row.back }
 
--- one came back, and told this
+-- the row after one came back, which reports this
 abbrev pub closing : {P T : Type 0} → T → Row P T → Row P T
 closing told row = record { opened = row.opened; out = row.out - 1; back = option_map (λ devices. devices ++ told ∷ []) row.back }
 
--- the address and port that a device listens at, and the worker that it is for
+-- the address and port that a device listens on, and the worker that it is for
 abbrev pub place : Peer → ℕ → Place
 place listen worker = record { listen = listen; worker = worker }
 
--- what a datagram device tells
+-- what a datagram device reports
 pub record Exchange : Type 0 where
   pub received : Option (List Packet)
   pub sent : Option (List Packet)
   pub is_closed : Bool
   pub faults : ℕ
 
+-- a datagram device that reports this
 abbrev pub exchange : Option (List Packet) → Option (List Packet) → Bool → ℕ → Exchange
 exchange received sent is_closed faults = record { received = received; sent = sent; is_closed = is_closed; faults = faults }
 
@@ -41,13 +42,14 @@ pub record IsFreshExchange (device : Exchange) : Type 0 where
   pub open_yet : device.is_closed ≡ false
   pub faultless : device.faults ≡ 0
 
--- what an acceptor tells: the links that came back, and the peer of the one that is out
+-- what an acceptor reports: the links that came back, and the peer of the one that is out
 pub record Accepts : Type 0 where
   pub links : Option (List Dialled)
   pub out : Option Peer
   pub is_closed : Bool
   pub faults : ℕ
 
+-- an acceptor that reports this
 abbrev pub accepts : Option (List Dialled) → Option Peer → Bool → ℕ → Accepts
 accepts links out is_closed faults = record { links = links; out = out; is_closed = is_closed; faults = faults }
 
@@ -58,12 +60,13 @@ pub record IsFreshAccepts (device : Accepts) : Type 0 where
   pub open_yet : device.is_closed ≡ false
   pub faultless : device.faults ≡ 0
 
--- what a dialer tells: the links that came back, and the peer of the one that is out
+-- what a dialer reports: the links that came back, and the peer of the one that is out
 pub record Dials : Type 0 where
   pub links : Option (List Dialled)
   pub out : Option Peer
   pub faults : ℕ
 
+-- a dialer that reports this
 abbrev pub dials : Option (List Dialled) → Option Peer → ℕ → Dials
 dials links out faults = record { links = links; out = out; faults = faults }
 

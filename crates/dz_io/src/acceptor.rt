@@ -1,4 +1,4 @@
-//! What accepts the links that peers dial.
+//! What accepts the links that peers open.
 ghost use Rattle.std.specs.Prelude.{◌≡◌, Bool, List, [], ◌∷◌, Option, None, Some, IsSome, IfSome, IfOk, OnErr};
 ghost use Rattle.dz_io.specs.Device.{Gains, HasCause};
 ghost use Rattle.dz_io.specs.Links.{dialled, IsFreshLink, IsAccepted, ClosesTo};
@@ -8,13 +8,13 @@ use crate::{Failed, Link, Peer};
 /// What an acceptor gives.
 #[derive(Drop)]
 pub enum Accepted<L> {
-    /// A link, and the peer that dialled it.
+    /// A link, and the peer that opened it.
     One(L, Peer),
-    /// No further link comes.
+    /// There are no further links.
     Closed,
 }
 
-/// What gives the links that peers dial, one at a time: each is given back before the next.
+/// What gives the links that peers open, one at a time: each is given back before the next.
 pub trait Acceptor {
     ghost use Rattle.std.specs.Prelude.{ℕ};
     ghost use Rattle.dz_io.specs.Links.{Dialled};
@@ -23,20 +23,21 @@ pub trait Acceptor {
     /// The links that it gives.
     type L: Link + Send;
 
-    /// The links that were given back, in their order, where the acceptor tells them.
+    /// The links that were given back, in order, where the acceptor reports them.
     ghost links: { Self → Option (List Dialled) };
 
-    /// The peer of the link that is out: it was given and not given back.
+    /// The peer of the link that is out: given, and not given back.
     ghost out: { Self → Option Peer };
 
-    /// Whether it has answered `Closed`.
+    /// Whether it has returned `Closed`.
     ghost is_closed: { Self → Bool };
 
-    /// How often the acceptor itself has failed; a fault of a link is none of its own. The count never falls, and at
-    /// 2^64 - 1 it says nothing more.
+    /// How often the acceptor itself has failed; faults of links aren't counted. The count never falls, and at 2^64 - 1
+    /// it says nothing more.
     ghost faults: { Self → ℕ };
 
-    /// Gives the next link, of which nothing was read and to which nothing was written.
+    /// Gives the next link, from which nothing was read and to which nothing was written. `Failed` where the acceptor
+    /// failed.
     fn accept(&mut self) -> Result<Accepted<Self::L>, Failed>
         requires { out self.old ≡ None }
         ensures given { IfOk result (λ a. IsAccepted a
@@ -49,7 +50,7 @@ pub trait Acceptor {
         ensures links { links self.new ≡ links self.old }
         ensures cause { HasCause (faults self.old) (faults self.new) result };
 
-    /// Takes the link back that is out.
+    /// Takes back the link that is out.
     fn done(&mut self, link: Self::L)
         requires { IsSome (out self.old) }
         ensures out { out self.new ≡ None }

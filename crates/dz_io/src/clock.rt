@@ -1,4 +1,4 @@
-//! What tells the moment.
+//! What tells the time.
 ghost use Rattle.std.specs.Prelude.{◌≡◌, ◌<◌, ◌^◌, Bool, true, List, [], Option, IfOk};
 ghost use Rattle.dz_io.specs.Device.{Tells};
 ghost use Rattle.dz_io.specs.Clocks.{GivesMoment};
@@ -19,17 +19,17 @@ pub trait Clock: Sized {
     /// Which moments it may give. No call changes that.
     ghost may_give: { Self → ℕ → Bool };
 
-    /// Whether it may answer `Stop`. No call changes that.
+    /// Whether it may return `Stop`. No call changes that.
     ghost may_stop: { Self → Bool };
 
-    /// The moments that it has given, in their order, where the clock tells them. It may stop telling them.
+    /// The moments that it has given, in order, where the clock reports them. It may stop reporting them.
     ghost given: { Self → Option (List ℕ) };
 
-    /// A clock of its own for a worker, which may give the same moments and has given none.
+    /// A clock for another worker, which may give the same moments and has given none.
     ///
     /// # Errors
     ///
-    /// `AllocError` where memory is wanting.
+    /// `AllocError` where memory runs out.
     fn twin(&self, alloc: Global) -> Result<Self, AllocError>
         ensures give { IfOk result (λ c. may_give c ≡ may_give self.now) }
         ensures stop { IfOk result (λ c. may_stop c ≡ may_stop self.now) }
@@ -43,7 +43,7 @@ pub trait Clock: Sized {
         ensures give { may_give self.new ≡ may_give self.old }
         ensures stop { may_stop self.new ≡ may_stop self.old };
 
-    /// Rests, longer where the worker is idle, and answers whether it goes on.
+    /// Rests, longer where the worker is idle, and returns whether it goes on.
     fn rest(&mut self, idle: bool) -> Rest
         ensures may { result ≡ Rest.Stop → may_stop self.old ≡ true }
         ensures given { given self.new ≡ given self.old }

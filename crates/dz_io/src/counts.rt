@@ -1,12 +1,12 @@
 //! How counts of faults add up.
 ghost use Rattle.dz_io.specs.Counts.{RisesAddUp, RisesLast};
 
-/// A count that rose by so many and then by so many more rose by both together.
+/// A count that rose by one number and then by another rose by their sum.
 pub fn rises_add_up()
     ensures { RisesAddUp }
 {}
 
-/// What rose has risen still where the count later doesn't fall.
+/// A count that rose has still risen later, where it doesn't fall.
 pub fn rises_last()
     ensures { RisesLast }
 {}

@@ -6,7 +6,7 @@ use crate::{Failed, Peer};
 use std::alloc::Global;
 use std::marker::Model;
 
-/// The most octets of a packet.
+/// The greatest number of octets in a packet.
 pub const PACKET_OCTETS: usize = 65_535;
 
 /// The octets of a datagram, at most 65,535, and the peer that it came from or went to.
@@ -37,7 +37,7 @@ impl Datagram {
         Datagram { octets, peer }
     }
 
-    // A packet of a copy of these octets. It fails where they are too many or memory is wanting.
+    /// A packet with a copy of these octets. `Failed` where there are more than 65,535 or memory runs out.
     pub(crate) fn copy(alloc: Global, piece: &[u8], peer: Peer) -> Result<Datagram, Failed>
         ensures ok { IfOk result (λ d. d ≡ packet piece.now peer) }
         ensures long { PACKET_OCTETS < length piece.now → IsErr result }

@@ -1,16 +1,16 @@
-//! What datagrams come from and go to.
+//! What datagrams are received from and sent to.
 ghost use Rattle.std.specs.Prelude.{◌≡◌, ◌≤◌, Bool, List, [], ◌∷◌, Option, length, IfOk, OnOk, OnErr};
 ghost use Rattle.dz_io.specs.Device.{Gains, HasCause};
 ghost use Rattle.dz_io.specs.Packets.{packet, Receives, Closes};
 
 use crate::{Failed, Peer};
 
-/// What came to a datagram device.
+/// What a datagram device received.
 #[derive(Clone, Copy, Debug, PartialEq, Eq)]
 pub enum Received {
-    /// A packet of so many octets, at the front of the buffer, and the peer that it came from.
+    /// A packet of this many octets, at the beginning of the buffer, and the peer that it came from.
     Packet { length: usize, peer: Peer },
-    /// Nothing comes any more.
+    /// Nothing more will come.
     Closed,
 }
 
@@ -19,19 +19,20 @@ pub trait Datagrams {
     ghost use Rattle.std.specs.Prelude.{ℕ};
     ghost use Rattle.dz_io.specs.Packets.{Packet};
 
-    /// The packets that it received, in their order, where the device tells them.
+    /// The packets that it received, in order, where the device reports them.
     ghost received: { Self → Option (List Packet) };
 
-    /// The packets that were sent, in their order, where the device tells them.
+    /// The packets that were sent, in order, where the device reports them.
     ghost sent: { Self → Option (List Packet) };
 
-    /// Whether it has answered `Closed`.
+    /// Whether it has returned `Closed`.
     ghost is_closed: { Self → Bool };
 
     /// How often the device has failed. The count never falls, and at 2^64 - 1 it says nothing more.
     ghost faults: { Self → ℕ };
 
-    /// Moves the next packet into the front of `buffer`, which has room for 65,535 octets.
+    /// Moves the next packet to the beginning of `buffer`, which has room for 65,535 octets. `Failed` where the device
+    /// failed.
     fn receive(&mut self, buffer: &mut [u8]) -> Result<Received, Failed>
         requires { 65535 ≤ length buffer.old }
         ensures came { IfOk result
@@ -42,7 +43,7 @@ pub trait Datagrams {
         ensures sent { sent self.new ≡ sent self.old }
         ensures cause { HasCause (faults self.old) (faults self.new) result };
 
-    /// Sends these octets to a peer as one packet. A call that answers `Failed` sends nothing.
+    /// Sends these octets to a peer as one packet. A call that returns `Failed` sends nothing.
     fn send(&mut self, peer: &Peer, piece: &[u8]) -> Result<(), Failed>
         ensures went { OnOk result
             (Gains (packet piece.now peer.now ∷ []) (sent self.old) (sent self.new)) }

@@ -1,4 +1,4 @@
-//! What dials peers.
+//! What opens links to peers.
 ghost use Rattle.std.specs.Prelude.{◌≡◌, List, [], ◌∷◌, Option, None, Some, IsSome, IfSome, IfOk, OnOk, OnErr};
 ghost use Rattle.dz_io.specs.Counts.{Covers};
 ghost use Rattle.dz_io.specs.Device.{Gains, HasCause};
@@ -6,7 +6,7 @@ ghost use Rattle.dz_io.specs.Links.{dialled, IsFreshLink};
 
 use crate::{Failed, Link, Peer};
 
-/// What makes links to peers, one at a time: each is given back before the next.
+/// What opens links to peers, one at a time: each is given back before the next.
 pub trait Dialer {
     ghost use Rattle.std.specs.Prelude.{ℕ};
     ghost use Rattle.dz_io.specs.Links.{Dialled};
@@ -15,17 +15,17 @@ pub trait Dialer {
     /// The links that it gives.
     type L: Link + Send;
 
-    /// The links that were given back, in their order, where the dialer tells them.
+    /// The links that were given back, in order, where the dialer reports them.
     ghost links: { Self → Option (List Dialled) };
 
-    /// The peer of the link that is out: it was given and not given back.
+    /// The peer of the link that is out: given, and not given back.
     ghost out: { Self → Option Peer };
 
     /// How often the dialer or a link that was given back has failed. The count never falls, and at 2^64 - 1 it says
     /// nothing more.
     ghost faults: { Self → ℕ };
 
-    /// Makes a link to a peer, of which nothing was read and to which nothing was written.
+    /// Opens a link to a peer, from which nothing was read and to which nothing was written. `Failed` where it can't.
     fn dial(&mut self, peer: &Peer) -> Result<Self::L, Failed>
         requires { out self.old ≡ None }
         ensures out { OnOk result (out self.new ≡ Some peer.now) }
@@ -35,7 +35,8 @@ pub trait Dialer {
         ensures links { links self.new ≡ links self.old }
         ensures cause { HasCause (faults self.old) (faults self.new) result };
 
-    /// Takes the link back that is out. The dialer's count of faults covers that of the link.
+    /// Takes back the link that is out. The dialer's count of faults covers that of the link: it rises where the link
+    /// has failed.
     fn done(&mut self, link: Self::L)
         requires { IsSome (out self.old) }
         ensures out { out self.new ≡ None }

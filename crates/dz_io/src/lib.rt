@@ -1,5 +1,4 @@
-//! What `catzd` reads from and writes to: sources, sinks and links as traits, devices in memory, the lines of an input,
-//! and scripts that take them.
+//! What `catzd` reads from and writes to: sources, sinks, links, ports and clocks as traits, and devices in memory.
 #![tactic(auto)]
 
 mod acceptor;
@@ -9,7 +8,6 @@ mod datagram;
 mod datagrams;
 mod device;
 mod dialer;
-mod lines;
 mod memory;
 mod memory_acceptor;
 mod memory_clock;
@@ -20,13 +18,10 @@ mod peer;
 mod plan;
 mod ports;
 mod returned;
-mod run;
-mod script;
 mod setup;
 mod shelf;
 mod sure;
 mod tape;
-mod window;
 
 pub use acceptor::{Accepted, Acceptor};
 pub use clock::{Clock, Rest};
@@ -35,7 +30,6 @@ pub use datagram::{Datagram, PACKET_OCTETS};
 pub use datagrams::{Datagrams, Received};
 pub use device::{Failed, Link, Sink, Source};
 pub use dialer::Dialer;
-pub use lines::{LIMIT, LineError, Next, next_line};
 pub use memory::{MemoryLink, MemorySink, MemorySource};
 pub use memory_acceptor::MemoryAcceptor;
 pub use memory_clock::MemoryClock;
@@ -45,8 +39,5 @@ pub use memory_ports::MemoryPorts;
 pub use peer::Peer;
 pub use ports::{Place, Ports};
 pub use returned::Returned;
-pub use run::{ScriptError, run_script};
-pub use script::{Script, TurnError, put};
 pub use setup::{Caller, Setup, Stream};
 pub use sure::{SureLink, SureSink, SureSource};
-pub use window::Window;

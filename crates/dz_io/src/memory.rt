@@ -1,4 +1,4 @@
-//! A source, a sink and a link in memory, with calls that fail by a list.
+//! A source, a sink and a link in memory, with a list of the calls that fail.
 ghost use Rattle.std.specs.Prelude.{◌≡◌, ◌≤◌, ◌<◌, [], Some, None, length, take, min, is_err, IsErr, IsTrue, IfOk, OnOk, OnErr};
 ghost use Rattle.dz_io.specs.Device.{Gives, Gains, GainsPrefix, IsAtEnd, HasCause};
 ghost use Rattle.dz_io.specs.Memory.{is_to_fail, after_call, no_calls};
@@ -9,7 +9,7 @@ use crate::{Failed, Link, Sink, Source};
 use std::alloc::Global;
 use std::marker::Model;
 
-/// A source that reads from memory and tells what it gave and what is left.
+/// A source that reads from memory and reports what it gave and what is left.
 #[derive(Drop)]
 pub struct MemorySource {
     tape: Tape,
@@ -25,7 +25,7 @@ impl Model for MemorySource {
 }
 
 impl MemorySource {
-    /// A source of these octets, of which the calls in `failing`, counted from 0, are to fail.
+    /// A source of these octets. The calls with the numbers in `failing`, counted from 0, fail.
     pub fn new(octets: Vec<u8>, failing: Vec<u64>) -> MemorySource
         ensures tape { result.tape ≡ record { given = []; left = octets.items } }
         ensures calls { result.calls ≡ no_calls failing.items }
@@ -64,7 +64,7 @@ impl Source for MemorySource {
     }
 }
 
-/// A sink that writes into memory and tells what it holds.
+/// A sink that writes into memory and reports what it holds.
 #[derive(Drop)]
 pub struct MemorySink {
     octets: Vec<u8>,
@@ -80,7 +80,7 @@ impl Model for MemorySink {
 }
 
 impl MemorySink {
-    /// A sink to which nothing was written, of which the calls in `failing`, counted from 0, are to fail.
+    /// A sink to which nothing was written. The calls with the numbers in `failing`, counted from 0, fail.
     pub fn new(alloc: Global, failing: Vec<u64>) -> MemorySink
         ensures { result ≡ record { written = []; calls = no_calls failing.items } }
     {
@@ -105,7 +105,7 @@ impl Sink for MemorySink {
 
     ghost faults = { λ s. s.calls.faults };
 
-    /// Fails where the call is to fail or memory is refused, and then appends nothing.
+    /// Fails where the call is to fail or memory runs out, and then appends nothing.
     fn write(&mut self, piece: &[u8]) -> Result<(), Failed>
         ensures planned { IsTrue (is_to_fail self.old.calls.count self.old.calls.failing)
             → IsErr result }
@@ -123,8 +123,8 @@ impl Sink for MemorySink {
     }
 }
 
-/// A link in memory: it reads its octets, and keeps what is written to it. One list says which of its calls, reads and
-/// writes counted together, are to fail.
+/// A link in memory: it reads its octets, and keeps what is written to it. A list gives the calls that fail, counting
+/// reads and writes together.
 #[derive(Drop)]
 pub struct MemoryLink {
     tape: Tape,
@@ -141,7 +141,7 @@ impl Model for MemoryLink {
 }
 
 impl MemoryLink {
-    /// A link that gives these octets, to which nothing was written.
+    /// A link that gives these octets, and to which nothing was written.
     pub fn new(alloc: Global, octets: Vec<u8>, failing: Vec<u64>) -> MemoryLink
         ensures tape { result.tape ≡ record { given = []; left = octets.items } }
         ensures written { result.written ≡ [] }
@@ -161,7 +161,7 @@ impl MemoryLink {
         &self.sent
     }
 
-    /// How often a call failed.
+    /// How many calls failed.
     pub fn faults(&self) -> u64
         ensures { result ≡ self.now.calls.faults }
     {
@@ -204,7 +204,7 @@ impl Sink for MemoryLink {
 
     ghost faults = { λ l. l.calls.faults };
 
-    /// Fails where the call is to fail or memory is refused, and then appends nothing.
+    /// Fails where the call is to fail or memory runs out, and then appends nothing.
     fn write(&mut self, piece: &[u8]) -> Result<(), Failed>
         ensures planned { IsTrue (is_to_fail self.old.calls.count self.old.calls.failing)
             → IsErr result }

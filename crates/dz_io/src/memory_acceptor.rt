@@ -1,4 +1,4 @@
-//! An acceptor in memory, with calls that fail by a list.
+//! An acceptor in memory, with a list of the calls that fail.
 ghost use Rattle.std.specs.Prelude.{◌≡◌, ◌++◌, [], ◌∷◌, None, Some, is_err, IsErr, IsSome, IsTrue, IfSome, IfOk, OnErr};
 ghost use Rattle.dz_io.specs.Device.{HasCause};
 ghost use Rattle.dz_io.specs.Links.{IsAccepted, ClosesTo};
@@ -11,8 +11,8 @@ use std::alloc::Global;
 use std::collections::VecDeque;
 use std::marker::Model;
 
-/// An acceptor that gives the links of the callers that it was made with, and keeps those that come back. Behind its last
-/// caller it is closed.
+/// An acceptor that gives the links of the callers that it was made with, and keeps those that come back. After its
+/// last caller it is closed.
 #[derive(Drop)]
 pub struct MemoryAcceptor {
     callers: VecDeque<Caller>,
@@ -63,7 +63,7 @@ impl MemoryAcceptor {
         &self.back
     }
 
-    /// How often a call failed.
+    /// How many calls failed.
     pub fn faults(&self) -> u64
         ensures { result ≡ self.now.calls.faults }
     {
@@ -82,7 +82,7 @@ impl Acceptor for MemoryAcceptor {
 
     ghost faults = { λ a. a.calls.faults };
 
-    /// Fails where the call is to fail or memory is refused, and is closed where no peer connects any more.
+    /// Fails where the call is to fail or memory runs out, and is closed where no further peer connects.
     fn accept(&mut self) -> Result<Accepted<MemoryLink>, Failed>
         requires { self.old.out ≡ None }
         ensures planned { IsTrue (is_to_fail self.old.calls.count self.old.calls.failing)
@@ -117,6 +117,7 @@ impl Acceptor for MemoryAcceptor {
         }
     }
 
+    /// Keeps the link that comes back.
     fn done(&mut self, link: MemoryLink)
         requires { IsSome self.old.out }
         ensures same { self.new ≡ record self.old { out = None; back = self.new.back } }

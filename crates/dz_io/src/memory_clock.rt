@@ -9,8 +9,8 @@ use crate::{Clock, Rest};
 use std::alloc::{AllocError, Global};
 use std::marker::Model;
 
-/// A clock that gives the moments of a list, and then a last one again and again, and that stops the worker after so many
-/// rests. It tells the moments until its counter of calls stands at its last value.
+/// A clock that gives the moments of a list, and then a last one again and again, and that stops the worker after the
+/// given number of rests. It reports the moments until its counter of calls is at its maximum.
 #[derive(Drop)]
 pub struct MemoryClock {
     moments: Vec<u64>,
@@ -38,7 +38,7 @@ impl Model for MemoryClock {
 }
 
 impl MemoryClock {
-    /// A clock of these moments, of which the last repeats, in seconds below 2^40.
+    /// A clock with these moments, in seconds below 2^40, of which `last` repeats; it allows this number of rests.
     pub fn new(moments: Vec<u64>, last: u64, rests: u64) -> MemoryClock
         requires moments { AllByRecursion (λ moment. moment < 2 ^ 40) moments.items }
         requires last { last < 2 ^ 40 }
@@ -57,7 +57,7 @@ impl MemoryClock {
         }
     }
 
-    // The next moment.
+    /// The next moment, in seconds.
     fn next(&mut self) -> u64
         ensures moment { result ≡ moment_at self.old self.old.count }
         ensures count { self.new ≡ record self.old { count = one_more self.old.count } }
@@ -83,7 +83,7 @@ impl Clock for MemoryClock {
 
     ghost given = { moments_given };
 
-    /// A clock of the same moments that has given none, with the rests that are left.
+    /// A clock with the same moments that has given none, with the remaining rests. `AllocError` where memory runs out.
     fn twin(&self, alloc: Global) -> Result<MemoryClock, AllocError>
         ensures { IfOk result (λ c. c ≡ record self.now { count = 0 }) }
     {
@@ -95,6 +95,7 @@ impl Clock for MemoryClock {
         })
     }
 
+    /// The next moment, in seconds.
     fn now(&mut self) -> u64
         ensures moment { result ≡ moment_at self.old self.old.count }
         ensures count { self.new ≡ record self.old { count = one_more self.old.count } }
@@ -105,7 +106,7 @@ impl Clock for MemoryClock {
         self.next()
     }
 
-    /// Answers `Stop` exactly where no rest is left.
+    /// Returns `Stop` exactly where no rest is left.
     fn rest(&mut self, _idle: bool) -> Rest
         ensures rest { result ≡ (if self.old.rests == 0 then Rest.Stop else Rest.Go) }
         ensures rests { self.new ≡ record self.old { rests = self.old.rests - 1 } }

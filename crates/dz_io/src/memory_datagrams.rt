@@ -1,4 +1,4 @@
-//! A datagram device in memory, with calls that fail by a list.
+//! A datagram device in memory, with a list of the calls that fail.
 ghost use Rattle.std.specs.Prelude.{◌≡◌, ◌≤◌, ◌<◌, ◌++◌, [], ◌∷◌, Some, length, take, is_err, IsErr, IsTrue, IfOk, OnOk, OnErr};
 ghost use Rattle.dz_io.specs.Device.{Gains, HasCause};
 ghost use Rattle.dz_io.specs.Memory.{is_to_fail, after_call};
@@ -10,7 +10,7 @@ use crate::{Datagram, Datagrams, Failed, Peer, Received, Setup};
 use std::alloc::Global;
 use std::marker::Model;
 
-/// A datagram device that receives the packets that it was made with, and keeps what is sent. Behind its last packet it
+/// A datagram device that receives the packets that it was made with, and keeps what is sent. After its last packet it
 /// is closed.
 #[derive(Drop)]
 pub struct MemoryDatagrams {
@@ -40,7 +40,7 @@ impl Model for MemoryDatagrams {
 }
 
 impl MemoryDatagrams {
-    /// A device to which these packets come.
+    /// A device that receives these packets.
     pub fn new(alloc: Global, setup: Setup<Datagram>) -> MemoryDatagrams
         ensures { result ≡ fresh_datagrams setup }
     {
@@ -62,7 +62,7 @@ impl MemoryDatagrams {
         &self.sent
     }
 
-    /// How often a call failed.
+    /// How many calls failed.
     pub fn faults(&self) -> u64
         ensures { result ≡ self.now.calls.faults }
     {
@@ -79,7 +79,7 @@ impl Datagrams for MemoryDatagrams {
 
     ghost faults = { λ d. d.calls.faults };
 
-    /// Fails exactly where the call is to fail, and is closed exactly where no packet comes any more.
+    /// Fails exactly where the call is to fail, and is closed exactly where there is no further packet.
     fn receive(&mut self, buffer: &mut [u8]) -> Result<Received, Failed>
         requires { 65535 ≤ length buffer.old }
         ensures planned { is_err result ≡ is_to_fail self.old.calls.count self.old.calls.failing }
@@ -108,7 +108,7 @@ impl Datagrams for MemoryDatagrams {
         Ok(Received::Packet { length, peer })
     }
 
-    /// Fails where the call is to fail, where the piece has over 65,535 octets, or where memory is refused.
+    /// Fails where the call is to fail, where the piece has over 65,535 octets, or where memory runs out.
     fn send(&mut self, peer: &Peer, piece: &[u8]) -> Result<(), Failed>
         ensures planned { IsTrue (is_to_fail self.old.calls.count self.old.calls.failing)
             → IsErr result }
@@ -130,7 +130,7 @@ impl Datagrams for MemoryDatagrams {
     }
 }
 
-// Appends a packet of a copy of these octets.
+/// Appends a packet with a copy of these octets. `Failed` where there are more than 65,535 or memory runs out.
 fn keep(alloc: Global, sent: &mut Vec<Datagram>, peer: &Peer, piece: &[u8]) -> Result<(), Failed>
     ensures ok { OnOk result (sent.new.items ≡ sent.old.items ++ packet piece.now peer.now ∷ []) }
     ensures err { OnErr result (sent.new.items ≡ sent.old.items) }

@@ -1,4 +1,4 @@
-//! A dialer in memory, with calls that fail by a list.
+//! A dialer in memory, with a list of the calls that fail.
 ghost use Rattle.std.specs.Prelude.{◌≡◌, ◌++◌, [], ◌∷◌, None, Some, is_err, IsErr, IsSome, IsTrue, IfSome, IfOk, OnOk, OnErr};
 ghost use Rattle.dz_io.specs.Counts.{Covers};
 ghost use Rattle.dz_io.specs.Device.{HasCause};
@@ -11,8 +11,8 @@ use std::alloc::Global;
 use std::collections::VecDeque;
 use std::marker::Model;
 
-/// A dialer whose links give the streams that it was made with, whoever is dialled. It keeps the links that come back.
-/// Behind its last stream nobody answers, and each call fails.
+/// A dialer whose links give the streams that it was made with, whichever peer is dialled. It keeps the links that come
+/// back. After its last stream there is no answer, and each call fails.
 #[derive(Drop)]
 pub struct MemoryDialer {
     streams: VecDeque<Stream>,
@@ -60,7 +60,7 @@ impl MemoryDialer {
         &self.back
     }
 
-    /// How often a call, or a link that came back, failed.
+    /// How many calls failed, together with the faults of the links that came back.
     pub fn faults(&self) -> u64
         ensures { result ≡ self.now.calls.faults }
     {
@@ -77,7 +77,7 @@ impl Dialer for MemoryDialer {
 
     ghost faults = { λ d. d.calls.faults };
 
-    /// Fails where the call is to fail, where no stream is left, or where memory is refused.
+    /// Fails where the call is to fail, where no stream is left, or where memory runs out.
     fn dial(&mut self, peer: &Peer) -> Result<MemoryLink, Failed>
         requires { self.old.out ≡ None }
         ensures planned { IsTrue (is_to_fail self.old.calls.count self.old.calls.failing)
@@ -104,6 +104,7 @@ impl Dialer for MemoryDialer {
         }
     }
 
+    /// Keeps the link that comes back, and adds its faults.
     fn done(&mut self, link: MemoryLink)
         requires { IsSome self.old.out }
         ensures out { self.new.out ≡ None }

@@ -1,4 +1,4 @@
-//! Ports in memory, with calls that fail by a list.
+//! Ports in memory, with a list of the calls that fail.
 ghost use Rattle.std.specs.Prelude.{◌≡◌, ◌<◌, is_err, IsErr, IsTrue, IfOk, OnErr};
 ghost use Rattle.dz_io.specs.Counts.{Covers};
 ghost use Rattle.dz_io.specs.Device.{HasCause};
@@ -40,8 +40,8 @@ impl Model for MemoryPorts {
 }
 
 impl MemoryPorts {
-    /// Ports that open these devices, the first in front. The openings in `failing`, counted from 0 over all kinds, are to
-    /// fail.
+    /// Ports that open these devices, in order. The openings with the numbers in `failing`, counted from 0 over all
+    /// kinds, fail.
     pub fn new(
         alloc: Global,
         datagrams: Vec<Setup<Datagram>>,
@@ -84,7 +84,7 @@ impl MemoryPorts {
         self.dialers.back()
     }
 
-    /// How often an opening, or a datagram device or an acceptor that came back, failed.
+    /// How many openings failed, together with the faults of the datagram devices and acceptors that came back.
     pub fn faults(&self) -> u64
         ensures { result ≡ self.now.calls.faults }
     {
@@ -109,7 +109,7 @@ impl Ports for MemoryPorts {
 
     ghost faults = { λ p. p.calls.faults };
 
-    /// Fails where the call is to fail, where no device is left, or where memory is refused.
+    /// Fails where the call is to fail, where no device is left, or where memory runs out.
     fn open_datagrams(&mut self, listen: &Peer, worker: u8) -> Result<MemoryDatagrams, Failed>
         requires { worker < 2 }
         ensures planned { IsTrue (is_to_fail self.old.calls.count self.old.calls.failing)
@@ -131,7 +131,7 @@ impl Ports for MemoryPorts {
         }
     }
 
-    /// Fails where the call is to fail, where no acceptor is left, or where memory is refused.
+    /// Fails where the call is to fail, where no acceptor is left, or where memory runs out.
     fn open_acceptor(&mut self, listen: &Peer, worker: u8) -> Result<MemoryAcceptor, Failed>
         requires { worker < 2 }
         ensures planned { IsTrue (is_to_fail self.old.calls.count self.old.calls.failing)
@@ -153,7 +153,7 @@ impl Ports for MemoryPorts {
         }
     }
 
-    /// Fails where the call is to fail, where no dialer is left, or where memory is refused.
+    /// Fails where the call is to fail, where no dialer is left, or where memory runs out.
     fn dialer(&mut self, worker: u8) -> Result<MemoryDialer, Failed>
         requires { worker < 2 }
         ensures planned { IsTrue (is_to_fail self.old.calls.count self.old.calls.failing)
@@ -174,6 +174,7 @@ impl Ports for MemoryPorts {
         }
     }
 
+    /// Keeps the datagram device that comes back, and adds its faults.
     fn close_datagrams(&mut self, device: MemoryDatagrams)
         requires { 0 < self.old.datagrams.out }
         ensures back { self.new.datagrams ≡ put_back device self.old.datagrams }
@@ -186,6 +187,7 @@ impl Ports for MemoryPorts {
         self.datagrams.close(device);
     }
 
+    /// Keeps the acceptor that comes back, and adds its faults.
     fn close_acceptor(&mut self, device: MemoryAcceptor)
         requires { 0 < self.old.acceptors.out }
         ensures back { self.new.acceptors ≡ put_back device self.old.acceptors }
@@ -198,6 +200,7 @@ impl Ports for MemoryPorts {
         self.acceptors.close(device);
     }
 
+    /// Keeps the dialer that comes back.
     fn close_dialer(&mut self, device: MemoryDialer)
         requires { 0 < self.old.dialers.out }
         ensures same { self.new ≡ record self.old { dialers = put_back device self.old.dialers } }

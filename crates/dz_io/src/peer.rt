@@ -1,10 +1,10 @@
 //! The address of another host.
 
-/// An IPv4 address and a port, as a socket has them.
+/// An IPv4 address and a port, as of a socket.
 #[derive(Clone, Copy, Debug, PartialEq, Eq)]
 pub struct Peer {
-    /// The four octets of the address, the first of the dotted form first.
+    /// The four octets of the address, in the order of the dotted form.
     pub address: [u8; 4],
-    /// The port, in the host's order.
+    /// The port, in host byte order.
     pub port: u16,
 }

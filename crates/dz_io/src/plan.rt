@@ -8,7 +8,7 @@ ghost use Rattle.dz_io.specs.MemoryDevices.{covering};
 use crate::Failed;
 use std::marker::Model;
 
-// The calls of a device: how many there were, which are to fail, and how many failed.
+/// The calls of a device: how many there were, which are to fail, and how many failed.
 #[derive(Drop)]
 pub(crate) struct Plan {
     count: u64,
@@ -25,7 +25,7 @@ impl Model for Plan {
 }
 
 impl Plan {
-    // No call was made, and those with these numbers are to fail.
+    /// A plan before the first call, with the numbers of the calls that are to fail.
     pub(crate) fn new(failing: Vec<u64>) -> Plan
         ensures { result ≡ no_calls failing.items }
     {
@@ -36,7 +36,7 @@ impl Plan {
         }
     }
 
-    // Counts one call, and fails where that call is to fail.
+    /// Counts one call, and fails where that call is to fail.
     pub(crate) fn next(&mut self) -> Result<(), Failed>
         ensures planned { is_err result ≡ is_to_fail self.old.count self.old.failing }
         ensures calls { self.new ≡ after_call self.old (is_err result) }
@@ -50,7 +50,7 @@ impl Plan {
         Ok(())
     }
 
-    // Counts a fault.
+    /// Counts a fault.
     pub(crate) fn fail(&mut self) -> Failed
         ensures calls { self.new ≡ record self.old { faults = one_more self.old.faults } }
         ensures later { self.old.faults ≤ self.new.faults }
@@ -60,14 +60,14 @@ impl Plan {
         Failed
     }
 
-    // How many calls failed.
+    /// How many calls failed.
     pub(crate) fn faults(&self) -> u64
         ensures { result ≡ self.now.faults }
     {
         self.faults
     }
 
-    // Counts the faults of what came back.
+    /// Adds the faults of a device that came back.
     pub(crate) fn cover(&mut self, brought: u64)
         ensures calls { self.new ≡ covering brought self.old }
         ensures covers { Covers brought self.old.faults self.new.faults }

@@ -1,4 +1,4 @@
-//! What devices are opened at.
+//! What opens devices at addresses.
 ghost use Rattle.std.specs.Prelude.{◌≡◌, ◌<◌, IfOk, OnOk, OnErr};
 ghost use Rattle.dz_io.specs.Counts.{Covers};
 ghost use Rattle.dz_io.specs.Device.{HasCause};
@@ -6,10 +6,10 @@ ghost use Rattle.dz_io.specs.Ports.{opening, closing, place, exchange, accepts, 
 
 use crate::{Acceptor, Datagrams, Dialer, Failed, Peer};
 
-/// Where a device was opened.
+/// Where a device was opened, and for which worker.
 #[derive(Clone, Copy, Debug, PartialEq, Eq)]
 pub struct Place {
-    /// The address and port that it listens at.
+    /// The address and port that it listens on.
     pub listen: Peer,
     /// The number of the worker that it is for, 0 or 1.
     pub worker: u8,
@@ -30,20 +30,20 @@ pub trait Ports {
     /// The dialers that it makes.
     type L: Dialer + Send;
 
-    /// What it tells of the datagram devices.
+    /// What is reported of the datagram devices.
     ghost datagrams: { Self → Row Place Exchange };
 
-    /// What it tells of the acceptors.
+    /// What is reported of the acceptors.
     ghost acceptors: { Self → Row Place Accepts };
 
-    /// What it tells of the dialers, each of which was made for a worker.
+    /// What is reported of the dialers, each of which was made for a worker.
     ghost dialers: { Self → Row ℕ Dials };
 
-    /// How often an opening, or a datagram device or an acceptor that was given back, has failed. The count never falls,
-    /// and at 2^64 - 1 it says nothing more.
+    /// How often an opening, or a datagram device or an acceptor that was given back, has failed. The count never
+    /// falls, and at 2^64 - 1 it says nothing more.
     ghost faults: { Self → ℕ };
 
-    /// Opens a datagram device, which has received and sent nothing.
+    /// Opens a datagram device, which has received and sent nothing. `Failed` where it can't.
     fn open_datagrams(&mut self, listen: &Peer, worker: u8) -> Result<Self::D, Failed>
         requires { worker < 2 }
         ensures ok { OnOk result (datagrams self.new
@@ -55,7 +55,7 @@ pub trait Ports {
         ensures dialers { dialers self.new ≡ dialers self.old }
         ensures cause { HasCause (faults self.old) (faults self.new) result };
 
-    /// Opens an acceptor, which has given no link.
+    /// Opens an acceptor, which has given no link. `Failed` where it can't.
     fn open_acceptor(&mut self, listen: &Peer, worker: u8) -> Result<Self::A, Failed>
         requires { worker < 2 }
         ensures ok { OnOk result (acceptors self.new
@@ -67,7 +67,7 @@ pub trait Ports {
         ensures dialers { dialers self.new ≡ dialers self.old }
         ensures cause { HasCause (faults self.old) (faults self.new) result };
 
-    /// Makes a dialer, which has made no link.
+    /// Makes a dialer, which has made no link. `Failed` where it can't.
     fn dialer(&mut self, worker: u8) -> Result<Self::L, Failed>
         requires { worker < 2 }
         ensures ok { OnOk result (dialers self.new ≡ opening worker (dialers self.old)) }
@@ -78,7 +78,8 @@ pub trait Ports {
         ensures acceptors { acceptors self.new ≡ acceptors self.old }
         ensures cause { HasCause (faults self.old) (faults self.new) result };
 
-    /// Takes a datagram device back. The count of faults covers its own.
+    /// Takes back a datagram device. The count of faults covers that of the device: it rises where the device has
+    /// failed.
     fn close_datagrams(&mut self, device: Self::D)
         requires { 0 < (datagrams self.old).out }
         ensures back { datagrams self.new
@@ -88,7 +89,7 @@ pub trait Ports {
         ensures dialers { dialers self.new ≡ dialers self.old }
         ensures covers { Covers (Self.D.faults device) (faults self.old) (faults self.new) };
 
-    /// Takes an acceptor back. The count of faults covers its own.
+    /// Takes back an acceptor. The count of faults covers that of the acceptor: it rises where the acceptor has failed.
     fn close_acceptor(&mut self, device: Self::A)
         requires { 0 < (acceptors self.old).out }
         ensures back { acceptors self.new
@@ -98,7 +99,7 @@ pub trait Ports {
         ensures dialers { dialers self.new ≡ dialers self.old }
         ensures covers { Covers (Self.A.faults device) (faults self.old) (faults self.new) };
 
-    /// Takes a dialer back. The count of faults doesn't cover its own.
+    /// Takes back a dialer. The count of faults doesn't cover that of the dialer.
     fn close_dialer(&mut self, device: Self::L)
         requires { 0 < (dialers self.old).out }
         ensures back { dialers self.new ≡ closing

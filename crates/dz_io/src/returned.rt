@@ -22,21 +22,21 @@ impl Model for Returned {
 }
 
 impl Returned {
-    // The link, and the peer at its other end.
+    /// The link, and the peer at its other end.
     pub(crate) fn new(peer: Peer, link: MemoryLink) -> Returned
         ensures { result ≡ told_link peer link }
     {
         Returned { peer, link }
     }
 
-    /// The peer at its other end.
+    /// The peer at the other end of the link.
     pub fn peer(&self) -> Peer
         ensures { result ≡ self.now.peer }
     {
         self.peer
     }
 
-    /// The link.
+    /// The link, as it came back.
     pub fn link(&self) -> &MemoryLink
         ensures { told_link self.now.peer result.now ≡ self.now }
     {

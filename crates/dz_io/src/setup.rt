@@ -1,10 +1,10 @@
-//! What comes to devices in memory.
+//! The input of devices in memory.
 
 use crate::{MemoryLink, Peer};
 use std::alloc::Global;
 use std::marker::Model;
 
-/// What comes to a device in memory, and the numbers of its calls that are to fail, counted from 0.
+/// The input of a device in memory, and the numbers of its calls that are to fail, counted from 0.
 #[derive(Drop)]
 pub struct Setup<T> {
     pub(crate) coming: Vec<T>,
@@ -20,7 +20,7 @@ impl<T> Model for Setup<T> {
 }
 
 impl<T> Setup<T> {
-    /// What comes, the first in front, and which calls are to fail.
+    /// The input, in order, and the numbers of the calls that are to fail.
     pub fn new(coming: Vec<T>, failing: Vec<u64>) -> Setup<T>
         ensures { result ≡ record { coming = coming.items; failing = failing.items } }
     {
@@ -48,14 +48,14 @@ ghost use Rattle.std.specs.Prelude.{◌≡◌};
 ghost use Rattle.dz_io.specs.MemoryDevices.{fresh_link};
 
 impl Stream {
-    /// The octets, and which calls are to fail.
+    /// The octets, and the numbers of the calls that are to fail.
     pub fn new(octets: Vec<u8>, failing: Vec<u64>) -> Stream
         ensures { result ≡ record { octets = octets.items; failing = failing.items } }
     {
         Stream { octets, failing }
     }
 
-    // The link that gives them.
+    /// The link that gives these octets.
     pub(crate) fn open(self, alloc: Global) -> MemoryLink
         ensures { result ≡ fresh_link self }
     {
@@ -87,7 +87,7 @@ impl Caller {
         Caller { peer, stream }
     }
 
-    // The peer and its link.
+    /// The peer and its link.
     pub(crate) fn open(self, alloc: Global) -> (MemoryLink, Peer)
         ensures link { result.0 ≡ fresh_link self.stream }
         ensures peer { result.1 ≡ self.peer }

@@ -1,4 +1,4 @@
-//! The devices of one kind of ports in memory.
+//! The devices of one kind that ports in memory open.
 ghost use Rattle.std.specs.Prelude.{◌≡◌, ◌<◌, IfSome, IfNone};
 ghost use Rattle.dz_io.specs.MemoryDevices.{Opens, fresh_shelf, put_back};
 
@@ -7,7 +7,7 @@ use std::alloc::Global;
 use std::collections::VecDeque;
 use std::marker::Model;
 
-// What the next devices get, where some were opened, how many are out, and those that came back.
+/// The inputs of the next devices, where devices were opened, how many are out, and those that came back.
 #[derive(Drop)]
 pub(crate) struct Shelf<P, S, D> {
     ready: VecDeque<Setup<S>>,
@@ -33,7 +33,7 @@ impl<P, S, D> Model for Shelf<P, S, D> {
 }
 
 impl<P: Drop, S: Drop, D: Drop> Shelf<P, S, D> {
-    // Nothing was opened yet.
+    /// A shelf of which nothing was opened yet.
     pub(crate) fn new(alloc: Global, ready: Vec<Setup<S>>) -> Shelf<P, S, D>
         ensures { result ≡ fresh_shelf ready.items }
     {
@@ -45,8 +45,8 @@ impl<P: Drop, S: Drop, D: Drop> Shelf<P, S, D> {
         }
     }
 
-    // What the next device gets, for which it makes the room to come back. There is none where none is ready, or where
-    // memory is wanting.
+    /// The input of the next device, for whose return it reserves the room. None where no input is left, or where
+    /// memory runs out.
     pub(crate) fn open(&mut self, place: P) -> Option<Setup<S>>
         ensures some { IfSome result (λ setup. Opens place setup self.old self.new) }
         ensures none { IfNone result (self.new ≡ self.old) }
@@ -61,7 +61,7 @@ impl<P: Drop, S: Drop, D: Drop> Shelf<P, S, D> {
         Some(setup)
     }
 
-    // Takes a device back.
+    /// Takes back a device.
     pub(crate) fn close(&mut self, device: D)
         requires { 0 < self.old.out }
         ensures { self.new ≡ put_back device self.old }
@@ -70,7 +70,7 @@ impl<P: Drop, S: Drop, D: Drop> Shelf<P, S, D> {
         self.back.push_reserved(device);
     }
 
-    // The devices that came back.
+    /// The devices that came back.
     pub(crate) fn back(&self) -> &[D]
         ensures { result.now ≡ self.now.back }
     {

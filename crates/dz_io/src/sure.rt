@@ -6,7 +6,7 @@ use crate::tape::Tape;
 use crate::{Failed, Link, Sink, Source};
 use std::marker::Model;
 
-/// A source that reads from memory, tells what it gave and what is left, and never fails.
+/// A source that reads from memory, reports what it gave and what is left, and never fails.
 #[derive(Drop)]
 pub struct SureSource {
     tape: Tape,
@@ -40,7 +40,7 @@ impl Source for SureSource {
 
     ghost faults = { λ _. 0 };
 
-    /// Moves as much as there is and fits.
+    /// Moves as much as there is and fits. It never fails.
     fn read(&mut self, buffer: &mut [u8]) -> Result<usize, Failed>
         requires { 0 < length buffer.old }
         ensures amount { result ≡ Ok (min (length buffer.old) (length self.old.left)) }
@@ -53,7 +53,7 @@ impl Source for SureSource {
     }
 }
 
-/// A sink that never fails. What is written to it is neither kept nor told.
+/// A sink that never fails. What is written to it is neither kept nor reported.
 #[derive(Clone, Copy, Debug, PartialEq, Eq)]
 pub struct SureSink;
 
@@ -64,7 +64,7 @@ impl Sink for SureSink {
 
     ghost faults = { λ _. 0 };
 
-    /// Takes the piece and keeps nothing.
+    /// Discards the piece. It never fails.
     fn write(&mut self, _piece: &[u8]) -> Result<(), Failed>
         ensures { result ≡ Ok tt }
     {
@@ -72,7 +72,7 @@ impl Sink for SureSink {
     }
 }
 
-/// A link that never fails. It reads from memory; what is written to it is neither kept nor told.
+/// A link that never fails. It reads from memory; what is written to it is neither kept nor reported.
 #[derive(Drop)]
 pub struct SureLink {
     tape: Tape,
@@ -106,7 +106,7 @@ impl Source for SureLink {
 
     ghost faults = { λ _. 0 };
 
-    /// Moves as much as there is and fits.
+    /// Moves as much as there is and fits. It never fails.
     fn read(&mut self, buffer: &mut [u8]) -> Result<usize, Failed>
         requires { 0 < length buffer.old }
         ensures amount { result ≡ Ok (min (length buffer.old) (length self.old.left)) }
@@ -126,7 +126,7 @@ impl Sink for SureLink {
 
     ghost faults = { λ _. 0 };
 
-    /// Takes the piece and keeps nothing.
+    /// Discards the piece. It never fails.
     fn write(&mut self, _piece: &[u8]) -> Result<(), Failed>
         ensures done { result ≡ Ok tt }
         ensures same { self.new ≡ self.old }

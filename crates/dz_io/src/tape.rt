@@ -3,7 +3,7 @@ ghost use Rattle.std.specs.Prelude.{◌≡◌, ◌≤◌, [], ◌++◌, length, 
 
 use std::marker::Model;
 
-// Octets, and how many of them were given.
+/// Octets, and how many of them were given.
 #[derive(Drop)]
 pub(crate) struct Tape {
     octets: Vec<u8>,
@@ -25,14 +25,14 @@ impl Model for Tape {
 }
 
 impl Tape {
-    // Nothing of these octets was given.
+    /// A tape of these octets, of which none was given.
     pub(crate) fn new(octets: Vec<u8>) -> Tape
         ensures { result ≡ record { given = []; left = octets.items } }
     {
         Tape { octets, at: 0 }
     }
 
-    // Moves what comes next into the front of `buffer`, as much as fits, and answers how much.
+    /// Moves the next octets to the beginning of `buffer`, as many as fit, and returns how many.
     pub(crate) fn read(&mut self, buffer: &mut [u8]) -> usize
         ensures count { result ≡ min (length buffer.old) (length self.old.left) }
         ensures given { self.new.given ≡ self.old.given ++ take result buffer.new }
@@ -44,7 +44,7 @@ impl Tape {
     }
 }
 
-// Copies the front of `rest` into the front of `buffer`, as much as fits, and answers how much.
+/// Copies the beginning of `rest` to the beginning of `buffer`, as much as fits, and returns how many octets.
 fn move_front(rest: &[u8], buffer: &mut [u8]) -> usize
     ensures count { result ≡ min (length buffer.old) (length rest.now) }
     ensures front { take result buffer.new ≡ take result rest.now }

@@ -13,12 +13,12 @@ use Rattle.dz_record.specs.Record.{Record}
 use Rattle.dz_record.specs.Records.{insertion}
 use Rattle.dz_zone.specs.Version.{Zone}
 use Rattle.dz_zone.proofs.FaultLemmas.{found_passes}
-use Rattle.dz_form.specs.declared.fault.ShapeFault.{ShapeFault}
-use Rattle.dz_form.specs.declared.fault.ShapeFault.TheVariants.{NotSoaFirst, SerialGap}
-use Rattle.dz_form.specs.Apex.{is_apex_soa, serial_of, held_serial}
-use Rattle.dz_form.specs.Place.{Place, amid, ended, failed, read}
-use Rattle.dz_form.specs.Stands.{Stands, Reading}
-use Rattle.dz_form.proofs.ReadingLemmas.{Agrees, ended_not_amid, failed_not_amid, reading_stands, stands_once}
+use Rattle.dz_xfr.specs.declared.fault.ShapeFault.{ShapeFault}
+use Rattle.dz_xfr.specs.declared.fault.ShapeFault.TheVariants.{NotSoaFirst, SerialGap}
+use Rattle.dz_xfr.specs.Apex.{is_apex_soa, serial_of, held_serial}
+use Rattle.dz_xfr.specs.Place.{Place, amid, ended, failed, read}
+use Rattle.dz_xfr.specs.Stands.{Stands, Reading}
+use Rattle.dz_xfr.proofs.ReadingLemmas.{Agrees, ended_not_amid, failed_not_amid, reading_stands, stands_once}
 use Rattle.dz_ixfr.specs.Incremental.{is_there, others, IsIncremental, turned, is_even, blamed, Blames}
 use Rattle.dz_ixfr.specs.Reading.{Amid, nothing, begun, deleting, adding, one, start, place_of, reading_of}
 use Rattle.dz_ixfr.proofs.ToEnd.{go, to_end, step_first, step_held, step_new, step_old, step_end}

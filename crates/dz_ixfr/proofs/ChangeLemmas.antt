@@ -13,7 +13,7 @@ use Rattle.dz_record.specs.Record.{Record, same_record, record_order}
 use Rattle.dz_record.specs.Records.{insertion}
 use Rattle.dz_record.specs.Order.{records_equal}
 use Rattle.dz_zone.specs.Version.{Zone}
-use Rattle.dz_form.specs.Apex.{is_apex_soa, serial_of, held_serial}
+use Rattle.dz_xfr.specs.Apex.{is_apex_soa, serial_of, held_serial}
 use Rattle.dz_ixfr.specs.Incremental.{is_there, without, Deletes, Adds, HasNoSoa, Difference, IsDifference, Leads, leads_last, leads_on, others, IsIncremental}
 use Rattle.dz_ixfr.specs.Changes.{Change, deletion, addition, changes_in, changes_of, IsNotDeleted, IsNotAdded, IsNotNamed, Changes, ChangesAll}
 

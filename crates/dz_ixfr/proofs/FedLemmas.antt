@@ -4,16 +4,16 @@ use Rattle.std.proofs.lemmas.List.{append-nil}
 use Rattle.dz_name.specs.Words.{Name}
 use Rattle.dz_record.specs.Record.{Record}
 use Rattle.dz_zone.specs.Version.{Zone}
-use Rattle.dz_form.specs.declared.fault.ShapeFault.{ShapeFault}
-use Rattle.dz_form.specs.declared.fault.Progress.{Progress}
-use Rattle.dz_form.specs.declared.fault.Progress.TheVariants.{More, Ended as IsEnded}
-use Rattle.dz_form.specs.declared.fault.FeedError.{FeedError}
-use Rattle.dz_form.specs.declared.fault.FeedError.TheVariants.{Shape, OutOfMemory}
-use Rattle.dz_form.specs.Apex.{is_apex_soa, serial_of, held_serial}
-use Rattle.dz_form.specs.Feeding.{IsOpen, Says}
-use Rattle.dz_form.specs.Place.{Place, amid, ended, failed, read, said}
-use Rattle.dz_form.specs.Stands.{Stands, IsComplete, more, complete, misfit, is_complete}
-use Rattle.dz_form.proofs.ReadingLemmas.{read_pieces, stays_failed}
+use Rattle.dz_xfr.specs.declared.fault.ShapeFault.{ShapeFault}
+use Rattle.dz_xfr.specs.declared.fault.Progress.{Progress}
+use Rattle.dz_xfr.specs.declared.fault.Progress.TheVariants.{More, Ended as IsEnded}
+use Rattle.dz_xfr.specs.declared.fault.FeedError.{FeedError}
+use Rattle.dz_xfr.specs.declared.fault.FeedError.TheVariants.{Shape, OutOfMemory}
+use Rattle.dz_xfr.specs.Apex.{is_apex_soa, serial_of, held_serial}
+use Rattle.dz_xfr.specs.Feeding.{IsOpen, Says}
+use Rattle.dz_xfr.specs.Place.{Place, amid, ended, failed, read, said}
+use Rattle.dz_xfr.specs.Stands.{Stands, IsComplete, more, complete, misfit, is_complete}
+use Rattle.dz_xfr.proofs.ReadingLemmas.{read_pieces, stays_failed}
 use Rattle.dz_ixfr.specs.declared.differences.Stage.{Stage}
 use Rattle.dz_ixfr.specs.declared.differences.Stage.TheVariants.{Begun, Deleting, Adding, Ended, Lost}
 use Rattle.dz_ixfr.specs.Assembly.{Assembly}
@@ -34,7 +34,7 @@ said_failed (amid x) fault e = absurd (cc)
 said_failed (ended zone) fault e = absurd (cc)
 said_failed (failed other) fault e = cc
 
--- a record that doesn't fit, and whatever stands behind it
+-- a record that doesn't fit, and whatever follows it
 pub fails : (held : Zone) (error : FeedError) (fed rest all : List Record) (r : Record) → Reads held (Err error) (fed ++ r ∷ []) → fed ++ r ∷ rest ≡ all → Reads held (Err error) all
 fails held OutOfMemory fed rest all r s e = tt
 fails held (Shape fault) fed rest all r s e =
@@ -42,7 +42,7 @@ fails held (Shape fault) fed rest all r s e =
     sym (ap (reading_of held) (sym e ∙ sym (append_assoc fed (r ∷ []) rest))
     ∙ ap said (read_pieces (one held.apex) (amid (start held)) (fed ++ r ∷ []) rest ∙ (ap (λ q. read (one held.apex) q rest) p ∙ stays_failed (one held.apex) fault rest)))
 
--- what the reading says stands
+-- what the reading says holds
 pub says_stands : (held : Zone) (result : Result Progress FeedError) (all : List Record) → Reads held result all → Says result (Stands (IsIncremental held) (Blames held.apex) all)
 says_stands held (Ok More) all e = subst (Stands (IsIncremental held) (Blames held.apex) all) (sym e) (form_stands held all)
 says_stands held (Ok IsEnded) all e = (e.0, subst (Stands (IsIncremental held) (Blames held.apex) all) (sym e.1) (form_stands held all))
@@ -77,7 +77,7 @@ finished {held = held} {fed = fed} {first = first} {stage = stage} {standing = s
     subst (λ (s : Assembly). IsComplete (IsIncremental s.held) s.fed → IsIncremental s.held s.fed zone) v
     (λ w. from_end held fed zone (k.place ∙ zone_is stage first standing zone w.0 (sym k.place ∙ to_end held fed w.0 w.1)))
 
--- behind the first SOA
+-- after the first SOA
 pub started_place : (held : Zone) (first : Record) → is_apex_soa held.apex first ≡ true → place_of held (first ∷ []) ≡ amid (begun first (held_serial held) (others held))
 started_place held first t = step_first held.apex first (held_serial held) (others held) t
 

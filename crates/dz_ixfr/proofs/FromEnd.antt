@@ -8,10 +8,10 @@ use Rattle.dz_name.specs.Words.{Name}
 use Rattle.dz_record.specs.Record.{Record}
 use Rattle.dz_record.specs.Records.{insertion}
 use Rattle.dz_zone.specs.Version.{Zone}
-use Rattle.dz_form.specs.declared.fault.ShapeFault.TheVariants.{NotSoaFirst, SerialGap, DeleteMissing, AddPresent}
-use Rattle.dz_form.specs.Apex.{is_apex_soa, serial_of, held_serial}
-use Rattle.dz_form.specs.Place.{amid, ended}
-use Rattle.dz_form.proofs.ReadingLemmas.{ended_alone, failed_not_ended}
+use Rattle.dz_xfr.specs.declared.fault.ShapeFault.TheVariants.{NotSoaFirst, SerialGap, DeleteMissing, AddPresent}
+use Rattle.dz_xfr.specs.Apex.{is_apex_soa, serial_of, held_serial}
+use Rattle.dz_xfr.specs.Place.{amid, ended}
+use Rattle.dz_xfr.proofs.ReadingLemmas.{ended_alone, failed_not_ended}
 use Rattle.dz_ixfr.specs.Incremental.{is_there, without, Deletes, Adds, HasNoSoa, Difference, spelled, IsDifference, Leads, leads_last, leads_on, others, IsIncremental}
 use Rattle.dz_ixfr.specs.Reading.{begun, deleting, adding, one, place_of}
 use Rattle.dz_ixfr.proofs.ToEnd.{octets_are, go, step_first}
@@ -29,7 +29,7 @@ one_more : (d : Difference) (ds : List Difference) (rest more : List Record) (la
 one_more d ds rest more last e f = e ∙ (ap (λ l. spelled d ++ l) f ∙ sym (append_assoc (spelled d) (flat_map spelled ds) (last ∷ [])))
 
 module _ (apex : Name) where
-  -- deleted records, and an SOA behind them
+  -- deleted records, and an SOA after them
   record Deleted (first : Record) (zone rest end : List Record) : Type 0 where
     deleted : List Record
     middle : List Record
@@ -55,7 +55,7 @@ module _ (apex : Name) where
             ]
       ]
 
-  -- added records, and an SOA behind them
+  -- added records, and an SOA after them
   record Added (first : Record) (serial : ℕ) (zone rest end : List Record) : Type 0 where
     added : List Record
     after : List Record
@@ -81,7 +81,7 @@ module _ (apex : Name) where
             ]
       ]
 
-  -- differences and the closing SOA, behind an SOA of the serial
+  -- differences and the closing SOA, after an SOA of the serial
   record Rest (first : Record) (serial : ℕ) (zone records end : List Record) : Type 0 where
     differences : List Difference
     last : Record
@@ -149,7 +149,7 @@ module _ (apex : Name) where
             }
       ]
 
-  -- behind the first SOA
+  -- after the first SOA
   rest_behind : (first : Record) (serial : ℕ) (stock rest end : List Record) → go apex (amid (begun first serial stock)) rest ≡ ended end → Rest first serial stock rest end
   rest_behind first serial stock [] end e = absurd (cc)
   rest_behind first serial stock (old ∷ rest) end e =

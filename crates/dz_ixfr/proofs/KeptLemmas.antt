@@ -6,11 +6,11 @@ use Rattle.dz_name.specs.Words.{Name}
 use Rattle.dz_record.specs.Record.{Record}
 use Rattle.dz_record.specs.Records.{insertion}
 use Rattle.dz_zone.specs.Version.{Zone}
-use Rattle.dz_form.specs.declared.fault.ShapeFault.TheVariants.{SerialGap, AfterEnd, DeleteMissing, AddPresent}
-use Rattle.dz_form.specs.Apex.{is_apex_soa, serial_of}
-use Rattle.dz_form.specs.Place.{Place, amid, ended, failed, behind, said}
-use Rattle.dz_form.specs.Stands.{Reading, more, complete, misfit}
-use Rattle.dz_form.proofs.ReadingLemmas.{read_pieces}
+use Rattle.dz_xfr.specs.declared.fault.ShapeFault.TheVariants.{SerialGap, AfterEnd, DeleteMissing, AddPresent}
+use Rattle.dz_xfr.specs.Apex.{is_apex_soa, serial_of}
+use Rattle.dz_xfr.specs.Place.{Place, amid, ended, failed, behind, said}
+use Rattle.dz_xfr.specs.Stands.{Reading, more, complete, misfit}
+use Rattle.dz_xfr.proofs.ReadingLemmas.{read_pieces}
 use Rattle.dz_ixfr.specs.declared.differences.Stage.{Stage}
 use Rattle.dz_ixfr.specs.declared.differences.Stage.TheVariants.{Begun, Deleting, Adding, Ended, Lost}
 use Rattle.dz_ixfr.specs.Assembly.{Assembly}
@@ -24,7 +24,7 @@ module _ {held : Zone} {fed : List Record} {apex : Name} {goal : ℕ} {first : R
   abbrev Says : Reading → Type 0
   Says reading = reading ≡ reading_of seen.held (seen.fed ++ r ∷ [])
 
-  -- the place behind the record
+  -- the place after the record
   next_place : (s : Stage) → stage ≡ s → place_of held (fed ++ r ∷ []) ≡ behind (one held.apex) (place_in s first standing zone) r
   next_place s e =
       read_pieces (one held.apex) (amid (start held)) fed (r ∷ [])

@@ -1,4 +1,4 @@
--- A sorted list under changes: the elements that still stand, and those that overlaid.
+-- A sorted list under changes: the elements that are still there, and those that overlaid.
 use Rattle.std.proofs.Common.{◌≡◌, ℕ, zero, suc, ◌+◌, ◌-◌, ◌<◌, Bool, true, false, not, ◌||◌, List, [], ◌∷◌, ◌++◌, append_assoc, is_lt, length, take, map, get_or, set, refl, sym, ◌∙◌, ap, subst, is_gt, is_eq, Ordering, Less, Equal, Greater, inl, inr, arith}
 use Rattle.std.specs.Prelude.{filter, if◌then◌else◌}
 use Rattle.std.specs.List.{AllByRecursion, list_any}
@@ -56,7 +56,7 @@ module _ {X : Type 0} (R : X → X → Ordering) (o : IsTotalOrder R) where
   unfolding placed
   front r s zs f = rw f refl
 
-  -- what comes behind an element that comes behind another comes behind that one
+  -- what comes after an element that comes after another comes after that one
   above : (a b s : X) → R a b ≡ Less → is_gt (R a s) ≡ true → is_gt (R b s) ≡ true
   above a b s e t = ap is_gt (lt_back s b (o.trans s a b (gt_back a s (gt_is (R a s) t)) e))
 
@@ -182,7 +182,7 @@ module _ {X : Type 0} (R : X → X → Ordering) (o : IsTotalOrder R) where
       let f : is_eq (R r z) ≡ false = ap is_eq (o.congr r k z e ∙ h.0) in
       rw f (has_none r k zs e h.1)
 
-  -- the base: an element that no longer stands is left out
+  -- the base: an element that is no longer there is left out
   pub kept_drop : (base : List (Flagged X)) (i : ℕ) (b : Flagged X) (r : X) → Rises R (map (λ k. k.item) base) → i < length base → b ≡ get_or base i b → is_eq (R r b.item) ≡ true
       → left_of (set base i (fallen b)) ≡ filter (λ s. not (is_eq (R r s))) (left_of base)
   unfolding left_of
@@ -203,7 +203,7 @@ module _ {X : Type 0} (R : X → X → Ordering) (o : IsTotalOrder R) where
         | inr v ↦ rw v rest
       ]
 
-  -- an element that stands is there, one that doesn't isn't
+  -- an element that is still there is in the list, one that isn't is not
   pub kept_has : (base : List (Flagged X)) (i : ℕ) (b : Flagged X) (r : X) → Rises R (map (λ k. k.item) base) → i < length base → b ≡ get_or base i b → is_eq (R r b.item) ≡ true
       → list_any (λ s. is_eq (R r s)) (left_of base) ≡ b.stands
   unfolding left_of
@@ -296,7 +296,7 @@ module _ {X : Type 0} (R : X → X → Ordering) (o : IsTotalOrder R) where
       ap (λ l. overlaid R l zs) (remove_filter r xs h)
       ∙ (ap (overlaid R (filter (λ s. not (is_eq (R r s))) xs)) (sym (keeps_none r zs n)) ∙ sym (filter_overlaid (λ s. not (is_eq (R r s))) xs zs h g d))
 
-  -- what no longer stands in the base is taken from the zone
+  -- what is no longer in the base is taken from the zone
   pub taken_from_base : (xs : List X) (base : List (Flagged X)) (i : ℕ) (b : Flagged X) (r : X) → Rises R xs → Rises R (map (λ k. k.item) base) → Rises R (left_of base) → AreApart R xs (left_of base) → i < length base → b ≡ get_or base i b
       → is_eq (R r b.item) ≡ true → list_any (λ s. is_eq (R r s)) xs ≡ false
       → overlaid R xs (left_of (set base i (fallen b))) ≡ filter (λ s. not (is_eq (R r s))) (overlaid R xs (left_of base))
@@ -422,7 +422,7 @@ module _ {X : Type 0} (R : X → X → Ordering) (o : IsTotalOrder R) where
       ap (λ l. overlaid R l (left_of base)) (e ∙ same_keys n) ∙ sym (keeps_none r (overlaid R keys (left_of base)) (zone_has ∙ rw (n, m) refl)),
     )
 
-    -- the base has it, whether or not it still stood
+    -- the base has it, whether or not it was still there
     pub left_base : (new : List X) (i : ℕ) (b : Flagged X) (now : List (Flagged X)) → new ≡ remove_key (is_at (R r)) keys → list_any (λ s. is_eq (R r s)) keys ≡ false → i < length base → b ≡ get_or base i b → is_eq (R r b.item) ≡ true
         → now ≡ set base i (fallen b)
         → IsOverlay R now new × (b.stands ≡ list_any (λ s. is_eq (R r s)) (overlaid R keys (left_of base))) × (overlaid R new (left_of now) ≡ filter (λ s. not (is_eq (R r s))) (overlaid R keys (left_of base)))
@@ -489,7 +489,7 @@ module _ {X : Type 0} (R : X → X → Ordering) (o : IsTotalOrder R) where
   lt_is Equal f g = absurd (cc)
   lt_is Greater f g = refl
 
-  -- the others come behind
+  -- the others come after it
   left_above : (b : X) (left zs : List X) → Rises R left → AreApart R left (b ∷ zs) → first_before R left b ≡ false → AllByRecursion (λ x. R b x ≡ Less) left
   left_above b [] zs h a f = tt
   left_above b (x ∷ left) zs h a f =
@@ -518,7 +518,7 @@ module _ {X : Type 0} (R : X → X → Ordering) (o : IsTotalOrder R) where
   unfolding left_of
   merge_skip b rest out keys h f = (record { base = h.base.1; added = h.added; apart = rw f at h.apart }, rw f refl)
 
-  -- the same in front of any elements behind the bound
+  -- the same before any elements after the bound
   moved_over : (moved left zs : List X) (b : X) → Rises R (moved ++ left) → AllByRecursion (λ x. R x b ≡ Less) moved → AllByRecursion (λ z. R b z ≡ Less) zs → overlaid R (moved ++ left) zs ≡ moved ++ overlaid R left zs
   moved_over [] left zs b h m z = refl
   moved_over (x ∷ moved) left zs b h m z =
@@ -559,14 +559,14 @@ module _ {X : Type 0} (R : X → X → Ordering) (o : IsTotalOrder R) where
         lt_is_less Equal h = absurd (cc)
         lt_is_less Greater h = absurd (cc)
 
-  -- where the first doesn't come before an element, it comes before none in front of that one
+  -- where the first doesn't come before an element, it comes before none that precedes that one
   pub ahead_of : (keys : List X) (base : List (Flagged X)) (n : ℕ) (far : Flagged X) → Rises R (items base) → n < length base → far ≡ get_or base n far → first_before R keys far.item ≡ false → AreAhead R keys (take (suc n) base)
   ahead_of keys [] n far h l e f = absurd (omega arith)
   ahead_of keys (b ∷ base) zero far h l e f = (subst (λ k. first_before R keys k.item ≡ false) e f, tt)
   ahead_of keys (b ∷ base) (suc n) far h l e f =
       (not_before keys b.item far.item (rises_to b.item base n far h.0 (omega arith) e) f, ahead_of keys base n far h.1 (omega arith) e f)
 
-  -- what is known of the next records, cut behind the first of them
+  -- what is known of the next records, cut after the first of them
   pub ahead_here : (keys : List X) (all rest : List (Flagged X)) (b : Flagged X) (item : X) (n : ℕ) → all ≡ b ∷ rest → item ≡ b.item → AreAhead R keys (take n all)
       → (0 < n → first_before R keys item ≡ false) × AreAhead R keys (take (n - 1) rest)
   ahead_here keys all rest b item zero e i h = ((λ l. absurd (omega (arith, l))), tt)
@@ -623,7 +623,7 @@ moved_more {X} R bound x all keys left out now pushed w e p b = (
   all_behind [] h e = (e, tt)
   all_behind (y ∷ ys) h e = (h.0, all_behind ys h.1 e)
 
--- the items of elements that all stand
+-- the items of elements that are all still there
 pub items_flagged : {X : Type 0} (xs : List X) → items (map flagged xs) ≡ xs
 items_flagged [] = refl
 items_flagged (x ∷ xs) = ap (λ l. x ∷ l) (items_flagged xs)

@@ -10,7 +10,7 @@ use Rattle.dz_name.specs.declared.dns.TheConstants.{TYPE_SOA}
 use Rattle.dz_record.specs.Record.{Record, record_order, same_record}
 use Rattle.dz_record.specs.Records.{insertion}
 use Rattle.dz_zone.specs.Version.{Zone}
-use Rattle.dz_form.specs.Apex.{is_apex_soa}
+use Rattle.dz_xfr.specs.Apex.{is_apex_soa}
 use Rattle.dz_ixfr.specs.Incremental.{is_there, without, others, HasNoSoa}
 
 -- of records that are the same both are SOAs of the apex, or neither is

@@ -1,4 +1,4 @@
--- What a removal and an insertion make of the records that stand.
+-- What a removal and an insertion make of the records that are left.
 use Rattle.std.proofs.Common.{◌≡◌, ℕ, ◌<◌, Bool, true, false, not, List, length, get_or, set, sym, ◌∙◌, ap, subst, is_eq, Result, Ok, Err}
 use Rattle.std.specs.Prelude.{IfOk, OnOk, OnErr}
 use Rattle.std.specs.Bool.{OnTrue, OnFalse}
@@ -15,7 +15,7 @@ use Rattle.dz_ixfr.specs.inner.Overlay.{Flagged, fallen, left_of, overlaid, plac
 use Rattle.dz_ixfr.proofs.OverlayLemmas.{left_set, left_none, left_base, base_none, joins, any_overlaid, or_none, or_true}
 use Rattle.dz_ixfr.proofs.Ties.{tie_there, tie_without, placed_insertion}
 
--- base and keys, what stands of them, and a record
+-- base and keys, what is left of them, and a record
 module _ (base : List (Flagged Record)) (keys zone : List Record) (v : overlaid record_order keys (left_of base) ≡ zone) (r : Record) (h : IsOverlay record_order base keys) where
   abbrev all : List Record
   all = overlaid record_order keys (left_of base)

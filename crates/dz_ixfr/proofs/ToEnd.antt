@@ -9,8 +9,8 @@ use Rattle.dz_name.specs.Words.{Name, Octets}
 use Rattle.dz_record.specs.Record.{Record}
 use Rattle.dz_record.specs.Records.{insertion}
 use Rattle.dz_zone.specs.Version.{Zone}
-use Rattle.dz_form.specs.Apex.{is_apex_soa, serial_of, held_serial}
-use Rattle.dz_form.specs.Place.{Place, amid, ended, read}
+use Rattle.dz_xfr.specs.Apex.{is_apex_soa, serial_of, held_serial}
+use Rattle.dz_xfr.specs.Place.{Place, amid, ended, read}
 use Rattle.dz_ixfr.specs.Incremental.{is_there, without, Deletes, Adds, HasNoSoa, Difference, spelled, IsDifference, Leads, leads_last, leads_on, others, IsIncremental}
 use Rattle.dz_ixfr.specs.Reading.{Amid, nothing, begun, deleting, adding, one, place_of}
 

@@ -5,29 +5,29 @@ use Rattle.dz_name.specs.Words.{Name}
 use Rattle.dz_record.specs.Record.{Record, same_record}
 use Rattle.dz_record.specs.Records.{insertion}
 use Rattle.dz_zone.specs.Version.{Zone}
-use Rattle.dz_form.specs.declared.fault.ShapeFault.{ShapeFault}
-use Rattle.dz_form.specs.declared.fault.ShapeFault.TheVariants.{NotSoaFirst, SerialGap, DeleteMissing, AddPresent}
-use Rattle.dz_form.specs.Apex.{is_apex_soa, serial_of, held_serial}
+use Rattle.dz_xfr.specs.declared.fault.ShapeFault.{ShapeFault}
+use Rattle.dz_xfr.specs.declared.fault.ShapeFault.TheVariants.{NotSoaFirst, SerialGap, DeleteMissing, AddPresent}
+use Rattle.dz_xfr.specs.Apex.{is_apex_soa, serial_of, held_serial}
 
--- a record of the zone is the same
+-- the zone has a record that is the same but for its TTL
 abbrev pub is_there : Record → List Record → Bool
 is_there r zone = list_any (same_record r) zone
 
--- the others
+-- the records of the zone without those that are the same as this one but for their TTL
 abbrev pub without : Record → List Record → List Record
 without r zone = filter (λ s. not (same_record r s)) zone
 
--- each of the records is there, and is taken away
+-- each of these records is in the zone, and is taken away
 abbrev pub Deletes : List Record → List Record → List Record → Type 0
 Deletes zone [] after = after ≡ zone
 Deletes zone (r ∷ rs) after = (is_there r zone ≡ true) × Deletes (without r zone) rs after
 
--- each of the records isn't there, and joins at its place
+-- each of these records isn't in the zone, and is put at its place
 abbrev pub Adds : List Record → List Record → List Record → Type 0
 Adds zone [] after = after ≡ zone
 Adds zone (r ∷ rs) after = (is_there r zone ≡ false) × Adds (insertion r zone) rs after
 
--- none is an SOA of the apex
+-- none of the records is an SOA of the apex
 abbrev pub HasNoSoa : Name → List Record → Type 0
 HasNoSoa apex records = AllByRecursion (λ r. is_apex_soa apex r ≡ false) records
 
@@ -38,6 +38,7 @@ pub record Difference : Type 0 where
   pub new : Record
   pub added : List Record
 
+-- the records of a difference as they are sent (RFC 1995 section 4)
 abbrev pub spelled : Difference → List Record
 spelled d = d.old ∷ (d.deleted ++ d.new ∷ d.added)
 
@@ -52,8 +53,8 @@ pub record IsDifference (apex : Name) (serial : ℕ) (zone : List Record) (d : D
   pub added : HasNoSoa apex d.added
   pub adds : Adds middle d.added after
 
--- one or more differences lead from a serial and a zone to the serial `goal`, to which the last alone comes; each begins
--- at the serial of the one before it
+-- one or more differences lead from a serial and a zone to the serial `goal`, to which the last alone comes; each
+-- begins at the serial of the one before it
 pub data Leads (apex : Name) (goal : ℕ) : ℕ → List Record → List Difference → List Record → Type 0 where
   leads_last : {serial : ℕ} {zone after : List Record} {d : Difference} → IsDifference apex serial zone d after → serial_of d.new ≡ goal → Leads apex goal serial zone (d ∷ []) after
   leads_on : {serial : ℕ} {zone after : List Record} {d : Difference} {ds : List Difference} (next : List Record) → IsDifference apex serial zone d next → serial_of d.new ≢ goal
@@ -64,7 +65,7 @@ abbrev pub others : Zone → List Record
 others held = filter (λ r. not (is_apex_soa held.apex r)) held.records
 
 -- an SOA of the apex, differences from the held zone to its serial, and an SOA of the apex with its RDATA; the zone has
--- the first SOA and what then stands
+-- the first SOA and what is then left
 pub record IsIncremental (held : Zone) (records zone : List Record) : Type 0 where
   pub first : Record
   pub differences : List Difference
@@ -77,11 +78,12 @@ pub record IsIncremental (held : Zone) (records zone : List Record) : Type 0 whe
   pub same : last.rdata ≡ first.rdata
   pub zone_is : zone ≡ insertion first after
 
--- an even number of SOAs of the apex is among these records: behind an even number records are deleted, and behind an odd
--- number, from the third on, they are added
+-- an SOA of the apex turns the parity, and another record leaves it
 abbrev pub turned : Name → Bool → Record → Bool
 turned apex even r = if is_apex_soa apex r then not even else even
 
+-- an even number of these records are SOAs of the apex: after an even number records are deleted, and after an odd
+-- number, from the third on, they are added
 abbrev pub is_even : Name → List Record → Bool
 is_even apex records = fold (turned apex) true records
 
@@ -94,5 +96,6 @@ blamed apex (first ∷ second ∷ front) r =
     else if is_even apex (first ∷ second ∷ front) then DeleteMissing
     else AddPresent
 
+-- the fault is that of the first record with which no incremental form goes on
 abbrev pub Blames : Name → List Record → Record → ShapeFault → Type 0
 Blames apex front r fault = fault ≡ blamed apex front r

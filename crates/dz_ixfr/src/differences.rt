@@ -1,39 +1,39 @@
 //! The incremental form, fed record by record.
 
 ghost use Rattle.std.specs.Prelude.{◌≡◌, ◌∷◌, ◌++◌, [], true, false, IfOk, OnOk};
-ghost use Rattle.dz_form.specs.Apex.{is_apex_soa, serial_of};
-ghost use Rattle.dz_form.specs.Feeding.{IsOpen, Says};
-ghost use Rattle.dz_form.specs.Stands.{Stands, IsComplete};
+ghost use Rattle.dz_xfr.specs.Apex.{is_apex_soa, serial_of};
+ghost use Rattle.dz_xfr.specs.Feeding.{IsOpen, Says};
+ghost use Rattle.dz_xfr.specs.Stands.{Stands, IsComplete};
 ghost use Rattle.dz_ixfr.specs.Incremental.{IsIncremental, Blames};
 ghost use Rattle.dz_ixfr.specs.Reading.{reading_of};
 ghost use Rattle.dz_ixfr.specs.inner.Kept.{IsAtEnd};
 
 use crate::standing::Standing;
-use dz_form::{Fed, FeedError, Progress, ShapeFault, apex_serial, held_serial, same_rdata};
 use dz_name::Name;
 use dz_record::Rr;
+use dz_xfr::{Fed, FeedError, Progress, ShapeFault, apex_serial, held_serial, same_rdata};
 use dz_zone::Version;
 use std::alloc::{AllocError, Global};
 use std::marker::Model;
 use std::mem::replace;
 use std::snapshot::Snapshot;
 
-/// Where the form is.
+/// How far the form was read.
 #[derive(Clone, Copy, Debug, PartialEq, Eq)]
 enum Stage {
     /// The first SOA was read. The first difference begins at this serial.
     Begun(u32),
     /// Among deleted records.
     Deleting,
-    /// Among the records that are added behind an SOA of this serial.
+    /// Among the records that are added after an SOA of this serial.
     Adding(u32),
     /// The closing SOA was read.
     Ended,
-    /// What stood is gone, for want of memory at the end.
+    /// What was left of the zone is gone: memory ran out at the end.
     Lost,
 }
 
-/// What stands of a held zone, as far as its differences were read. Contracts see the held zone and all records that
+/// What is left of a held zone, as far as its differences were read. Contracts see the held zone and all records that
 /// were fed.
 #[derive(Drop)]
 pub struct Differences {
@@ -63,11 +63,11 @@ impl Model for Differences {
 }
 
 impl Differences {
-    /// A form that begins with this SOA, whose owner is the apex of the held version. The held records are shared.
+    /// A form that begins with this SOA, whose owner name is the apex of the held version. The held records are shared.
     ///
     /// # Errors
     ///
-    /// `AllocError` where there is no memory for the records that stand.
+    /// `AllocError` where there is no memory for the records that are held.
     pub fn start(alloc: Global, held: &Version, first: Rr) -> Result<Differences, AllocError>
         requires soa { is_apex_soa held.now.apex first ≡ true }
         ensures started { IfOk result (λ d. d ≡ record { held = held.now; fed = first ∷ [] }) }
@@ -93,13 +93,13 @@ impl Differences {
         })
     }
 
-    /// Reads on: whether the records that were fed are a whole form, or more is to come. After the end, and after an
-    /// error, it is fed no more.
+    /// Reads further records: whether the records that were fed are a whole form, or more is to come. After the end,
+    /// and after an error, nothing more may be fed.
     ///
     /// # Errors
     ///
-    /// The fault of the first record with which no whole form goes on, or `AfterEnd` where records stand behind one; or
-    /// want of memory.
+    /// The fault of the first record with which no whole form goes on, or `AfterEnd` where records follow one; or out
+    /// of memory.
     pub fn feed(&mut self, records: Vec<Rr>) -> Result<Progress, FeedError>
         requires { IsOpen (IsIncremental self.old.held) (Blames self.old.held.apex) self.old.fed }
         ensures held { self.new.held ≡ self.old.held }
@@ -119,7 +119,7 @@ impl Differences {
         Ok(progress)
     }
 
-    /// The records of the zone, in canonical order: the first SOA and what stands.
+    /// The records of the zone, in canonical order: the first SOA and what is left after the differences.
     pub fn finish(self) -> Vec<Rr>
         requires { IsComplete (IsIncremental self.held) self.fed }
         ensures { IsIncremental self.held self.fed result.items }
@@ -127,7 +127,7 @@ impl Differences {
         self.zone
     }
 
-    /// Reads one record. A fault leaves what was read as it was.
+    /// Reads one record. A fault leaves what was read as it was; the errors are those of [`Differences::feed`].
     fn take(&mut self, found: Rr) -> Result<Progress, FeedError>
         ensures held { self.new.held ≡ self.old.held }
         ensures fed { OnOk result (self.new.fed ≡ self.old.fed ++ found ∷ []) }
@@ -140,7 +140,7 @@ impl Differences {
         }
     }
 
-    /// Reads an SOA of the apex, which has this serial.
+    /// Reads an SOA of the apex, which has this serial. The errors are those of [`Differences::feed`].
     fn take_soa(&mut self, serial: u32, found: Rr) -> Result<Progress, FeedError>
         requires soa { is_apex_soa self.old.held.apex found ≡ true }
         requires serial { serial ≡ serial_of found }
@@ -179,7 +179,8 @@ impl Differences {
         }
     }
 
-    /// Reads the closing SOA, and makes the zone.
+    /// Reads the closing SOA, and makes the zone. `SerialGap` where its RDATA isn't that of the first SOA; or out of
+    /// memory.
     fn close(&mut self, found: Rr) -> Result<Progress, FeedError>
         requires soa { is_apex_soa self.old.held.apex found ≡ true }
         requires here { IsAtEnd self.old.held self.old.fed }
@@ -208,7 +209,7 @@ impl Differences {
         }
     }
 
-    /// Reads a record that is no SOA of the apex.
+    /// Reads a record that isn't an SOA of the apex. The errors are those of [`Differences::feed`].
     fn take_other(&mut self, found: Rr) -> Result<Progress, FeedError>
         requires other { is_apex_soa self.old.held.apex found ≡ false }
         ensures held { self.new.held ≡ self.old.held }

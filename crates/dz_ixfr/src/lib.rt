@@ -6,5 +6,5 @@ mod laws;
 mod standing;
 
 pub use differences::Differences;
-pub use dz_form::{FeedError, Progress, ShapeFault};
+pub use dz_xfr::{FeedError, Progress, ShapeFault};
 pub use laws::{changes_tell, incremental_form};

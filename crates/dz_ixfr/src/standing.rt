@@ -1,4 +1,4 @@
-//! What stands of a held zone while differences are applied.
+//! What is left of a held zone while differences are applied.
 
 ghost use Rattle.std.specs.Prelude.{◌≡◌, ◌-◌, ◌<◌, [], false, length, take, not, filter, map, slice_index_or, slice_set, IfOk, OnErr, OnOk};
 ghost use Rattle.std.specs.BTreeMap.{is_at};
@@ -8,23 +8,23 @@ ghost use Rattle.std.specs.List.Sorted.{IsStrictlySortedBy};
 ghost use Rattle.std.specs.Set.{remove_key};
 ghost use Rattle.dz_record.specs.Record.{Record, record_order};
 ghost use Rattle.dz_record.specs.Records.{insertion};
-ghost use Rattle.dz_form.specs.Apex.{is_apex_soa};
+ghost use Rattle.dz_xfr.specs.Apex.{is_apex_soa};
 ghost use Rattle.dz_ixfr.specs.Incremental.{is_there, without, others};
 ghost use Rattle.dz_ixfr.specs.inner.Overlay.{Flagged, flagged, fallen, items, left_of, overlaid, has_tie, Rises, Finds, IsOverlay, first_before, AreAhead, Moves};
 
-use dz_form::is_apex_soa;
 use dz_name::Name;
 use dz_record::Rr;
+use dz_xfr::is_apex_soa;
 use dz_zone::Version;
 use std::alloc::{AllocError, Global};
 use std::cmp::Ordering;
 use std::collections::{BTreeSet, VecDeque};
 use std::marker::Model;
 
-/// One comparison lets so many records pass where none that joined stands among them.
+/// One comparison lets this many records pass where no added record belongs among them.
 const STRIDE: usize = 32;
 
-/// A record of the held zone, and whether it still stands.
+/// A record of the held zone, and whether it is still in the zone.
 #[derive(Debug, Drop)]
 struct Held {
     record: Rr,
@@ -41,18 +41,21 @@ impl Model for Held {
 }
 
 impl Held {
+    /// The record.
     fn record(&self) -> &Rr
         ensures { result.now ≡ self.now.item }
     {
         &self.record
     }
 
+    /// Whether it is still in the zone.
     fn stands(&self) -> bool
         ensures { result ≡ self.now.stands }
     {
         self.stands
     }
 
+    /// Marks the record as deleted.
     fn fall(&mut self)
         ensures { self.new ≡ fallen self.old }
     {
@@ -60,7 +63,7 @@ impl Held {
     }
 }
 
-/// The held records in canonical order, each with a flag, and those that joined.
+/// The held records in canonical order, each with a flag, and the added records.
 #[derive(Debug, Drop)]
 pub(crate) struct Standing {
     base: Vec<Held>,
@@ -80,7 +83,7 @@ impl Model for Standing {
 }
 
 impl Standing {
-    /// Nothing stands. It takes no memory.
+    /// No records. It takes no memory.
     pub(crate) fn none(alloc: Global) -> Standing
         ensures { result ≡ [] }
     {
@@ -90,7 +93,7 @@ impl Standing {
         }
     }
 
-    /// The records of a version without the SOA of its apex; they are shared.
+    /// The records of a version without the SOA of its apex; they are shared. `AllocError` where memory runs out.
     pub(crate) fn over(alloc: Global, held: &Version) -> Result<Standing, AllocError>
         ensures { IfOk result (λ s. s ≡ others held.now) }
     {
@@ -99,7 +102,7 @@ impl Standing {
         Ok(Standing { base, added })
     }
 
-    /// Takes a record away, whatever its TTL, and says whether it was there.
+    /// Removes a record, whatever its TTL, and says whether it was there.
     pub(crate) fn remove(&mut self, found: &Rr) -> bool
         ensures there { result ≡ is_there found.now self.old }
         ensures left { self.new ≡ without found.now self.old }
@@ -117,8 +120,8 @@ impl Standing {
         }
     }
 
-    /// Puts a record at its place unless the same is there, and says whether it was not. Where memory is wanting, what
-    /// stands is as it was.
+    /// Puts a record at its place unless the same is there, and says whether it was not. Where memory runs out, the
+    /// records are as they were.
     pub(crate) fn insert(&mut self, found: Rr) -> Result<bool, AllocError>
         ensures added { IfOk result (λ added. added ≡ not (is_there found self.old)) }
         ensures joined { IfOk result (λ added. OnTrue added (self.new ≡ insertion found self.old)) }
@@ -131,7 +134,7 @@ impl Standing {
         join(&mut self.added, found)
     }
 
-    /// All that stands, and the SOA at its place, in one pass that merges.
+    /// All records that are left, and the SOA at its place, in one merging pass. `AllocError` where memory runs out.
     pub(crate) fn merge(mut self, alloc: Global, soa: Rr) -> Result<Vec<Rr>, AllocError>
         requires { is_there soa self ≡ false }
         ensures { IfOk result (λ v. v.items ≡ insertion soa self) }
@@ -142,7 +145,7 @@ impl Standing {
     }
 }
 
-/// The records but the SOA of the apex; their octets are shared.
+/// The records but the SOA of the apex; their octets are shared. `AllocError` where memory runs out.
 fn shared(alloc: Global, apex: &Name, records: &[Rr]) -> Result<Vec<Held>, AllocError>
     ensures { IfOk result (λ v. v.items
         ≡ map flagged (filter (λ r. not (is_apex_soa apex.now r)) records.now)) }
@@ -159,7 +162,7 @@ fn shared(alloc: Global, apex: &Name, records: &[Rr]) -> Result<Vec<Held>, Alloc
     Ok(base)
 }
 
-/// Takes a record out of those that joined, and says whether it was among them.
+/// Removes a record from the added ones, and says whether it was among them.
 fn leave(added: &mut BTreeSet<Rr>, found: &Rr) -> bool
     ensures there { result ≡ has_tie record_order found.now added.old.keys }
     ensures left { added.new.keys ≡ remove_key (is_at (record_order found.now)) added.old.keys }
@@ -167,7 +170,8 @@ fn leave(added: &mut BTreeSet<Rr>, found: &Rr) -> bool
     added.remove(found)
 }
 
-/// Puts a record among those that joined unless it ties one, and says whether it doesn't.
+/// Puts a record among the added ones unless one of them compares equal, and says whether none does. `AllocError` where
+/// memory runs out.
 fn join(added: &mut BTreeSet<Rr>, found: Rr) -> Result<bool, AllocError>
     ensures new { IfOk result (λ new. new ≡ not (has_tie record_order found added.old.keys)) }
     ensures joined { OnOk result (added.new.keys ≡ insert_key record_order added.old.keys found) }
@@ -179,7 +183,7 @@ fn join(added: &mut BTreeSet<Rr>, found: Rr) -> Result<bool, AllocError>
     Ok(new)
 }
 
-/// Where the record stands in the base, or where it would.
+/// Where the record is in the base (`Ok`), or where it would be (`Err`).
 fn search(base: &[Held], found: &Rr) -> Result<usize, usize>
     requires { Rises record_order (items base.now) }
     ensures { Finds record_order base.now found.now result }
@@ -187,7 +191,7 @@ fn search(base: &[Held], found: &Rr) -> Result<usize, usize>
     base.binary_search_by(|held| held.record().record_cmp(found))
 }
 
-/// Clears a flag.
+/// Clears the flag of the record at this index.
 fn fall_at(base: &mut Vec<Held>, at: usize)
     requires { at < length base.old.items }
     ensures { (b : Flagged Record) → b ≡ slice_index_or base.old.items at b
@@ -196,7 +200,7 @@ fn fall_at(base: &mut Vec<Held>, at: usize)
     base[at].fall();
 }
 
-/// Whether a record of the base stands.
+/// Whether a record of the base is still in the zone.
 fn stands_in(base: &[Held], found: &Rr) -> bool
     requires { Rises record_order (items base.now) }
     ensures { result ≡ is_there found.now (left_of base.now) }
@@ -207,7 +211,7 @@ fn stands_in(base: &[Held], found: &Rr) -> bool
     }
 }
 
-/// Whether the first record that joined comes before this one.
+/// Whether the first added record comes before this one.
 fn comes_first(added: &BTreeSet<Rr>, bound: &Rr) -> bool
     ensures { result ≡ first_before record_order added.now.keys bound.now }
 {
@@ -217,7 +221,7 @@ fn comes_first(added: &BTreeSet<Rr>, bound: &Rr) -> bool
     }
 }
 
-/// Moves the records that come before this one.
+/// Moves the records that come before this one to the end of `out`. `AllocError` where memory runs out.
 fn push_before(out: &mut Vec<Rr>, added: &mut BTreeSet<Rr>, bound: &Rr) -> Result<(), AllocError>
     ensures { OnOk result (Moves record_order out.old.items added.old.keys bound.now out.new.items
         added.new.keys) }
@@ -231,7 +235,7 @@ fn push_before(out: &mut Vec<Rr>, added: &mut BTreeSet<Rr>, bound: &Rr) -> Resul
     Ok(())
 }
 
-/// How many of the next records surely come before all that joined, by one comparison.
+/// How many of the next records are sure to come before all added ones, by one comparison.
 fn ahead(rest: &VecDeque<Held>, added: &BTreeSet<Rr>) -> usize
     requires { Rises record_order (items rest.now.items) }
     ensures { AreAhead record_order added.now.keys (take result rest.now.items) }
@@ -242,8 +246,8 @@ fn ahead(rest: &VecDeque<Held>, added: &BTreeSet<Rr>) -> usize
     }
 }
 
-/// Moves what joined in front of a record, and says how many of the next records need no look. So many needed none
-/// before this one.
+/// Moves the added records that come before a record, and says how many of the next records need no look. Before that,
+/// `free` records from this one on were known to need none. `AllocError` where memory runs out.
 fn pass_to(
     bound: &Rr,
     rest: &VecDeque<Held>,
@@ -266,7 +270,7 @@ fn pass_to(
     Ok(free - 1)
 }
 
-/// The records that stand and those that joined, in order, in one pass.
+/// The records that are left and the added ones, in order, in one pass. `AllocError` where memory runs out.
 fn merged(alloc: Global, base: Vec<Held>, mut added: BTreeSet<Rr>) -> Result<Vec<Rr>, AllocError>
     requires { IsOverlay record_order base.items added.keys }
     ensures { IfOk result (λ v. v.items ≡ overlaid record_order added.keys (left_of base.items)) }

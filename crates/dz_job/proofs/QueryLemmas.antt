@@ -30,7 +30,7 @@ use Rattle.dz_take.specs.Query.{soa_asked}
 use Rattle.dz_take.specs.Transfer.{Transfer}
 
 -- ---- the RDATA of an SOA
--- a name has at most 255 octets, and the rest of the fields stand behind it
+-- a name has at most 255 octets, and the rest of the fields follow it
 record BehindName (fields : List Field) (rdata : Octets) (at : ℕ) : Type 0 where
   end : ℕ
   near : end ≤ at + 255
@@ -132,6 +132,6 @@ soa_in : (held : Option Zone) → IsHeldSoa (option_and_then apex_soa held)
 soa_in None = tt
 soa_in (Some zone) = soa_found zone (apex_soa zone) refl
 
--- the record that is sent beside the question is an SOA
+-- the record that is sent with the question is an SOA
 pub asks_soa : (t : Transfer) → IsHeldSoa (soa_asked t)
 asks_soa t = soa_in (base_of t.ask t.held)

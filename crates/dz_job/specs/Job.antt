@@ -7,8 +7,8 @@ use Rattle.dz_record.specs.declared.rr.Soa.{Soa}
 use Rattle.dz_zone.specs.Version.{Zone, apex_soa}
 use Rattle.dz_take.specs.Taken.{IsOfZone, CanAsk}
 use Rattle.dz_take.specs.Transfer.{Transfer}
-use Rattle.dz_member.specs.Key.{IsKey}
-use Rattle.dz_member.specs.declared.key.Key.{Key}
+use Rattle.dz_settings.specs.Key.{IsKey}
+use Rattle.dz_settings.specs.declared.key.Key.{Key}
 use Rattle.dz_history.specs.declared.entry.Taken.{Taken}
 use Rattle.dz_job.specs.declared.flight.Flight.{Flight}
 
@@ -18,21 +18,22 @@ pub record JobOf : Type 0 where
   pub held : Option Zone
   pub key : Option Key
 
--- differences are asked for beside a held version alone, which is of the job's zone, and the moment is below 2^40
+-- differences are asked for only where a version is held, which is of the job's zone, and the moment is below 2^40
 pub record IsJob (job : JobOf) : Type 0 where
   pub own : IsOfZone job.flight.zone job.held
   pub asks : CanAsk job.flight.ask job.held
   pub moment : job.flight.moment < 2 ^ 40
 
--- as it is kept: its key can be used
+-- a job as it is kept: its key can be used
 pub record IsReady (job : JobOf) : Type 0 where
   pub valid : IsJob job
   pub usable : ForSome job.key IsKey
 
--- the transfer that a job asks for, and the entry's transfer where its octets are taken
+-- the transfer that a job asks for
 abbrev pub transfer_for : JobOf → Transfer
 transfer_for job = record { apex = job.flight.zone; ask = job.flight.ask; id = job.flight.id; held = job.held }
 
+-- the entry in the history that records the transfer, where these octets are taken
 abbrev pub taken_for : JobOf → Octets → Taken
 taken_for job octets = record {
   zone = job.flight.zone;
@@ -43,15 +44,18 @@ taken_for job octets = record {
   moment = job.flight.moment;
 }
 
--- the SOA of a version that is held, and its numbers
+-- the SOA of a version that is held
 abbrev pub soa_in : Option Zone → Option Soa
 soa_in held = option_and_then (λ zone. option_and_then soa_of (apex_soa zone)) held
 
+-- its serial; 0 where no version is held
 abbrev pub serial_in : Option Zone → ℕ
 serial_in held = option_map_or (λ soa. soa.serial) (soa_in held) 0
 
+-- its REFRESH, in seconds; 0 where no version is held
 abbrev pub refresh_in : Option Zone → ℕ
 refresh_in held = option_map_or (λ soa. soa.refresh) (soa_in held) 0
 
+-- its RETRY, in seconds
 abbrev pub retry_in : Option Zone → Option ℕ
 retry_in held = option_map (λ soa. soa.retry) (soa_in held)

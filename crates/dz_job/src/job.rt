@@ -3,19 +3,19 @@
 ghost use Rattle.std.specs.Prelude.{◌≡◌, ◌==◌, option_map};
 ghost use Rattle.std.specs.Option.{ForSome};
 ghost use Rattle.std.specs.Arc.{arc_value};
-ghost use Rattle.dz_member.specs.Key.{IsKey};
+ghost use Rattle.dz_settings.specs.Key.{IsKey};
 ghost use Rattle.dz_job.specs.Job.{IsJob, IsReady};
 
 use crate::flight::Flight;
 use dz_io::Peer;
-use dz_member::Key;
 use dz_name::Name;
+use dz_settings::Key;
 use dz_take::Ask;
 use dz_zone::Version;
 use std::marker::Model;
 use std::sync::Arc;
 
-/// A job: the transfer of a zone from one of its primaries. It is spent by settling it, by its failure, or by
+/// A job: the transfer of a zone from one of its primaries. It is used up when it is settled or fails, or by
 /// [`Job::close`].
 #[derive(Debug)]
 pub struct Job {
@@ -95,7 +95,8 @@ impl Job {
         self.flight.id
     }
 
-    /// The version that was held as the job was handed out, which is of the zone. Beside none the whole zone is asked for.
+    /// The version that was held as the job was handed out, which is of the zone. Where there is none the whole zone is
+    /// asked for.
     pub fn held(&self) -> Option<&Arc<Version>>
         ensures held { option_map (λ r. r.now.value) result ≡ self.now.held }
         ensures valid { IsJob self.now }
@@ -139,7 +140,7 @@ impl Job {
         &self.held
     }
 
-    /// Lets a job go that is left where no event ends it.
+    /// Drops a job that no event will end.
     pub fn close(self) {
         let Job {
             flight: _,

@@ -4,9 +4,11 @@
 mod flight;
 mod job;
 mod query;
+mod stream;
 mod verdict;
 
 pub use flight::Flight;
 pub use job::Job;
 pub use query::QUERY_OCTETS;
+pub use stream::{start_taking, take_stream};
 pub use verdict::{Failure, Verdict};

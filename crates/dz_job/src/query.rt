@@ -14,12 +14,12 @@ use dz_record::Rr;
 use dz_take::Ask;
 use std::alloc::{AllocError, Global};
 
-/// The most octets of a query before it is signed: a header of 12, a question of 255 + 4, and an SOA record of
-/// 255 + 10 octets and 2 * 255 + 20 of RDATA.
+/// The most octets of a query before it is signed: a header of 12, a question of 255 + 4, and an SOA record of 255 + 10
+/// octets and 2 * 255 + 20 of RDATA.
 pub const QUERY_OCTETS: usize = 1066;
 
 impl Job {
-    /// The query that the job sends, unsigned, and without the length that TCP has before it.
+    /// The query that the job sends, unsigned, and without the two octets of length that precede it over TCP.
     ///
     /// # Errors
     ///
@@ -52,7 +52,7 @@ impl Job {
     }
 }
 
-/// What is known of the parts of the query.
+/// Brings in what is known of the parts of the query.
 fn is_asked(zone: &Name, held: Option<&Rr>) -> bool
     ensures zone { IsName zone.now }
     ensures held { IsHeld (option_map (λ r. r.now) held.entry) }

@@ -7,7 +7,7 @@ use dz_zonemd::Standing;
 /// What comes of a job that ended.
 #[derive(Debug, Drop)]
 pub enum Verdict {
-    /// A new version is held and answers, by the entry at this position; its serial, and what it changes beside itself.
+    /// A new version is held and answers, by the entry at this position; its serial, and what else it changes.
     Published {
         position: u64,
         serial: u32,

@@ -18,7 +18,8 @@ use Rattle.dz_lookup.proofs.Walk.{topmost_none, topmost_step, topmost_found, top
 use Rattle.dz_lookup.proofs.Within.{drop_within}
 use Rattle.dz_lookup.proofs.FoundLemmas.{no_cut, none_owned_at_all}
 
--- what is found above a name from which nothing is found after so many labels has as many labels as are left, and more
+-- what is found above a name, from which nothing is found after this many labels, has as many labels as are left, and
+-- more
 chosen : (b : Bool) (name found : Name) → (if b then Some name else None) ≡ Some found → name ≡ found
 chosen true name found h = cc
 chosen false name found h = absurd (cc)
@@ -37,7 +38,7 @@ topmost_long test [] found (suc k) le none is = absurd (omega arith)
 topmost_long test (label ∷ labels) found (suc k) le none is =
     long_or test label labels found k (topmost test labels) (λ e. topmost_long test labels found k (omega arith) none e) is
 
--- the DNAME above a name stands above the name's first label
+-- the DNAME above a name is above the name's first label
 dname_is : (zone : List Record) (name : Name) → 0 < length name → dname zone name ≡ topmost (owns zone 39) (drop 1 name)
 dname_is zone [] some = absurd (omega arith)
 dname_is zone (label ∷ labels) some = refl
@@ -112,7 +113,7 @@ dname_at_apex apex zone (label ∷ labels) owners short = none_higher apex zone 
 pub no_barrier_at_apex : (apex : Name) (zone : List Record) (kind : ℕ) (name : Name) → All (λ r. is_within r.owner apex ≡ true) zone → length name ≤ length apex → None ≡ barrier zone (cut_for apex zone kind name) (dname zone name)
 no_barrier_at_apex apex zone kind name owners short = barrier_none zone _ _ (cut_for_none apex zone kind name (none_above apex zone name 0 owners (omega arith))) (dname_at_apex apex zone name owners short)
 
--- a walk has come down to what stands behind so many labels, and found nothing
+-- a walk has come down to what follows this many labels, and found nothing
 pub record IsClear (apex : Name) (zone : List Record) (name : Name) (skip : ℕ) : Type 0 where
   pub within : skip + length apex ≤ length name
   pub cuts : cut apex zone (drop skip name) ≡ None
@@ -157,7 +158,7 @@ clear_step apex zone name skip some is no_cut no_dname =
       dnames = rw no_dname at step;
     }
 
--- a DNAME stands there
+-- a DNAME is there
 shorter : (zone : List Record) (at : Option Name) (above : Name) → ((c : Name) → at ≡ Some c → length above < length c) → Some (renaming (of_type 39 (records_of zone above))) ≡ barrier zone at (Some above)
 shorter zone None above less = refl
 shorter zone (Some c) above less = let t : nat_lt (length above) (length c) ≡ true = grind (arith, nat_tests, less c refl) in rw t refl
@@ -188,7 +189,7 @@ renamed_by_apex apex zone kind name owners inside long has =
     let none : cut apex zone apex ≡ None = none_above apex zone apex 0 owners (omega arith) in
     renamed_at apex zone kind name apex (length name - length apex) (omega arith) (omega arith) (sym (above_apex name apex inside)) none (apex_alone apex zone owners ∙ rw has refl)
 
--- a cut stands there
+-- a cut is there
 not_shorter : (zone : List Record) (at : Name) (above : Option Name) → ((d : Name) → above ≡ Some d → length at ≤ length d) → Some (referral (of_type 2 (records_of zone at))) ≡ barrier zone (Some at) above
 not_shorter zone at None less = refl
 not_shorter zone at (Some d) less = let t : nat_lt (length d) (length at) ≡ false = grind (arith, nat_tests, less d refl) in rw t refl
@@ -224,7 +225,7 @@ cut_is_here apex zone kind name skip some is has counts =
     not_shorter zone (drop (skip - 1) name) (dname zone name) (λ d f. omega (arith, above_long zone name d skip some (omega (arith, is.within)) is.dnames f, length-drop (skip - 1) name))
     ∙ ap (λ at. barrier zone at (dname zone name)) (sym top)
 
--- nothing exists there, so nothing stands below
+-- nothing exists there, so nothing is below
 pub nothing_below : (apex : Name) (zone : List Record) (kind : ℕ) (name : Name) (skip : ℕ) → 1 < skip → IsClear apex zone name skip → exists zone (drop (skip - 1) name) ≡ false
     → None ≡ barrier zone (cut_for apex zone kind name) (dname zone name)
 nothing_below apex zone kind name skip some is missing =

@@ -11,7 +11,7 @@ use Rattle.dz_lookup.specs.Counted.{TakesSearches, IsLookup}
 pub searches_none : (searches records taken : ℕ) → taken ≡ 0 → TakesSearches searches records taken
 searches_none searches records taken none bits h = omega arith
 
--- one lot of searches behind another
+-- one lot of searches after another
 pub searches_add : (a b records s t u : ℕ) → TakesSearches a records s → TakesSearches b records t → u ≤ s + t → TakesSearches (a + b) records u
 searches_add a b records s t u first second le bits h = rw (add-mul a b (bits + 1)) (omega (arith, first bits h, second bits h))
 

@@ -33,7 +33,7 @@ later_name first (place ∷ []) k d e lt = absurd (omega arith)
 later_name first (place ∷ next ∷ places) zero d e lt = refl
 later_name first (place ∷ next ∷ places) (suc k) d e lt = later_name (behind first (record_in place)) (next ∷ places) k d e (omega arith)
 
--- a record behind the others
+-- a record after the others
 pub pushed_first : (first name : Name) (places : List (Option (Bor Record))) (alias : Option (Bor Record)) (aliases : Trail) → length places ≡ 0 → pairs_of first places ≡ aliases
     → pairs_of name (places ++ alias ∷ []) ≡ aliases ++ (name, record_in alias) ∷ []
 pushed_first first name [] alias aliases e is = rw (← is) refl
@@ -77,7 +77,7 @@ seen_later aliases k name found d lt is same = rw (drop_more aliases k d lt) (rw
 pub seen_none : (aliases : Trail) (k : ℕ) (name : Name) → length aliases ≤ k → was_looked_up (drop k aliases) name ≡ false
 seen_none aliases k name le = rw (drop_all k aliases le) refl
 
--- whether a record stands among the first ones
+-- whether a record is among the first ones
 pub among_here : (trail : Trail) (k upto : ℕ) (r found : Record) (d : Name × Record) → k < upto → upto ≤ length trail → found ≡ (get_or trail k d).1 → same_record found r ≡ true
     → list_any (λ a. same_record a.1 r) (take upto trail) ≡ true
 among_here trail k upto r found d lt le is same =

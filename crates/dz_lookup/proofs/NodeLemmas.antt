@@ -147,7 +147,7 @@ module _ (zone : List Record) (begin end : ℕ) (d : Record) (up : IsStrictlySor
     kinds = subst (λ rs. IsNonDecreasingBy (λ (r : Record). r.kind) rs) (sym run_records) (node_kinds zone (get_or zone begin d).owner up);
   }
 
--- where a name would stand that owns no record
+-- where a name that owns no record would be
 pub no_node : (zone : List Record) (name : List (List ℕ)) (i : ℕ) → IsStrictlySortedBy record_order zone → i ≤ length zone → IsBegin (from_owner name) zone i → IsEnd (from_owner name) zone i → IsNodeOf zone name i []
 no_node zone name i up room begin end =
     let nothing : i - i ≡ 0 = omega arith in

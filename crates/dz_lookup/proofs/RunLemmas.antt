@@ -1,4 +1,4 @@
--- The elements that stand where one looks for them are one run of a list in order.
+-- The elements that are looked for are one run of a list in order.
 use Rattle.std.proofs.Common.{◌≡◌, ℕ, ◌+◌, ◌-◌, ◌<◌, ◌≤◌, Bool, true, false, List, [], ◌∷◌, ◌++◌, length, take, drop, get_or, get_or-drop, refl, sym, ◌∙◌, ap, arith, length-drop, length-take-le, inl, inr}
 use Rattle.std.specs.Prelude.{filter}
 use Rattle.std.specs.List.{All}
@@ -54,7 +54,7 @@ points_rise ord (x ∷ xs) i j within low high = elim (cases_lt j i) [
       absurd (cc)
 ]
 
--- what stands between the two is what is looked for
+-- what is between the two is what is looked for
 pub run_is : {X : Type 0} (ord : X → Ordering) (xs : List X) (i j : ℕ) → i ≤ length xs → j ≤ length xs
     → IsPartitionPoint (λ y. is_lt (ord y) ≡ true) (λ y. is_lt (ord y) ≡ false) xs i
     → IsPartitionPoint (λ y. is_le (ord y) ≡ true) (λ y. is_le (ord y) ≡ false) xs j
@@ -105,7 +105,7 @@ partitioned_lt ord xs up i j d le within h = index_lt (ord (get_or xs i d)) (ord
 pub partitioned_le : {X : Type 0} (ord : X → Ordering) (xs : List X) → IsNonDecreasingBy (λ y. ordering_index (ord y)) xs → IsPartitionedBy (λ y. is_le (ord y)) xs
 partitioned_le ord xs up i j d le within h = index_le (ord (get_or xs i d)) (ord (get_or xs j d)) (up i j d le within) h
 
--- where what is looked for begins, and all up to an element behind it are what is looked for, it ends there
+-- where what is looked for begins, and all up to an element after it are what is looked for, it ends there
 eq_is_le : (o : Ordering) → is_eq o ≡ true → is_le o ≡ true
 eq_is_le Less h = absurd (cc)
 eq_is_le Equal h = refl

@@ -32,7 +32,7 @@ unfolding upward
 encloser_root zone [] e none = rw none refl
 encloser_root zone (label ∷ labels) e none = absurd (cc)
 
--- the wire form of a name that stands behind a label is at least two octets shorter
+-- the wire form of a name that follows a label is at least two octets shorter
 pub wire_grows : (name : List (List ℕ)) (k : ℕ) → k < length name → AllByRecursion IsLabel (drop k name) → length (wire_of (drop (k + 1) name)) + 2 ≤ length (wire_of (drop k name))
 unfolding wire_of
 wire_grows [] k h each = absurd (omega arith)

@@ -1,4 +1,4 @@
--- In canonical order the names within a name follow it, and nothing stands between them.
+-- In canonical order the names within a name follow it, and nothing comes between them.
 use Rattle.std.specs.Prelude.{nat_lt, ◌&&◌, Bool}
 use Rattle.std.proofs.lemmas.Bool.Decides.{nat_tests}
 use Rattle.dz_lookup.specs.inner.Links.{no_record}
@@ -134,7 +134,7 @@ pub look_alone : (zone : List Record) (name above : List (List ℕ)) (i : ℕ) (
 look_alone zone name above i here up begin room inner here_is unseen first =
     sym (none_beside zone name above i up begin room inner (look_fails zone above i here here_is unseen) (λ d some. absurd (omega arith)))
 
--- what is left of a name behind its first labels is a name above it
+-- what is left of a name after its first labels is a name above it
 pub drop_within : (name : List (List ℕ)) (j k : ℕ) → j ≤ k → is_within (drop j name) (drop k name) ≡ true
 drop_within name j k le =
     let n : j + (k - j) ≡ k = omega arith in

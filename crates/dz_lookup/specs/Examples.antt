@@ -8,7 +8,7 @@ use Rattle.dz_record.specs.Records.{insertion, in_order}
 use Rattle.dz_lookup.specs.Found.{here, no_data, no_name, referral, rename, found, topmost}
 use Rattle.dz_lookup.specs.Chain.{chain_of, chain_from, ended, stopped, too_long}
 
--- a record whose RDATA is of no account
+-- a record whose RDATA doesn't matter
 abbrev record_of : Kind → Name → Record
 record_of kind owner = record { owner = owner; kind = kind; ttl = 3600; rdata = [] }
 
@@ -16,14 +16,15 @@ record_of kind owner = record { owner = owner; kind = kind; ttl = 3600; rdata = 
 abbrev cname : Name → Name → Record
 cname owner target = record { owner = owner; kind = TYPE_CNAME; ttl = 3600; rdata = wire_of target }
 
--- example.
+-- `example.`
 abbrev example : Name
 example = codes "example" ∷ []
 
+-- a name one label below `example.`
 abbrev below : Octets → Name
 below label = label ∷ example
 
--- RFC 4592 section 2.2.1
+-- the zone of RFC 4592 section 2.2.1
 abbrev zone : List Record
 zone =
     record_of TYPE_SOA example
@@ -90,7 +91,7 @@ pub wildcard_any : found example zone (below (codes "host3")) TYPE_ANY ≡ here 
 unfolding found upward topmost in_order insertion
 wildcard_any = refl
 
--- of two cuts above a name the one nearest the apex counts, and what stands below it is no answer
+-- a zone with two cuts above a name: the one nearest the apex counts, and what is below it is no answer
 abbrev cuts : List Record
 cuts =
     record_of TYPE_SOA example
@@ -103,7 +104,7 @@ pub nearest_cut : found example cuts (codes "ns" ∷ codes "b" ∷ below (codes 
 unfolding found upward topmost in_order insertion
 nearest_cut = refl
 
--- a wildcard's CNAME is noted with the asked name, and its target is looked up next
+-- a zone with aliases: a wildcard's CNAME is noted with the asked name, and its target is looked up next
 abbrev aliases : List Record
 aliases =
     record_of TYPE_SOA example
@@ -129,10 +130,12 @@ pub leads_out : chain_of example aliases (below (codes "out")) TYPE_A
 unfolding chain_of chain_from found upward topmost in_order insertion wire_of labels_in
 leads_out = refl
 
--- a DNAME gives the names below it other names, but not its owner, and of two the one nearest the apex counts
+-- a DNAME, whose RDATA is the wire form of its target
 abbrev dname : Name → Name → Record
 dname owner target = record { owner = owner; kind = TYPE_DNAME; ttl = 3600; rdata = wire_of target }
 
+-- a zone with DNAMEs: each gives the names below it other names, but not its owner, and of two the one nearest the apex
+-- counts
 abbrev renamers : List Record
 renamers =
     record_of TYPE_SOA example
@@ -183,7 +186,8 @@ pub renamed_for_all_types : chain_of example renamers (codes "w" ∷ below (code
 unfolding chain_of chain_from found upward topmost in_order insertion wire_of labels_in
 renamed_for_all_types = refl
 
--- a new name isn't looked up where it is outside the zone, as with the root as the target, or was looked up before
+-- a zone with DNAMEs whose new names aren't looked up: outside the zone, as with the root as the target, or looked up
+-- before
 abbrev leaving : List Record
 leaving =
     record_of TYPE_SOA example
@@ -206,10 +210,11 @@ pub renamed_by_the_apex : found example (record_of TYPE_SOA example ∷ dname ex
 unfolding found upward topmost in_order insertion wire_of
 renamed_by_the_apex = refl
 
--- a name that would have more than 255 octets ends the chain
+-- a label of 63 octets: a name that would have more than 255 octets ends the chain
 abbrev long : Octets
 long = codes "aaaaaaaaaaaaaaaaaaaaaaaaaaaaaaaaaaaaaaaaaaaaaaaaaaaaaaaaaaaaaaa"
 
+-- a DNAME with a target that leaves no room for another such label
 abbrev far : Record
 far = dname (below (codes "d")) (long ∷ long ∷ long ∷ example)
 

@@ -25,16 +25,16 @@ use std::sync::ledger::{Blank, Ledger};
 pub enum Last<'a> {
     /// With what is found for its last name.
     Found(Found<'a>, Name),
-    /// A further name isn't looked up: it is outside the zone, it was looked up before, 16 records were followed, or the
-    /// CNAME that a DNAME makes answers.
+    /// A further name isn't looked up: it is outside the zone, it was looked up before, 16 records were followed, or
+    /// the CNAME that a DNAME makes answers.
     Stopped,
     /// The name that this DNAME gives to the last name has more than 255 octets.
     NameTooLong(&'a Rr),
 }
 
-/// The CNAME and DNAME records that lead on from a name, at most 16, each with the name that it was found for. Contracts see
-/// it as the list of these pairs. Only the first name is kept: each other one is where the record before leads to. Beside
-/// them it has a number in the index near which its end was found.
+/// The CNAME and DNAME records that lead on from a name, at most 16, each with the name that it was found for.
+/// Contracts see it as the list of these pairs. Only the first name is kept: each other one is where the record before
+/// leads. It also has a number in the index near which its end was found.
 #[derive(Drop)]
 pub struct Chain<'a> {
     first: Name,
@@ -67,9 +67,9 @@ impl<'a> Chain<'a> {
         }
     }
 
-    /// The addresses of a name that may be the owner so many after the one that follows the zone cut at which the chain
-    /// ends, as its name servers often are. That owner is looked at first; where it isn't the name, the name is searched
-    /// once.
+    /// The addresses of a name, which may be the owner `number` places after the one that follows the zone cut at which
+    /// the chain ends, as its name servers often are. That owner is looked at first; where it isn't the name, the name
+    /// is searched once.
     pub fn addresses_of<'v>(
         &self,
         version: &'v Version,
@@ -86,9 +86,9 @@ impl<'a> Chain<'a> {
         addresses_near(version, name, self.near.saturating_add(number))
     }
 
-    /// A number in the index of the version, a hint where to look first (`rrset_near`, `place_near`, `source`): where the chain
-    /// ends at a zone cut, that of the owner that follows it; else that of the last name, or of the owner that follows it. Any
-    /// number gives the same answers, so that contracts say nothing of it.
+    /// A number in the index of the version, a hint where to look first (`rrset_near`, `place_near`, `source`). Where
+    /// the chain ends at a zone cut, it is that of the owner that follows the cut; else that of the last name, or of
+    /// the owner that follows it. Any number gives the same answers, so that contracts say nothing of it.
     pub fn near(&self) -> usize {
         self.near
     }
@@ -117,7 +117,7 @@ impl<'a> Chain<'a> {
         self.first
     }
 
-    /// Where a record leads to from the name that it was found for: the name of the next record, if there is one.
+    /// Where a record leads from the name that it was found for: the name of the next record, if there is one.
     pub fn target(&self, number: usize, name: &Name) -> Name
         requires within { number < length self.now }
         requires name { (d : Name × Record) → name.now ≡ (slice_index_or self.now number d).0 }
@@ -130,7 +130,7 @@ impl<'a> Chain<'a> {
         behind(name, self.record(number))
     }
 
-    /// Whether the record stands among the first ones.
+    /// Whether the record is among the first ones.
     pub fn has_among(&self, upto: usize, rr: &Rr) -> bool
         requires { upto ≤ length self.now }
         ensures { result ≡ list_any (λ a. same_record a.1 rr.now) (take upto self.now) }
@@ -155,14 +155,14 @@ impl<'a> Chain<'a> {
         }
     }
 
-    /// Takes all records away.
+    /// Removes all records.
     fn clear(&mut self)
         ensures { self.new ≡ [] }
     {
         self.records.clear();
     }
 
-    /// Puts a record behind the others, found for a name that is the first, or that the last record leads to.
+    /// Puts a record after the others, found for a name that is the first, or to which the last record leads.
     fn push(&mut self, name: &Name, rr: &'a Rr)
         requires room { length self.old < ALIASES }
         requires next { IsNext name.now self.old }
@@ -191,7 +191,7 @@ impl<'a> Chain<'a> {
     }
 }
 
-/// Where a record leads to from a name, the root where it leads nowhere.
+/// Where a record leads from a name, the root where it leads nowhere.
 fn behind(name: &Name, rr: &Rr) -> Name
     ensures { result ≡ behind name.now rr.now }
 {
@@ -227,7 +227,7 @@ fn renamed(name: &Name, renamer: &Rr) -> Option<Name>
 }
 
 /// Follows CNAME and DNAME records from a name within the apex on, from name to name (RFC 1034 section 4.3.2, RFC 6672
-/// section 3.2): the chain becomes these records, and the answer is how it ends.
+/// section 3.2). The chain becomes these records, and the answer is how it ends.
 pub fn chase<'a>(version: &'a Version, name: &Name, kind: u16, chain: &mut Chain<'a>) -> Last<'a>
     requires within { is_within name.now version.now.apex ≡ true }
     ensures trail { chain.new
@@ -239,8 +239,8 @@ pub fn chase<'a>(version: &'a Version, name: &Name, kind: u16, chain: &mut Chain
     follow::<Brand>(Blank::new(1), version, name, kind, chain)
 }
 
-/// Follows CNAME and DNAME records from name to name, and puts them into a chain without any; counted in a ledger that is
-/// still blank.
+/// Follows CNAME and DNAME records from name to name, and puts them into a chain without any; counted in a ledger that
+/// is still blank.
 fn follow<'a, L: Ledger>(
     blank: Blank,
     version: &'a Version,

@@ -38,16 +38,17 @@ pub enum Found<'a> {
     Rename(&'a Rr),
 }
 
-/// What is found, and near which owner more of it may stand.
+/// What is found, and near which owner more of it may be.
 #[derive(Clone, Copy)]
 pub(crate) struct Finding<'a> {
     pub(crate) found: Found<'a>,
-    /// A number in the index: of the owner that follows a zone cut, or else of the name or of the owner that follows it.
+    /// A number in the index: of the owner that follows a zone cut, or else of the name or of the owner that follows
+    /// it.
     pub(crate) near: usize,
 }
 
 impl<'a> Finding<'a> {
-    /// The cut of these servers at the owner of a number.
+    /// A zone cut with these servers, found at the owner of a number.
     fn at_cut(servers: &'a [Rr], number: usize) -> Finding<'a>
         ensures { meaning result.found ≡ referral servers.now }
     {
@@ -78,9 +79,9 @@ impl<'a> Found<'a> {
     }
 }
 
-/// What a zone says of a name within its apex and a type (RFC 1034 section 4.3.2, RFC 4592, RFC 6672); the type ANY asks
-/// for all records. The name is searched once; so is each name between it and the apex where the zone has a cut or a DNAME,
-/// and a wildcard where the name doesn't exist, but for those that are found near the name.
+/// What a zone says of a name within its apex and a type (RFC 1034 section 4.3.2, RFC 4592, RFC 6672); the type ANY
+/// asks for all records. The name is searched once. So is each name between it and the apex where the zone has a cut or
+/// a DNAME, and a wildcard where the name doesn't exist, but for those that are found near the name.
 pub fn find<'a, L: Ledger>(
     version: &'a Version,
     name: &Name,
@@ -96,7 +97,7 @@ pub fn find<'a, L: Ledger>(
     find_near(version, name, kind, steps).found
 }
 
-/// The same, and near which owner more of it may stand.
+/// The same, and near which owner more of it may be.
 pub(crate) fn find_near<'a, L: Ledger>(
     version: &'a Version,
     name: &Name,
@@ -117,7 +118,7 @@ pub(crate) fn find_near<'a, L: Ledger>(
     }
 }
 
-/// What the node has that answers for a name: the name's own, or else a wildcard's.
+/// What the node that answers for a name gives: the name's own, or else a wildcard's.
 fn at_source<'a, L: Ledger>(
     version: &'a Version,
     name: &Name,
@@ -146,8 +147,8 @@ fn at_source<'a, L: Ledger>(
     }
 }
 
-/// What a wildcard has that answers, where it exists (RFC 4592 section 3.3.1). It may stand at the owner of a number in the
-/// index, or in front of that one.
+/// What a wildcard gives, where it exists (RFC 4592 section 3.3.1). It may be at the owner of a number in the index, or
+/// before that one.
 fn at_wildcard<'a, L: Ledger>(
     version: &'a Version,
     wildcard: &Name,
@@ -168,7 +169,7 @@ fn at_wildcard<'a, L: Ledger>(
     }
 }
 
-/// The records of a node that answer, or its CNAME, or nothing.
+/// The records of a node that answer, or its CNAME, or no data.
 fn at_node<'a>(node: &'a [Rr], kind: u16) -> Found<'a>
     requires { IsNonDecreasingBy (λ r. r.kind) node.now }
     ensures { meaning result ≡ at_node kind node.now }
@@ -255,8 +256,8 @@ fn renamer_of<'a>(version: &Version, owner: &NameRef, records: &'a [Rr]) -> Opti
     }
 }
 
-/// The same as `barrier` where the apex owns no DNAME and the name has so many labels more than it. Only the names below the
-/// apex are looked at, longer and longer, as far as they exist.
+/// The same as `barrier` where the apex owns no DNAME and the name has this many labels more than it. Only the names
+/// below the apex are looked at, longer and longer, as far as they exist.
 fn barrier_below<'a, L: Ledger>(
     version: &'a Version,
     name: &Name,
@@ -306,8 +307,8 @@ fn barrier_below<'a, L: Ledger>(
     }
 }
 
-/// The closest encloser of a name that doesn't exist, strictly above it (RFC 4592 section 3.3.1). The name would stand at the
-/// place `begin`.
+/// The closest encloser of a name that doesn't exist, strictly above it (RFC 4592 section 3.3.1). The name would be at
+/// the place `begin`.
 fn encloser_for<'n>(records: &[Rr], name: &'n Name, begin: usize) -> Option<NameRef<'n>>
     requires sorted { IsStrictlySortedBy record_order records.now }
     requires room { begin ≤ length records.now }
@@ -330,8 +331,8 @@ fn encloser_for<'n>(records: &[Rr], name: &'n Name, begin: usize) -> Option<Name
 }
 
 /// Where the answer for a name comes from: the name itself, or else the wildcard below its closest encloser; none where
-/// neither exists (RFC 4592 section 3.3.1). Each of the two is looked at near the owner of a number in the index, and searched
-/// where it isn't there. Any number gives the same answer.
+/// neither exists (RFC 4592 section 3.3.1). Each of the two is first looked for near the owner of a number in the
+/// index, and searched where it isn't there. Any number gives the same answer.
 pub fn source<L: Ledger>(
     version: &Version,
     name: &Name,
@@ -358,8 +359,8 @@ pub fn source<L: Ledger>(
     }
 }
 
-/// The wildcard below the closest encloser of a name that doesn't exist, whether the wildcard exists or not (RFC 4592 section
-/// 3.3.1). So many records stand before those of the name. It takes no search.
+/// The wildcard below the closest encloser of a name that doesn't exist, whether the wildcard exists or not (RFC 4592
+/// section 3.3.1). `place` is how many records precede those of the name. It takes no search.
 pub fn wildcard_of(version: &Version, name: &Name, place: usize) -> Option<Name>
     requires missing { exists version.now.records name.now ≡ false }
     requires room { place ≤ length version.now.records }

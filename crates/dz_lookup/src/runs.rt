@@ -21,8 +21,8 @@ use std::cmp::Ordering;
 use std::marker::Brand;
 use std::sync::ledger::{Blank, Ledger};
 
-/// How many owners are looked at before a name near another is searched: as many as a zone cut and the addresses below it
-/// often have.
+/// How many owners are looked at before a name near another is searched: as many as a zone cut and the addresses below
+/// it often have.
 pub(crate) const NEAR: usize = 5;
 
 /// The number of the apex among the owners in the index.
@@ -48,9 +48,10 @@ pub fn rrset_of<'a>(version: &'a Version, name: &Name, kind: u16) -> &'a [Rr]
     counted_rrset::<Brand>(Blank::new(1), version, name, kind)
 }
 
-/// The records of an owner and a type, in the order of RDATA (an RRset, RFC 2181 section 5). A few owners are looked at first:
-/// of an owner with as many octets as the apex the apex alone, else those from the one of a number in the index to the front.
-/// Any number gives the same records; where the owner isn't among those looked at, it is searched once.
+/// The records of an owner and a type, in the order of RDATA (an RRset, RFC 2181 section 5). A few owners are looked at
+/// first: of an owner with as many octets as the apex the apex alone, else those from the one of a number in the index
+/// back to earlier ones. Any number gives the same records; where the owner isn't among those looked at, it is searched
+/// once.
 pub fn rrset_near<'a, L: Ledger>(
     version: &'a Version,
     owner: &NameRef,
@@ -70,8 +71,8 @@ pub fn rrset_near<'a, L: Ledger>(
     of_type(node_near(version, owner, first, NEAR, steps).records, kind)
 }
 
-/// How many records stand before those of a name, whether it owns any or not. Where the name would stand right before the
-/// owner of a number in the index, or is that owner, no search is made, else one. Any number gives the same place.
+/// How many records precede those of a name, whether it owns any or not. Where the name would be right before the owner
+/// of a number in the index, or is that owner, no search is made, else one. Any number gives the same place.
 pub fn place_near<L: Ledger>(
     version: &Version,
     name: &NameRef,
@@ -107,6 +108,7 @@ impl<'a> Addresses<'a> {
 }
 
 impl<'a> Default for Addresses<'a> {
+    /// No addresses.
     fn default() -> Addresses<'a> {
         Addresses::none()
     }
@@ -132,7 +134,7 @@ pub(crate) fn addresses_near<'a>(version: &'a Version, name: &Name, number: usiz
     counted_addresses::<Brand>(Blank::new(1), version, name, number)
 }
 
-/// The same, counted in a ledger that is still blank.
+/// The same as [`records_of`], counted in a ledger that is still blank.
 fn counted_records<'a, L: Ledger>(blank: Blank, version: &'a Version, name: &Name) -> &'a [Rr]
     requires name { blank.name ≡ L.name }
     requires parts { blank.parts ≡ L.parts }
@@ -143,6 +145,7 @@ fn counted_records<'a, L: Ledger>(blank: Blank, version: &'a Version, name: &Nam
     node_of(version, &name.as_ref(), &mut steps).records
 }
 
+/// The same as [`rrset_of`], counted in a ledger that is still blank.
 fn counted_rrset<'a, L: Ledger>(
     blank: Blank,
     version: &'a Version,
@@ -158,6 +161,7 @@ fn counted_rrset<'a, L: Ledger>(
     of_type(node_of(version, &name.as_ref(), &mut steps).records, kind)
 }
 
+/// The same as [`addresses_near`], counted in a ledger that is still blank.
 fn counted_addresses<'a, L: Ledger>(
     blank: Blank,
     version: &'a Version,
@@ -180,8 +184,8 @@ fn counted_addresses<'a, L: Ledger>(
     }
 }
 
-/// The records of an owner, in order, the place in the zone where they begin or would begin, and the number of the owner in
-/// the index, or that of the one that stands there in its place.
+/// The records of an owner, in order, the place in the zone where they begin or would begin, and the number of the
+/// owner in the index, or that of the owner that is there instead.
 #[derive(Clone, Copy)]
 pub(crate) struct Node<'a> {
     pub(crate) number: usize,
@@ -212,7 +216,7 @@ pub(crate) fn node_of<'a, L: Ledger>(
     }
 }
 
-/// The node of the owner whose records stand in a run of the index.
+/// The node of the owner whose records are a run of the index.
 fn node_of_run<'a>(version: &'a Version, run: &Run) -> Node<'a>
     requires { IsRun (owners_of version.now.records) run.now.begin run.now.end }
     ensures { (d : Record) → IsNodeOf version.now.records
@@ -239,7 +243,8 @@ fn node_at<'a>(version: &'a Version, name: &NameRef, number: usize) -> Option<No
     }
 }
 
-/// The node of a name. So many owners are looked at first, from the one of a number to the front.
+/// The node of a name. The given number of owners (`looks`) are looked at first, from the one of a number in the index
+/// back to earlier ones.
 pub(crate) fn node_near<'a, L: Ledger>(
     version: &'a Version,
     name: &NameRef,
@@ -264,8 +269,8 @@ pub(crate) fn node_near<'a, L: Ledger>(
     node_of(version, name, steps)
 }
 
-/// The node of a name, where it stands or would stand right before the records of the owner of a number, or is that owner;
-/// none where it doesn't, and none for the first owner. It takes no search.
+/// The node of a name, where it is or would be right before the records of the owner of a number, or is that owner;
+/// none where it isn't, and none for the first owner. It takes no search.
 fn node_beside<'a>(version: &'a Version, name: &NameRef, number: usize) -> Option<Node<'a>>
     ensures { IfSome result
         (λ node. IsNodeOf version.now.records name.now node.place node.records.now) }
@@ -291,7 +296,7 @@ fn node_beside<'a>(version: &'a Version, name: &NameRef, number: usize) -> Optio
     }
 }
 
-/// The node of a name, by what stands beside the owner of a number, or else by one search.
+/// The node of a name, by what is beside the owner of a number, or else by one search.
 pub(crate) fn node_at_or_of<'a, L: Ledger>(
     version: &'a Version,
     name: &NameRef,
@@ -310,8 +315,8 @@ pub(crate) fn node_at_or_of<'a, L: Ledger>(
     }
 }
 
-/// The node of a wildcard. Where it is the apex's, what follows the apex's records is looked at first; then the owners
-/// up to a number.
+/// The node of a wildcard. Where the wildcard is directly below the apex, what follows the apex's records is looked at
+/// first; then a few owners up to the one of a number.
 pub(crate) fn node_of_wildcard<'a, L: Ledger>(
     version: &'a Version,
     wildcard: &NameRef,
@@ -343,8 +348,8 @@ pub(crate) fn of_type<'a>(node: &'a [Rr], kind: u16) -> &'a [Rr]
     between(node, begin, end)
 }
 
-/// Whether the name, or a name below it, owns a record (RFC 4592 section 2.2.2), by the place where its own records stand
-/// or would stand. Of the names from this one on, those within it come first.
+/// Whether the name, or a name below it, owns a record (RFC 4592 section 2.2.2), by the place where its own records are
+/// or would be. Of the names from this one on, those within it come first.
 pub(crate) fn exists_at(records: &[Rr], place: usize, name: &NameRef) -> bool
     requires sorted { IsStrictlySortedBy record_order records.now }
     requires point { IsBegin (from_owner name.now) records.now place }
@@ -353,8 +358,8 @@ pub(crate) fn exists_at(records: &[Rr], place: usize, name: &NameRef) -> bool
     place < records.len() && records[place].owner_ref().is_within(name)
 }
 
-/// Whether a name exists, by the place where a name within it stands or would stand: of the records within the name, one
-/// stands beside that place.
+/// Whether a name exists, by the place where a name within it is or would be: of the records within the name, one is
+/// beside that place.
 pub(crate) fn exists_beside(records: &[Rr], place: usize, above: &NameRef) -> bool
     requires sorted { IsStrictlySortedBy record_order records.now }
     requires room { place ≤ length records.now }
@@ -370,7 +375,7 @@ pub(crate) fn exists_beside(records: &[Rr], place: usize, above: &NameRef) -> bo
     is_within_at(records, place - 1, above)
 }
 
-/// Whether a record stands at a place, and its owner is within a name.
+/// Whether there is a record at a place, and its owner is within a name.
 fn is_within_at(records: &[Rr], place: usize, above: &NameRef) -> bool
     ensures { (d : Record) → result
         ≡ (nat_lt place (length records.now)

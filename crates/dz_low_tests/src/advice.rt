@@ -1,6 +1,6 @@
 //! Tests of `dz_advice`.
 
-use dz_advice::{Advice, Expected, Kept, Key, Place, advise};
+use dz_config::{Advice, Expected, Kept, Key, Place, advise};
 use dz_io::{MemorySource, Source};
 use std::alloc::{AllocError, Global};
 use std::process::Abort;
@@ -65,6 +65,7 @@ const ROWS: &[(&[u8], usize, Expected)] = &[
     ),
 ];
 
+/// The advice on a text names this line and what was expected there.
 fn expect_advice(rt: &impl Abort, alloc: Global, text: &[u8], line: usize, expected: Expected) {
     let told = advise(alloc, text);
     assert_eq!(rt; told, Some(Advice { line, expected }), "{text:?}");

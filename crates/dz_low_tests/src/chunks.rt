@@ -27,6 +27,7 @@ impl Lead for Key {
     ghost one = { λ a b tie.
         ap (λ number. record { number = number }) (nat_cmp-IsAntisymmetric a.number b.number tie) };
 
+    /// The first 16 octets of a key: zeros.
     fn lead(&self) -> [u8; 16] {
         [0; 16]
     }
@@ -42,19 +43,23 @@ struct Pair {
 impl Keyed<Key> for Pair {
     ghost key = { λ pair. pair.key };
 
+    /// The key of the value.
     fn key(&self) -> Key {
         self.key
     }
 
+    /// The order of the value's key and another.
     fn compare(&self, asked: &Key) -> Ordering {
         self.key.cmp(asked)
     }
 }
 
+/// The key of a number.
 fn make_key(number: u32) -> Key {
     Key { number }
 }
 
+/// A value under the key of a number.
 fn make_pair(number: u32, value: u64) -> Pair {
     Pair {
         key: make_key(number),
@@ -62,6 +67,7 @@ fn make_pair(number: u32, value: u64) -> Pair {
     }
 }
 
+/// The map has these values and no others, in this order.
 fn expect_entries(rt: &impl Abort, map: &Chunks<Key, Pair>, plain: &[Pair]) {
     assert!(rt;
         map.len() == plain.len(),

@@ -3,7 +3,7 @@
 use crate::parts::{joined, name};
 use dz_config::{ConfigError, ConfigFault, TEXT_OCTETS, read_config, read_downstream};
 use dz_io::Peer;
-use dz_member::{CatalogSettings, Policy};
+use dz_settings::{CatalogSettings, Policy};
 use std::alloc::{AllocError, Global};
 use std::process::Abort;
 use std::test::*;
@@ -22,6 +22,7 @@ primaries = [\"192.0.2.3\"]
 
 const LISTEN: &[u8] = b"listen = \"192.0.2.10:53\"\n";
 
+/// The peer 192.0.2.N at this port, where N is `last`.
 fn peer(last: u8, port: u16) -> Peer {
     Peer {
         address: [192, 0, 2, last],
@@ -337,7 +338,7 @@ fn text_that_is_no_toml_counts_first(rt: HostRuntime) -> Result<(), Fail> {
     Ok(())
 }
 
-/// A group with so many primaries, and with a word of so many letters behind these.
+/// A group with this many primaries, and after these a word followed by this many letters more.
 fn group(alloc: Global, primaries: usize, word: &[u8], more: usize) -> Result<Vec<u8>, AllocError> {
     let mut text = Vec::from_slice(alloc, b"[[catalog.group]]\npolicy = 'off'\nprimaries = [")?;
     for _ in 0..primaries {
@@ -352,7 +353,7 @@ fn group(alloc: Global, primaries: usize, word: &[u8], more: usize) -> Result<Ve
     Ok(text)
 }
 
-/// A configuration with such a group so many times has this fault.
+/// A configuration with such a group this many times has this fault.
 fn fails_with(
     rt: &impl Abort,
     alloc: Global,

@@ -39,6 +39,7 @@ fn header_is_read_of_twelve_octets_or_more(rt: HostRuntime) {
     assert_eq!(rt; read_header(&[]), None);
 }
 
+/// A record's shape: whether its owner is the root, its type, class and TTL, and the length of its RDATA in octets.
 fn shape(root: bool, kind: u16, class: u16, ttl: u32, size: u16) -> Shape {
     Shape {
         root,
@@ -125,6 +126,7 @@ fn flags_are_written_and_read_bit_by_bit(rt: HostRuntime) {
 /// A question of `www.example.` for AAAA in class IN, whose name is a label and a pointer.
 const ASKED: &[u8] = b"\x07Example\0\x03www\xc0\0\0\x1c\0\x01";
 
+/// The question is that of `ASKED`, and ends where that ends.
 fn expect_question(rt: &impl Abort, found: &Question, end: usize) {
     assert_eq!(rt; found.name.wire(), b"\x03www\x07example\0".as_slice());
     assert_eq!(rt; (found.kind, found.class, end), (28, 1, 19));

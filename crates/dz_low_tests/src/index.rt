@@ -27,7 +27,7 @@ const NAMES: [&[u8]; 12] = [
     b"\\200.z.example.",
 ];
 
-/// An index of the names, each of which stands so often.
+/// An index of the names, each of which comes this many times.
 fn index(
     rt: &impl Abort,
     alloc: Global,

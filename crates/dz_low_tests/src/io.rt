@@ -1,10 +1,12 @@
 //! Tests of `dz_io`.
 
-use dz_io::{LIMIT, LineError, MemorySource, Next, Window, next_line};
+use dz_io::MemorySource;
+use dz_script::{LIMIT, Next, NextError, Window, next_line};
 use std::alloc::{AllocError, Global};
 use std::process::Abort;
 use std::test::Fail;
 
+/// A source of these octets, whose reads of these numbers fail.
 fn source(alloc: Global, octets: &[u8], failing: &[u64]) -> Result<MemorySource, AllocError> {
     Ok(MemorySource::new(octets.to_vec(alloc)?, failing.to_vec(alloc)?))
 }
@@ -15,7 +17,7 @@ fn expect_lines(
     alloc: Global,
     input: &[u8],
     failing: &[u64],
-    wanted: &[(usize, Result<Next, LineError>)],
+    wanted: &[(usize, Result<Next, NextError>)],
 ) -> Result<(), AllocError> {
     let mut source = source(alloc, input, failing)?;
     let mut window = Window::new();
@@ -50,7 +52,7 @@ fn lines_end_behind_their_newline(rt: HostRuntime) -> Result<(), Fail> {
     Ok(())
 }
 
-/// So many octets `x`, a newline and `y`.
+/// This many octets `x`, a newline and `y`.
 fn long_input(alloc: Global, count: usize) -> Result<Vec<u8>, AllocError> {
     let mut input = vec![in alloc; b'x'; count]?;
     input.extend_from_slice(b"\ny")?;
@@ -76,7 +78,7 @@ fn lines_go_past_the_window(rt: HostRuntime) -> Result<(), Fail> {
 fn a_failed_read_stops_within_the_line(rt: HostRuntime) -> Result<(), Fail> {
     let alloc = rt.alloc();
     let line = Ok(Next::Line);
-    let stop = Err(LineError::Read);
+    let stop = Err(NextError::Read);
     expect_lines(&rt, alloc, b"ab\ncd", &[0], &[(0, stop), (3, line)])?;
     expect_lines(&rt, alloc, b"ab\ncd", &[1], &[(3, line), (2, stop)])?;
     let input = long_input(alloc, 5000)?;
@@ -84,7 +86,7 @@ fn a_failed_read_stops_within_the_line(rt: HostRuntime) -> Result<(), Fail> {
     Ok(())
 }
 
-/// What is found of an input where so many octets were read before.
+/// What is found of an input where this many octets were read before.
 fn expect_next(
     rt: &impl Abort,
     alloc: Global,

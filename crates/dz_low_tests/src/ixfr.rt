@@ -1,13 +1,13 @@
 //! Tests of `dz_ixfr`.
 
-ghost use Rattle.dz_form.specs.Feeding.{IsOpen};
+ghost use Rattle.dz_xfr.specs.Feeding.{IsOpen};
 ghost use Rattle.dz_ixfr.specs.Incremental.{IsIncremental, Blames};
 
 use crate::parts::{Row, wire_name};
-use dz_form::is_apex_soa;
 use dz_ixfr::{Differences, FeedError, Progress, ShapeFault};
 use dz_name::Octets;
 use dz_record::Rr;
+use dz_xfr::is_apex_soa;
 use dz_zone::{Version, check};
 use std::alloc::{AllocError, Global};
 use std::process::Abort;
@@ -42,6 +42,7 @@ const SOA_BELOW: Item = Other((
     b"\x00\x00\x00\x00\x00\x07\x00\x00\x00\x02\x00\x00\x00\x03\x00\x00\x00\x04\x00\x00\x00\x05",
 ));
 
+/// A record of these parts.
 fn make_row(
     rt: &impl Abort,
     alloc: Global,
@@ -62,6 +63,7 @@ fn make_row(
     }
 }
 
+/// The SOA record of `example.` with this serial, TTL and MINIMUM.
 fn make_soa(
     rt: &impl Abort,
     alloc: Global,
@@ -76,6 +78,7 @@ fn make_soa(
     Ok(make_row(rt, alloc, APEX, 6, ttl, rdata))
 }
 
+/// The record of an item.
 fn make_record(rt: &impl Abort, alloc: Global, item: Item) -> Result<Rr, AllocError> {
     match item {
         Soa(serial) => make_soa(rt, alloc, serial, 3600, 30),
@@ -88,6 +91,7 @@ fn make_record(rt: &impl Abort, alloc: Global, item: Item) -> Result<Rr, AllocEr
     }
 }
 
+/// The records of items.
 fn make_records(rt: &impl Abort, alloc: Global, items: &[Item]) -> Result<Vec<Rr>, AllocError> {
     let mut records = Vec::new(alloc);
     for item in items {
@@ -96,6 +100,7 @@ fn make_records(rt: &impl Abort, alloc: Global, items: &[Item]) -> Result<Vec<Rr
     Ok(records)
 }
 
+/// The version of `example.` that the items make.
 fn make_version(rt: &impl Abort, alloc: Global, items: &[Item]) -> Result<Version, AllocError> {
     let records = make_records(rt, alloc, items)?;
     match check(alloc, &wire_name(rt, APEX), records) {
@@ -119,8 +124,8 @@ fn expect_records(
     Ok(())
 }
 
-/// Feeds message after message until there is an answer other than `More`: the records at the end, none where more is to
-/// come.
+/// Feeds message after message until there is an answer other than `More`: the records at the end, none where more is
+/// to come.
 fn feed_messages(
     mut differences: Differences,
     messages: Vec<Vec<Rr>>,
@@ -141,7 +146,7 @@ fn feed_messages(
     Ok(None)
 }
 
-/// What comes of the items, in messages of so many behind the first.
+/// What comes of the items, in messages of this many after the first.
 fn assemble(
     rt: &impl Abort,
     alloc: Global,

@@ -1,5 +1,5 @@
-//! Tests of single crates, from `dz_io` up to `dz_advice`, by public calls alone. All of it is for tests: a build has no
-//! item of this crate.
+//! Tests of single crates, from `dz_io` up to `dz_advice`, by public calls alone. All of it is for tests: a build has
+//! no item of this crate.
 #![tactic(auto)]
 
 #[cfg(test)]

@@ -2,14 +2,14 @@
 
 use crate::parts::name_of;
 use dz_io::Peer;
-use dz_member::{
-    Listing, Node, Policy, Texts, read_host, read_number, read_peer, read_policy, read_word,
-};
-use dz_name::{KeptName, Label};
+use dz_member::{Listing, Node, Texts};
+use dz_name::{KeptName, Label, read_number};
+use dz_settings::{Policy, read_host, read_peer, read_policy, read_word};
 use std::alloc::{AllocError, Global};
 use std::process::Abort;
 use std::test::*;
 
+/// The label with these octets.
 fn make_label(rt: &impl Abort, octets: &[u8]) -> Label {
     match Label::new(octets) {
         Some(label) => label,
@@ -17,6 +17,7 @@ fn make_label(rt: &impl Abort, octets: &[u8]) -> Label {
     }
 }
 
+/// The name of a text, as it is kept.
 fn keep_name(rt: &impl Abort, alloc: Global, text: &str) -> KeptName {
     match KeptName::of(alloc, &name_of(rt, text).as_ref()) {
         Ok(name) => name,

@@ -12,6 +12,7 @@ use std::process::Abort;
 
 const QUERY: &[u8] = b"\0\x01\x84\0\0\x01\0\x01\0\0\0\0\x07Example\0\0\xfc\0\x01";
 
+/// The message in these octets, which can be read.
 fn read(rt: &impl Abort, alloc: Global, octets: &[u8]) -> Message {
     match read_message(alloc, octets) {
         Ok(message) => message,
@@ -19,6 +20,7 @@ fn read(rt: &impl Abort, alloc: Global, octets: &[u8]) -> Message {
     }
 }
 
+/// The parts, one after the other.
 fn joined(rt: &impl Abort, alloc: Global, parts: &[&[u8]]) -> Vec<u8> {
     let mut out = Vec::new(alloc);
     for part in parts {
@@ -34,7 +36,7 @@ fn expect_record(rt: &impl Abort, record: &Rr, owner: &[u8], numbers: (u16, u32)
     assert_eq!(rt; found, (numbers.0, numbers.1, rdata));
 }
 
-/// The last answer of a message of so many.
+/// The last answer of a message with this many.
 fn expect_last(
     rt: &impl Abort,
     alloc: Global,
@@ -125,6 +127,7 @@ const FAULTS: &[(&[u8], &[u8], MessageFault)] = &[
     ),
 ];
 
+/// The message of these parts can't be read, for this fault.
 fn expect_fault(rt: &impl Abort, alloc: Global, parts: &[&[u8]], fault: MessageFault) {
     let octets = joined(rt, alloc, parts);
     match read_message(alloc, octets.as_slice()) {
@@ -171,7 +174,7 @@ fn authority_and_additional_records_are_skipped_by_their_shape(rt: HostRuntime) 
     expect_fault(&rt, rt.alloc(), &[header, opt], MessageFault::Wire);
 }
 
-/// Whether a message of one record with so many octets of RDATA can be written.
+/// Whether a message of one record with this many octets of RDATA can be written.
 fn expect_written(
     rt: &impl Abort,
     alloc: Global,
@@ -200,7 +203,7 @@ fn expect_written(
 
 #[test]
 fn a_message_has_at_most_65535_octets(rt: HostRuntime) -> Result<(), AllocError> {
-    // 12 octets of header and 11 in front of the RDATA leave room for 65,512
+    // 12 octets of header and 11 before the RDATA leave room for 65,512
     expect_written(&rt, rt.alloc(), 65_512, true)?;
     expect_written(&rt, rt.alloc(), 65_513, false)
 }

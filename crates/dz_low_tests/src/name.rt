@@ -20,6 +20,7 @@ const IN_ORDER: &[&[u8]] = &[
     b"\\200.z.example.",
 ];
 
+/// Two names have this order, and are the same only where it is that of equals.
 fn expect_order(rt: &impl Abort, left: &Name, right: &Name, want: Ordering) {
     let orders = (left.canonical_cmp(right), left.cmp(right));
     assert_eq!(rt; orders, (want, want), "{left:?} and {right:?}");
@@ -37,6 +38,7 @@ fn canonical_order_is_that_of_rfc_4034(rt: HostRuntime) {
     expect_order(&rt, &name(&rt, b"."), &name(&rt, b"a."), Ordering::Less);
 }
 
+/// Adds a label to a name, for which there is room.
 fn push(rt: &impl Abort, name: &mut Name, label: &[u8]) {
     assert!(rt; !label.is_empty() && label.len() < 64);
     assert!(rt; name.wire().len() + label.len() < 255);
@@ -60,6 +62,7 @@ const READ: &[(&[u8], &[u8])] = &[
     (b"\\0099", b"\x02\x099\x00"),
 ];
 
+/// The text is read as the name of this wire form.
 fn expect_parsed(rt: &impl Abort, text: &[u8], wire: &[u8]) {
     match Name::parse(text) {
         Ok(name) => assert_eq!(rt; name.wire(), wire, "of {text:?}"),
@@ -94,6 +97,7 @@ const UNREAD: &[(&[u8], NameError)] = &[
     (b"a\\300..", NameError::BadEscape),
 ];
 
+/// The text isn't a name, for this fault.
 fn expect_error(rt: &impl Abort, text: &[u8], fault: NameError) {
     assert_eq!(rt; Name::parse(text).err(), Some(fault), "at {text:?}");
 }
@@ -112,7 +116,7 @@ fn a_label_has_at_most_63_octets(rt: HostRuntime) {
     expect_error(&rt, &text[..64], NameError::LabelTooLong);
     expect_error(&rt, &text, NameError::LabelTooLong);
 
-    // A bad escape within a label comes before the label's end, and one behind its dot comes after it.
+    // A bad escape within a label comes before the label's end, and one after its dot comes after it.
     text[69] = b'\\';
     expect_error(&rt, &text, NameError::BadEscape);
     text[68] = b'.';
@@ -136,13 +140,13 @@ fn a_text_spells_at_most_255_octets(rt: HostRuntime) {
     expect_error(&rt, &text[..254], NameError::NameTooLong);
     expect_error(&rt, &text[..256], NameError::LabelTooLong);
 
-    // The name is too long at the end of its fourth label, so what stands behind this one is not read.
+    // The name is too long at the end of its fourth label, so what follows this one is not read.
     text[254] = b'.';
     text[255] = b'.';
     expect_error(&rt, &text, NameError::NameTooLong);
 }
 
-/// Labels in front of `x.`, and the texts of these names.
+/// Labels before `x.`, and the texts of these names.
 const PRINTED: &[(&[u8], &str)] = &[
     (b"azAZ09-_*/", "azaz09-_*/.x."),
     (b".\\", "\\.\\\\.x."),
@@ -156,6 +160,7 @@ const PRINTED: &[(&[u8], &str)] = &[
     (b"\x7f\x80\xc1\xff", "\\127\\128\\193\\255.x."),
 ];
 
+/// The name of this label before `x.` has this text.
 fn expect_printed(rt: &impl Abort, label: &[u8], text: &str) {
     let mut name = Name::root();
     push(rt, &mut name, label);
@@ -171,7 +176,7 @@ fn print_escapes_what_is_not_plain(rt: HostRuntime) {
     assert_eq!(rt; Name::root().print().as_str(), ".");
 }
 
-/// A message of so many labels of the given lengths, one behind the other, and the given octets behind them.
+/// A message of labels of the given lengths, one after the other, and the given octets after them.
 fn labels_and(alloc: Global, lengths: &[u8], rest: &[u8]) -> Result<Vec<u8>, AllocError> {
     let mut message = Vec::new(alloc);
     for length in lengths {
@@ -184,6 +189,7 @@ fn labels_and(alloc: Global, lengths: &[u8], rest: &[u8]) -> Result<Vec<u8>, All
     Ok(message)
 }
 
+/// The name at an offset of a message has this wire form, and ends at this offset.
 fn expect_name(rt: &impl Abort, message: &[u8], at: usize, wire: &[u8], end: usize) {
     match Name::read_at(message, at) {
         Ok((name, behind)) => {
@@ -197,6 +203,7 @@ fn expect_name(rt: &impl Abort, message: &[u8], at: usize, wire: &[u8], end: usi
     }
 }
 
+/// The name at an offset of a message can't be read, for this fault.
 fn expect_fault(rt: &impl Abort, message: &[u8], at: usize, fault: WireFault) {
     match Name::read_at(message, at) {
         Ok(_) => panic!(rt; "a name of {message:?} at {at}"),
@@ -221,7 +228,7 @@ fn names_are_read_in_lower_case_with_the_offset_behind_them(rt: HostRuntime) {
 #[test]
 fn pointers_are_followed_to_earlier_pieces(rt: HostRuntime) {
     let rows: [(&[u8], usize, &[u8], usize); 5] = [
-        // a whole earlier name, behind a label and alone
+        // a whole earlier name, after a label and alone
         (
             b"\x07example\x00\x03www\xc0\x00",
             9,
@@ -320,11 +327,11 @@ fn a_name_has_at_most_255_octets(rt: HostRuntime) -> Result<(), Fail> {
 
 #[test]
 fn pointers_can_make_a_name_too_long(rt: HostRuntime) -> Result<(), Fail> {
-    // three labels of 63 octets, and one more in front of a pointer to the first
+    // three labels of 63 octets, and one more before a pointer to the first
     let fits = labels_and(rt.alloc(), &[63, 63, 63], b"\x00\x02aa\xc0\x00")?;
     let name = labels_and(rt.alloc(), &[2, 63, 63, 63], b"\x00")?;
     expect_name(&rt, &fits, 193, &name, 198);
-    // the same with one more piece in front: 190 octets, 61, and then 4
+    // the same with one more piece before it: 190 octets, 61, and then 4
     let mut chain = labels_and(rt.alloc(), &[63, 63, 61], b"\x00")?;
     chain.extend_from_slice(&labels_and(rt.alloc(), &[60], b"\xc0\x00")?)?;
     let with_two = labels_and(rt.alloc(), &[2, 60, 63, 63, 61], b"\x00")?;

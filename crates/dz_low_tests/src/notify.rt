@@ -23,6 +23,7 @@ const NOTIFIED: &[(&[u8], &[u8])] = &[
     ),
 ];
 
+/// The request is a NOTIFY of this zone.
 fn expect_zone(rt: &impl Abort, request: &[u8], zone: &[u8]) {
     match read_notify(request) {
         Some(named) => assert!(rt; named.same(&name(rt, zone)), "{named:?} of {zone:?}"),

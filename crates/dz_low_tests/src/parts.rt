@@ -53,7 +53,7 @@ pub(crate) fn make_records(
     Ok(records)
 }
 
-/// The pieces one behind the other.
+/// The pieces one after the other.
 pub(crate) fn joined(alloc: Global, pieces: &[&[u8]]) -> Result<Vec<u8>, AllocError> {
     let mut octets = Vec::new(alloc);
     for piece in pieces {

@@ -10,6 +10,7 @@ use std::process::Abort;
 const SOA: &[u8] =
     b"\x02ns\x00\x05admin\x00\x78\x48\xb9\x1c\0\0\x07\x08\0\0\x03\x84\0\x09\x3a\x80\0\0\x01\x2c";
 
+/// A record of these parts, which can be made.
 fn record(rt: &impl Abort, alloc: Global, owner: &[u8], kind: u16, ttl: u32, rdata: &[u8]) -> Rr {
     let octets = match Vec::from_slice(alloc, rdata) {
         Ok(octets) => Octets::from_vec(octets),
@@ -169,6 +170,7 @@ fn expect_order(rt: &impl Abort, alloc: Global, left: &Short, right: &Short, wan
     expect_cmp(rt, &left, &right, want);
 }
 
+/// Two records have this order, and are the same only where it is that of equals.
 fn expect_cmp(rt: &impl Abort, left: &Rr, right: &Rr, want: Ordering) {
     assert_eq!(rt; left.record_cmp(right), want, "{left:?} and {right:?}");
     assert_eq!(rt; left.same(right), want.is_eq(), "{left:?} and {right:?}");

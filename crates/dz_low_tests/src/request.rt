@@ -89,8 +89,8 @@ fn what_cannot_be_read_is_a_format_error(rt: HostRuntime) {
     }
 }
 
-/// Requests, and what each asks for. Responses come first, then other opcodes, what can't be read, the version of EDNS, and
-/// class and type.
+/// Requests, and what each asks for. Responses come first, then other opcodes, what can't be read, the version of EDNS,
+/// and class and type.
 const JUDGED: &[Row] = &[
     (
         b"\0\x75\x01\0\0\x01\0\0\0\0\0\0\x07example\0\0\x01\0\x01",
@@ -231,6 +231,7 @@ fn requests_are_judged_in_order(rt: HostRuntime) {
     }
 }
 
+/// What a request asks, which is a question.
 fn asked(rt: &impl Abort, octets: &[u8]) -> Asked {
     match read_request(octets) {
         Request::Asks(asked) => asked,
@@ -269,7 +270,7 @@ fn a_query_has_its_question_and_what_its_opt_says(rt: HostRuntime) {
     expect_asked(&rt, behind_others, b".", (2, 5), Some(opt));
 }
 
-/// A request for a name of three labels of 63 octets and one of so many.
+/// A request for a name of three labels of 63 octets and one of the given length.
 fn expect_long(rt: &impl Abort, alloc: Global, last: u8, kind: &str) -> Result<(), AllocError> {
     let mut octets = Vec::from_slice(alloc, b"\0\x77\0\0\0\x01\0\0\0\0\0\0")?;
     for size in [63, 63, 63, last] {

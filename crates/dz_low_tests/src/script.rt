@@ -14,6 +14,7 @@ fn is_bad(rt: &impl Abort, alloc: Global, line: &[u8]) {
     }
 }
 
+/// The line is skipped.
 fn is_skip(rt: &impl Abort, alloc: Global, line: &[u8]) -> Result<(), LineError> {
     match read_line(alloc, line)? {
         Line::Skip => Ok(()),
@@ -68,7 +69,7 @@ fn bad_settings_are_bad_lines(rt: HostRuntime) {
     }
 }
 
-/// The catalog of a line has so many primaries.
+/// The catalog of a line has this many primaries.
 fn expect_primaries(
     rt: &impl Abort,
     alloc: Global,
@@ -98,7 +99,7 @@ fn there_are_up_to_8_primaries(rt: HostRuntime) -> Result<(), Fail> {
     Ok(())
 }
 
-/// The group of a line with a word of so many letters has this word, or the line is bad.
+/// The group of a line with a word of this many letters has this word, or the line is bad.
 fn expect_word(rt: &impl Abort, alloc: Global, count: usize, fits: bool) -> Result<(), Fail> {
     let word = Vec::from_elem(alloc, b'w', count)?;
     let line = joined(alloc, &[b"group a ", word.as_slice(), b" off 1.1.1.1"])?;
@@ -154,7 +155,7 @@ fn bad_events_are_bad_lines(rt: HostRuntime) {
     }
 }
 
-/// A line with so many digits behind these words has an event with half as many octets, or is bad.
+/// A line with this many digits after these words has an event with half as many octets, or is bad.
 fn expect_octets(
     rt: &impl Abort,
     alloc: Global,

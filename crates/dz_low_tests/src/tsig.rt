@@ -1,8 +1,8 @@
 //! Tests of `dz_tsig`: that signing succeeds where memory is ample, and that no secret is shown.
-ghost use Rattle.dz_member.specs.Key.{IsKey};
+ghost use Rattle.dz_settings.specs.Key.{IsKey};
 
-use dz_member::{Key, Secret};
 use dz_name::{Name, Octets};
+use dz_settings::{Key, Secret};
 use dz_tsig::{check_stream, request_mac, sign_query, sign_stream};
 use std::alloc::Global;
 use std::process::Abort;
@@ -13,6 +13,7 @@ const QUERY: &[u8] = b"\0\x02\0\0\0\x01\0\0\0\0\0\0\x07example\0\0\xfc\0\x01";
 const ANSWER: &[u8] =
     b"\0\x19\0\x02\x84\0\0\x01\0\0\0\0\0\0\x07example\0\0\xfc\0\x01\0\x0c\0\x02\x84\0\0\0\0\0\0\0\0\0";
 
+/// A key for signing.
 fn key(rt: &impl Abort) -> Key
     ensures { IsKey result }
 {
@@ -25,6 +26,7 @@ fn key(rt: &impl Abort) -> Key
     }
 }
 
+/// Octets, as messages hold them.
 fn octets(rt: &impl Abort, alloc: Global, items: &[u8]) -> Octets {
     match Vec::from_slice(alloc, items) {
         Ok(items) => Octets::from_vec(items),

@@ -4,6 +4,7 @@ use dz_words::{Command, Words, WordsError, read_words};
 use std::alloc::{AllocError, Global};
 use std::test::*;
 
+/// The words of these texts.
 fn words_of(alloc: Global, texts: &[&str]) -> Result<Words, AllocError> {
     let mut list = Vec::new(alloc);
     'texts: for text in texts {
@@ -12,6 +13,7 @@ fn words_of(alloc: Global, texts: &[&str]) -> Result<Words, AllocError> {
     Ok(Words { list })
 }
 
+/// The command of these words; none where they are of no form.
 fn read(alloc: Global, texts: &[&str]) -> Result<Option<Command>, AllocError> {
     Ok(read_words(&words_of(alloc, texts)?).ok())
 }

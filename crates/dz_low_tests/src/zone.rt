@@ -141,7 +141,7 @@ fn other_types_stand_where_no_cname_is(rt: HostRuntime) -> Result<(), Fail> {
     Ok(())
 }
 
-/// An SOA, an NS and so many addresses of the apex.
+/// An SOA, an NS and this many addresses of the apex.
 fn many(rt: &impl Abort, alloc: Global, addresses: u32) -> Result<Vec<Rr>, AllocError> {
     let apex = wire_name(rt, APEX);
     let mut records = make_records(rt, alloc, &[SOA, NS])?;
@@ -156,7 +156,7 @@ fn many(rt: &impl Abort, alloc: Global, addresses: u32) -> Result<Vec<Rr>, Alloc
     Ok(records)
 }
 
-/// So many addresses beside the SOA and the NS make a zone, or have this fault.
+/// This many addresses beside the SOA and the NS make a zone, or have this fault.
 fn expect_many(
     rt: &impl Abort,
     alloc: Global,

@@ -11,7 +11,7 @@ use Rattle.dz_name.specs.Name.{same_name}
 use Rattle.dz_name.specs.Order.{same_decides}
 use Rattle.dz_member.specs.declared.listing.Node.{Node}
 use Rattle.dz_member.specs.Listing.{same_zone}
-use Rattle.dz_member.specs.Twice.{has_twice}
+use Rattle.dz_settings.specs.Twice.{has_twice}
 use Rattle.dz_member.specs.Fold.{member_of}
 use Rattle.dz_member.specs.Process.{judged}
 use Rattle.dz_member.specs.Laws.{InAnyOrder}

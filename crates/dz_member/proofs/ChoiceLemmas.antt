@@ -11,7 +11,7 @@ use Rattle.std.proofs.lemmas.List.Quantifiers.{position-Some}
 use Rattle.std.proofs.lemmas.Slice.Eq.{bytes_eq-Decides}
 use Rattle.std.proofs.lemmas.Bool.{cases_Bool}
 use Rattle.dz_name.specs.Words.{Octets}
-use Rattle.dz_member.specs.declared.config.GroupSettings.{GroupSettings}
+use Rattle.dz_settings.specs.declared.config.GroupSettings.{GroupSettings}
 use Rattle.dz_member.specs.Membership.{string_of, is_known, choice_of, group_at}
 use Rattle.dz_member.proofs.SearchLemmas.{place_missing}
 

@@ -8,10 +8,10 @@ use Rattle.std.proofs.lemmas.List.{length-replicate, length-map}
 use Rattle.std.proofs.lemmas.Option.{slice_get_read}
 use Rattle.dz_name.specs.Words.{Name}
 use Rattle.dz_name.specs.Name.{canonical_order, same_name}
-use Rattle.dz_member.specs.declared.config.CatalogSettings.{CatalogSettings}
+use Rattle.dz_settings.specs.declared.config.CatalogSettings.{CatalogSettings}
 use Rattle.dz_member.specs.declared.listing.Node.{Node}
 use Rattle.dz_member.specs.declared.membership.Membership.{Membership}
-use Rattle.dz_member.specs.Config.{IsAllowed}
+use Rattle.dz_settings.specs.Config.{IsAllowed}
 use Rattle.dz_member.specs.Membership.{MemberOf, shown, IsNumbered}
 use Rattle.dz_member.specs.inner.Kept.{IsKept}
 use Rattle.dz_member.proofs.SearchLemmas.{position_map}

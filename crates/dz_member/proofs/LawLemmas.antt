@@ -95,7 +95,7 @@ keeps_state fold catalog nodes position zone what =
     (λ m n y z e t. not_kept _ _ _ refl e t) (λ m n y z e t. not_kept _ _ _ refl e t)
     (member_of zone fold.members) (node_of zone nodes)
 
--- held before, standing afterwards, at another holder
+-- held before, and held afterwards by another holder
 abbrev Moves : FoldOf → Name → MemberOf → MemberOf → Option MemberOf → Judgement → Type 0
 Moves fold catalog before after held j = held ≡ Some before → j.stands ≡ Some after → before.catalog ≢ after.catalog → (consents fold catalog before ≡ true) × (after.catalog ≡ catalog)
 

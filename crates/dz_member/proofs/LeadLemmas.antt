@@ -42,7 +42,7 @@ lead_less (suc n) xs [] h = absurd (not_less _ (none_less (suc n) xs) h)
 lead_less (suc n) [] (y ∷ ys) h = refl
 lead_less (suc n) (x ∷ xs) (y ∷ ys) h = then_less (nat_cmp x y) _ _ (lead_less n xs ys) h
 
--- behind octets that tie the next ones decide
+-- after octets that tie, the next ones decide
 then_tied : (o p q : Ordering) → ordering_then o p ≡ Equal → (p ≡ Equal → q ≡ Less) → ordering_then o q ≡ Less
 then_tied Less p q e f = absurd (cc)
 then_tied Equal p q e f = f e

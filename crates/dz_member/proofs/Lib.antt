@@ -1,7 +1,6 @@
 pub mod AgainLemmas
 pub mod AnyOrderLemmas
 pub mod ChoiceLemmas
-pub mod DigitLemmas
 pub mod EachLemmas
 pub mod KeptLemmas
 pub mod LawLemmas
@@ -14,7 +13,6 @@ pub mod PlaceLemmas
 pub mod ProcessLemmas
 pub mod RisingLemmas
 pub mod SearchLemmas
-pub mod SecretLemmas
 pub mod SortLemmas
 pub mod SpotLemmas
 pub mod WalkLemmas

@@ -1,4 +1,4 @@
--- Numbers of catalogs and of groups, which stand for names and words.
+-- Numbers of catalogs and of groups, which represent names and words.
 use Rattle.std.proofs.Common.{map, ◌≡◌, ℕ, ◌<◌, ◌≤◌, zero, suc, Bool, true, false, ◌||◌, ◌&&◌, not, List, [], ◌∷◌, length, get_or, refl, sym, ◌∙◌, ap, subst, arith, inl, inr}
 use Rattle.std.specs.Prelude.{Option, Some, None, position, slice_get, IfSome, nat_lt, nat_le, nat_eq}
 use Rattle.std.specs.Bool.{Decides}
@@ -14,13 +14,13 @@ use Rattle.std.proofs.lemmas.List.Quantifiers.{position-Some}
 use Rattle.dz_name.specs.Words.{Name, Octets}
 use Rattle.dz_name.specs.Name.{same_name}
 use Rattle.dz_name.specs.Order.{same_decides}
-use Rattle.dz_member.specs.declared.key.Key.{Key}
-use Rattle.dz_member.specs.Key.{IsKey}
-use Rattle.dz_member.specs.declared.config.GroupSettings.{GroupSettings}
-use Rattle.dz_member.specs.declared.config.CatalogSettings.{CatalogSettings}
-use Rattle.dz_member.specs.Twice.{has_twice}
+use Rattle.dz_settings.specs.declared.key.Key.{Key}
+use Rattle.dz_settings.specs.Key.{IsKey}
+use Rattle.dz_settings.specs.declared.config.GroupSettings.{GroupSettings}
+use Rattle.dz_settings.specs.declared.config.CatalogSettings.{CatalogSettings}
+use Rattle.dz_settings.specs.Twice.{has_twice}
 use Rattle.dz_member.proofs.SearchLemmas.{place_found}
-use Rattle.dz_member.specs.Config.{is_count, is_catalog, is_within_limits, has_each_once, has_secret, has_secrets, has_words_once, same_catalog, same_word, IsAllowed}
+use Rattle.dz_settings.specs.Config.{is_count, is_catalog, is_within_limits, has_each_once, has_secret, has_secrets, has_words_once, same_catalog, same_word, IsAllowed}
 use Rattle.dz_member.specs.Membership.{settings_at, group_at, group_of, settings_of, policy_in, primaries_in, policy_of, primaries_of, key_of, shown, IsNumbered}
 use Rattle.dz_member.specs.declared.membership.Membership.{Membership}
 use Rattle.dz_member.specs.Fold.{FoldOf, number_of, listing_of}
@@ -45,7 +45,7 @@ not_true : (a : Bool) → not a ≡ true → a ≡ false
 not_true true e = absurd (cc)
 not_true false e = refl
 
--- ---- nothing stands twice: what stands at two places is one place
+-- ---- nothing appears twice: what is at two places is one place
 module _ {X : Type 0} (test : X → X → Bool) where
   none_at : (x : X) (xs : List X) (i : ℕ) (d : X) → list_any (λ y. test x y) xs ≡ false → i < length xs → test x (get_or xs i d) ≡ false
   none_at x [] i d e lt = absurd (omega arith)

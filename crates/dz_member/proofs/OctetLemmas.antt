@@ -1,4 +1,4 @@
--- Octets as one number, the first octet the greatest: numbers of equally many octets stand as the octets do.
+-- Octets as one number, the first octet the greatest: numbers of equally many octets compare as the octets do.
 use Rattle.std.proofs.Common.{◌≡◌, ℕ, suc, ◌+◌, ◌*◌, ◌<◌, List, [], ◌∷◌, length, get_or, refl, sym, ◌∙◌, ap, arith, inl, inr}
 use Rattle.std.specs.Cmp.{nat_cmp_is}
 use Rattle.std.specs.Cmp.Lexicographic.{slice_cmp}
@@ -10,7 +10,7 @@ use Rattle.std.proofs.lemmas.Bool.{cases_order}
 abbrev AreOctets : List ℕ → Type 0
 AreOctets xs = (i : ℕ) → get_or xs i 0 < 256
 
--- the number that octets spell behind another one
+-- the number that octets spell after another one
 abbrev number : ℕ → List ℕ → ℕ
 number n [] = n
 number n (x ∷ xs) = number (n * 256 + x) xs

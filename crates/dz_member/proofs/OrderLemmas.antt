@@ -18,7 +18,7 @@ use Rattle.dz_name.specs.Order.{canonical_total, canonical_same, same_decides, s
 use Rattle.dz_member.specs.Listing.{same_zone}
 use Rattle.dz_member.specs.Sorting.{insert_by, sorted_by}
 use Rattle.dz_member.specs.Process.{in_zone_order}
-use Rattle.dz_member.specs.Twice.{has_twice}
+use Rattle.dz_settings.specs.Twice.{has_twice}
 use Rattle.dz_member.specs.declared.listing.Node.{Node}
 use Rattle.dz_member.proofs.SortLemmas.{stable_is}
 use Rattle.dz_member.proofs.NumberLemmas.{one_place}

@@ -6,7 +6,7 @@ use Rattle.std.specs.List.{All, AllByRecursion}
 use Rattle.std.proofs.lemmas.List.{map-append, take_more, drop_all, length-map}
 use Rattle.std.proofs.lemmas.Option.{slice_get_read, slice_get_within, slice_get_past, slice_get_cases, slice_get-map}
 use Rattle.dz_member.specs.declared.listing.Node.{Node}
-use Rattle.dz_member.specs.declared.sorting.Placed.{Placed}
+use Rattle.dz_member.specs.declared.sort.Placed.{Placed}
 use Rattle.dz_member.specs.Process.{in_zone_order}
 use Rattle.dz_member.specs.inner.Places.{ArePlaces, IsPlaced, IsAt, nodes_in}
 use Rattle.dz_member.specs.Sorting.{insert_by}
@@ -25,7 +25,7 @@ placed_more nodes ps p k n lt is place node inv = (
   all_push (IsAt nodes) ps p inv.1 (rw (place, node) (slice_get_read nodes (length nodes) k n refl lt is)),
 )
 
--- nodes that stand at their places
+-- nodes that are at their places
 pub places_are : (nodes : List Node) (ps : List Placed) → All (IsAt nodes) ps → map (slice_get nodes) (map (λ p. p.place) ps) ≡ map Some (nodes_in ps)
 places_are nodes [] a = refl
 places_are nodes (p ∷ ps) a =
@@ -78,7 +78,7 @@ pub length_ordered : (ns : List Node) → length (in_zone_order ns) ≡ length n
 length_ordered [] = refl
 length_ordered (n ∷ ns) = length_insert n (in_zone_order ns) ∙ ap suc (length_ordered ns)
 
--- behind the last there is none, taken or not
+-- after the last there is none, taken or not
 pub none_behind : (nodes : List Node) (at more : ℕ) → length nodes ≤ at → drop at (in_zone_order nodes) ≡ drop more (drop at (in_zone_order nodes))
 none_behind nodes at more past =
     let none : drop at (in_zone_order nodes) ≡ [] = drop_all at (in_zone_order nodes) (omega (arith, past, length_ordered nodes)) in

@@ -16,7 +16,7 @@ use Rattle.dz_name.specs.Name.{canonical_order, same_name}
 use Rattle.dz_name.specs.Order.{canonical_total, same_decides}
 use Rattle.dz_member.specs.declared.listing.Node.{Node}
 use Rattle.dz_member.specs.Listing.{same_zone}
-use Rattle.dz_member.specs.Twice.{has_twice}
+use Rattle.dz_settings.specs.Twice.{has_twice}
 use Rattle.dz_member.specs.Sorting.{insert_by}
 use Rattle.dz_member.specs.Process.{in_zone_order}
 use Rattle.dz_member.specs.inner.Places.{AreRising, ArePlacesOnce, comes_before, zone_at}
@@ -66,7 +66,7 @@ in_order n (m ∷ ms) i =
       | inr j ↦ inr (in_order n ms j)
     ])
 
--- what is in a list, and isn't its first, is behind it
+-- what is in a list, and isn't its first, is after the first
 behind_first : (m : Node) (ms ns : List Node) → AllByRecursion (λ n. m ≡ n → ⊥) ns → AllByRecursion (λ n. IsIn n (m ∷ ms)) ns → AllByRecursion (λ n. IsIn n ms) ns
 behind_first m ms [] other all = tt
 behind_first m ms (n ∷ ns) other all = (
@@ -77,7 +77,7 @@ behind_first m ms (n ∷ ns) other all = (
   behind_first m ms ns other.1 all.1,
 )
 
--- the zones come behind that of x, and that of z doesn't
+-- the zones come after that of x, and that of z doesn't
 other_zone : (x z n : Node) → node_before x z ≡ false → canonical_order x.zone n.zone ≡ Less → z ≡ n → ⊥
 other_zone x z n f l e =
     let q : canonical_order x.zone z.zone ≡ Less = subst (λ (k : Node). canonical_order x.zone k.zone ≡ Less) (sym e) l in

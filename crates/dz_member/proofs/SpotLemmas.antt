@@ -42,11 +42,11 @@ spots_none : (judge : Judge) → spots judge [] [] ≡ []
 unfolding spots
 spots_none judge = refl
 
--- the nodes that are left behind a pair
+-- the nodes that are left after a pair
 abbrev pub left_of : Pair → List Node → List Node
 left_of p ns = drop (if is_some p.node then 1 else 0) ns
 
--- the first pair is one spot, and what stands behind gives the others
+-- the first pair is one spot, and what follows gives the others
 pub record Goes (judge : Judge) (ms : List Membership) (ns : List Node) (p : Pair) : Type 0 where
   pub held : IsStrictlySortedBy canonical_order (map (λ m. m.zone) p.held)
   pub listed : IsStrictlySortedBy canonical_order (map (λ n. n.zone) (left_of p ns))

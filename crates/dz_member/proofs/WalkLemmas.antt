@@ -73,7 +73,7 @@ module _ {K : Type 0} (R : K → K → Ordering) (o : IsTotalOrder R) (same : K 
     abbrev pub walked : List H → List N → List Y
     walked hs ns = map (λ z. f z (at kh z hs) (at kn z ns)) (sorted_merge R true (map kh hs) (map kn ns))
 
-    -- the keys behind the first of the held are walked without it
+    -- the keys after the first of the held are walked without it
     left_rest : (h : H) (hs : List H) (ns : List N) (zs : List K) → AllByRecursion (λ z. R (kh h) z ≡ Less) zs
         → map (λ z. f z (at kh z (h ∷ hs)) (at kn z ns)) zs ≡ map (λ z. f z (at kh z hs) (at kn z ns)) zs
     left_rest h hs ns zs a = map_along (λ z. R (kh h) z ≡ Less) _ _ (λ z l. ap (λ (m : Option H). f z m (at kn z ns)) (past kh h hs z l)) zs a

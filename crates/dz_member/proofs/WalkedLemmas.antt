@@ -32,7 +32,7 @@ pub all_more : {X : Type 0} (P : X → Type 0) (xs : List X) (o : Option X) → 
 all_more P xs None a p = rw (append-nil xs) a
 all_more P xs (Some x) a p = all_push P xs x a p
 
--- what holds of each membership holds of the first and of those behind
+-- what holds of each membership holds of the first and of those after it
 abbrev pub Parts : (Membership → Type 0) → Pair → Type 0
 Parts P p = IfSome p.member P × AllByRecursion P p.held
 

@@ -23,7 +23,7 @@ use Rattle.dz_member.proofs.OrderLemmas.{node_before}
 use Rattle.dz_member.proofs.OrderLemmas.{before_is}
 use Rattle.dz_member.proofs.SortLemmas.{ties_sorted_by}
 
--- what is judged to stand at a zone has that zone
+-- what is judged to be at a zone has that zone
 abbrev pub Own : Name → Judgement → Type 0
 Own zone j = IfSome j.stands (λ m. m.zone ≡ zone)
 

@@ -2,37 +2,44 @@
 use Rattle.std.specs.Prelude.{◌≡◌, refl, ℕ, true, false, List, [], ◌∷◌, replicate, Option, Some, None, codes}
 use Rattle.dz_name.specs.Words.{Name, Octets}
 use Rattle.dz_io.specs.declared.peer.Peer.{Peer}
-use Rattle.dz_member.specs.declared.config.Policy.TheVariants.{Off, Present}
-use Rattle.dz_member.specs.declared.config.GroupSettings.{GroupSettings}
-use Rattle.dz_member.specs.declared.config.CatalogSettings.{CatalogSettings}
+use Rattle.dz_settings.specs.declared.config.Policy.TheVariants.{Off, Present}
+use Rattle.dz_settings.specs.declared.config.GroupSettings.{GroupSettings}
+use Rattle.dz_settings.specs.declared.config.CatalogSettings.{CatalogSettings}
 use Rattle.dz_member.specs.declared.listing.Node.{Node}
 use Rattle.dz_member.specs.declared.change.What.{What}
 use Rattle.dz_member.specs.declared.change.What.TheVariants.{Added, Removed, Reset, Moved, MovedReset, Clash, Regrouped}
 use Rattle.dz_member.specs.declared.change.Change.{Change}
-use Rattle.dz_member.specs.declared.limits.TheConstants.{SECRET_OCTETS}
-use Rattle.dz_member.specs.Config.{is_allowed, is_word}
+use Rattle.dz_settings.specs.declared.limits.TheConstants.{SECRET_OCTETS}
+use Rattle.dz_settings.specs.Config.{is_allowed, is_word}
 use Rattle.dz_member.specs.Membership.{choice_of}
 use Rattle.dz_member.specs.Fold.{FoldOf, started}
 use Rattle.dz_member.specs.Process.{judged, process, changes}
 
+-- the peer 192.0.2.1 at a port
 abbrev host : ℕ → Peer
 host port = record { address = 192 ∷ 0 ∷ 2 ∷ 1 ∷ []; port = port }
 
+-- the group of the word `edge`
 abbrev edge : GroupSettings
 edge = record { word = codes "edge"; policy = Present; primaries = host 53 ∷ [] }
 
+-- the group of the word `core`
 abbrev core : GroupSettings
 core = record { word = codes "core"; policy = Present; primaries = host 53 ∷ [] }
 
+-- the name `cat1.example.`
 abbrev one : Name
 one = codes "cat1" ∷ codes "example" ∷ []
 
+-- the name `cat2.example.`
 abbrev two : Name
 two = codes "cat2" ∷ codes "example" ∷ []
 
+-- a catalog of this name with these groups, without a key
 abbrev catalog : Name → List GroupSettings → CatalogSettings
 catalog name groups = record { name = name; policy = Off; primaries = host 53 ∷ []; groups = groups; key = None }
 
+-- two catalogs, the first with two groups
 abbrev both : List CatalogSettings
 both = catalog one (edge ∷ core ∷ []) ∷ catalog two [] ∷ []
 
@@ -55,6 +62,7 @@ no_primary = refl
 pub port_zero : is_allowed (record { name = one; policy = Off; primaries = host 0 ∷ []; groups = []; key = None } ∷ []) ≡ false
 port_zero = refl
 
+-- a catalog with a key of this secret
 abbrev signed_with : Octets → List CatalogSettings
 signed_with secret =
     record { name = one; policy = Off; primaries = host 53 ∷ []; groups = []; key = Some (record { name = two; secret = secret }) } ∷ []
@@ -93,15 +101,19 @@ two_strings = refl
 abbrev zone : Name
 zone = codes "example" ∷ []
 
+-- a node of the zone under a label, with its coo
 abbrev node : Octets → Option Name → Node
 node label coo = record { label = label; zone = zone; coo = coo; groups = [] }
 
+-- the label `m1`
 abbrev m1 : Octets
 m1 = codes "m1"
 
+-- the one change that is told of the zone
 abbrev told : What → List Change
 told what = record { zone = zone; what = what } ∷ []
 
+-- after the first listing the first catalog holds the zone
 abbrev after1 : FoldOf
 after1 = record {
   config = both;
@@ -121,7 +133,7 @@ pub clash : changes after1 two (node m1 None ∷ []) 2 ≡ told (Clash (Some one
 unfolding changes judged
 clash = refl
 
--- the coo alone changes nothing
+-- after the second catalog listed the zone too, and the first gave it a coo: the coo alone changes nothing
 abbrev after4 : FoldOf
 after4 = record {
   config = both;

@@ -5,9 +5,9 @@ use Rattle.std.specs.List.{find}
 use Rattle.std.specs.List.Sorted.{IsStrictlySortedBy}
 use Rattle.dz_name.specs.Words.{Name}
 use Rattle.dz_name.specs.Name.{canonical_order, same_name}
-use Rattle.dz_member.specs.declared.config.CatalogSettings.{CatalogSettings}
+use Rattle.dz_settings.specs.declared.config.CatalogSettings.{CatalogSettings}
 use Rattle.dz_member.specs.declared.listing.Node.{Node}
-use Rattle.dz_member.specs.Config.{IsAllowed}
+use Rattle.dz_settings.specs.Config.{IsAllowed}
 use Rattle.dz_member.specs.Membership.{MemberOf}
 
 -- the configuration, the members in the canonical order of their zones, and for each catalog, in the order of the
@@ -33,8 +33,8 @@ with_listing fold catalog nodes = option_map_or (λ number. slice_set fold.listi
 abbrev pub member_of : Name → List MemberOf → Option MemberOf
 member_of zone members = find (λ m. same_name m.zone zone) members
 
--- the configuration is within its limits, the members stand in canonical order, one at most for each zone, and there is
--- a place for a listing of each catalog
+-- the configuration is within its limits, the members are in canonical order, one at most for each zone, and there is a
+-- place for a listing of each catalog
 pub record IsFold (fold : FoldOf) : Type 0 where
   pub allowed : IsAllowed fold.config
   pub rises : IsStrictlySortedBy canonical_order (map (λ m. m.zone) fold.members)

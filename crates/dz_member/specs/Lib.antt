@@ -1,14 +1,8 @@
-pub mod Config
 pub mod Examples
 pub mod Fold
-pub mod Key
 pub mod Laws
 pub mod Listing
 pub mod Membership
-pub mod Number
-pub mod Peer
-pub mod PeerExamples
 pub mod Process
 pub mod Sorting
-pub mod Twice
 pub mod inner

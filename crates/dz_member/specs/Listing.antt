@@ -3,7 +3,7 @@ use Rattle.std.specs.Prelude.{◌≡◌, ◌≤◌, Bool, false, List, length, m
 use Rattle.std.specs.List.Sorted.{IsStrictlySortedBy}
 use Rattle.dz_name.specs.Name.{same_name, label_order}
 use Rattle.dz_member.specs.declared.listing.Node.{Node}
-use Rattle.dz_member.specs.Twice.{has_twice}
+use Rattle.dz_settings.specs.Twice.{has_twice}
 
 -- two nodes of one zone
 abbrev pub same_zone : Node → Node → Bool

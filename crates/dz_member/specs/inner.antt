@@ -1,5 +1,4 @@
 pub mod Kept
 pub mod Lead
 pub mod Places
-pub mod Secrets
 pub mod Walk

@@ -1,4 +1,4 @@
-//! The order of a listing's zones, where a listing before tells most of it.
+//! The order of a listing's zones, where most of it is known from an earlier listing.
 
 ghost use Rattle.std.specs.Prelude.{◌≡◌, ◌<◌, ◌≤◌, length, nat_lt, IsTrue, IfOk, IfSome};
 ghost use Rattle.std.specs.List.{list_all};
@@ -8,11 +8,11 @@ use crate::listing::{Listing, Node};
 use dz_name::Label;
 use std::alloc::{AllocError, Global};
 
-/// So many new nodes are put each in its place among the others; more are sorted together with them.
+/// Up to this many new nodes are each put in their place among the others; more are sorted together with them.
 const ADDED: usize = 256;
 
-/// The places of nodes in the order of their zones, as a listing before tells it; none where it doesn't, as where more than
-/// 256 nodes are new.
+/// The places of nodes in the order of their zones, as an earlier listing gives it; none where it doesn't, as where
+/// more than 256 nodes are new. The error is out of memory.
 pub(crate) fn places_again(
     alloc: Global,
     nodes: &[Node],
@@ -68,8 +68,8 @@ fn comes_before(nodes: &[Node], a: u32, b: u32) -> bool
     }
 }
 
-/// Places that are likely those of the nodes in the order of their zones: those of the labels that a listing before has,
-/// in its order, and the others where their zones come.
+/// Places that are likely those of the nodes in the order of their zones: those of the labels that an earlier listing
+/// has, in its order, and the others where their zones come. The error is out of memory.
 fn likely_places(alloc: Global, nodes: &[Node], before: &Listing) -> Result<Vec<u32>, AllocError>
     requires { length nodes.now ≤ 65536 }
 {
@@ -82,7 +82,8 @@ fn likely_places(alloc: Global, nodes: &[Node], before: &Listing) -> Result<Vec<
     Ok(places)
 }
 
-/// For each node before the place of its label, if it has one; the other places are added.
+/// For each node of the earlier listing the place of its label, if it has one; the other places are added. The error is
+/// out of memory.
 fn labels_again(
     alloc: Global,
     nodes: &[Node],
@@ -100,7 +101,7 @@ fn labels_again(
     Ok(again)
 }
 
-/// Adds the places from one on.
+/// Adds the places from one on. The error is out of memory.
 fn add_rest(nodes: &[Node], next: usize, added: &mut Vec<u32>) -> Result<(), AllocError>
     requires { length nodes.now ≤ 65536 }
 {
@@ -110,7 +111,7 @@ fn add_rest(nodes: &[Node], next: usize, added: &mut Vec<u32>) -> Result<(), All
     Ok(())
 }
 
-/// The place of a label that isn't before the next one.
+/// The place of a label that isn't before the next one. The error is out of memory.
 fn label_again(
     nodes: &[Node],
     label: &Label,
@@ -137,7 +138,7 @@ fn has_label(nodes: &[Node], place: usize, label: &Label) -> bool
     place < nodes.len() && nodes[place].label.octets() == label.octets()
 }
 
-/// Goes on over the nodes whose labels come before this one. Their places are added.
+/// Goes on over the nodes whose labels come before this one. Their places are added. The error is out of memory.
 fn pass(
     nodes: &[Node],
     label: &Label,
@@ -156,7 +157,7 @@ fn pass(
     Ok(())
 }
 
-/// The places of the labels that are listed again, in the order of places before.
+/// The places of the labels that are listed again, in the order of the earlier places. The error is out of memory.
 fn kept_places(
     alloc: Global,
     count: usize,
@@ -172,7 +173,7 @@ fn kept_places(
     Ok(kept)
 }
 
-/// Puts places where the zones of their nodes come.
+/// Puts places where the zones of their nodes come. The error is out of memory.
 fn put_added(places: &mut Vec<u32>, nodes: &[Node], added: &[u32]) -> Result<(), AllocError> {
     'added: for place in added {
         let end = places.partition_point(|p| comes_before(nodes, *p, *place));

@@ -18,10 +18,10 @@ pub enum What {
     Moved(Name, Name),
     /// It did so under another label, without its state.
     MovedReset(Name, Name),
-    /// The zone is listed and stays as it is: this other catalog holds it, or it is itself a configured catalog
-    /// (RFC 9432 section 5.2).
+    /// The zone is listed and stays as it is: this other catalog holds it, or it is itself a configured catalog (RFC
+    /// 9432 section 5.2).
     Clash(Option<Name>),
-    /// The member of this catalog is of another group than before.
+    /// The member of this catalog belongs to another group than before.
     Regrouped(Name),
 }
 
@@ -55,6 +55,7 @@ impl Changes {
         Changes { items }
     }
 
+    /// The changes, in the canonical order of their zones.
     pub fn as_slice(&self) -> &[Change]
         ensures { result.now ≡ self.now }
     {

@@ -4,17 +4,16 @@ ghost use Rattle.std.specs.Prelude.{◌≡◌, ◌<◌, ◌≤◌, length, map, 
 ghost use Rattle.std.specs.List.Sorted.{IsStrictlySortedBy};
 ghost use Rattle.dz_name.specs.Name.{canonical_order, same_name};
 ghost use Rattle.std.specs.Option.{ForSome};
-ghost use Rattle.dz_member.specs.Config.{IsAllowed};
-ghost use Rattle.dz_member.specs.Key.{IsKey};
+ghost use Rattle.dz_settings.specs.Config.{IsAllowed};
+ghost use Rattle.dz_settings.specs.Key.{IsKey};
 ghost use Rattle.dz_member.specs.Membership.{settings_at, shown, key_of, policy_of, primaries_of, IsNumbered};
 ghost use Rattle.dz_member.specs.Fold.{IsFold, number_of, member_of, started};
 
-use crate::config::{CatalogSettings, Config, Peers, Policy};
-use crate::key::Key;
 use crate::known::{Known, nothing_known};
 use crate::listing::Listing;
 use crate::membership::{Member, Membership, key_of, policy_of, primaries_of};
 use dz_name::Name;
+use dz_settings::{CatalogSettings, Config, Key, Peers, Policy};
 use std::alloc::{AllocError, Global};
 use std::marker::Model;
 use std::sync::Arc;
@@ -41,7 +40,7 @@ impl Model for Fold {
 }
 
 impl Fold {
-    /// The fold of a configuration: no zone is a member yet.
+    /// The fold of a configuration: no zone is a member yet. The error is out of memory.
     pub fn start(alloc: Global, config: Config) -> Result<Fold, AllocError>
         requires { IsAllowed config }
         ensures { IfOk result (λ f. f ≡ started config) }
@@ -145,7 +144,7 @@ impl Fold {
         }
     }
 
-    /// The member of a zone, which is looked for first at a likely place. The place behind it is likely then, so that
+    /// The member of a zone, which is looked for first at a likely place. The place after it is likely then, so that
     /// zones in canonical order that are mostly members take one comparison each.
     pub fn find_near(&self, likely: &mut usize, zone: &Name) -> Option<Member<'_>>
         ensures { result ≡ member_of zone.now self.now.members }

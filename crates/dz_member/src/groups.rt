@@ -1,12 +1,12 @@
-//! The group that a node is of (RFC 9432 section 4.3.2).
+//! The group that a node belongs to (RFC 9432 section 4.3.2).
 
 ghost use Rattle.std.specs.Prelude.{◌≡◌, ◌<◌, ◌≤◌, length, position, option_map};
 ghost use Rattle.std.specs.Option.{option_and_then, ForSome};
 ghost use Rattle.std.specs.Str.{bytes_eq};
 ghost use Rattle.dz_member.specs.Membership.{string_of, choice_of, group_at};
 
-use crate::config::GroupSettings;
 use dz_name::Octets;
+use dz_settings::GroupSettings;
 
 /// The text of RDATA that is one character string (RFC 1035 section 3.3).
 fn string_of(text: &[u8]) -> Option<&[u8]>
@@ -44,7 +44,7 @@ fn group_of_text(groups: &[GroupSettings], text: &[u8]) -> Option<usize>
     }
 }
 
-/// The number of the group that a node is of: that of the first of its TXT records which is a word of the catalog.
+/// The number of the group that a node belongs to: that of the first of its TXT records which is a word of the catalog.
 pub(crate) fn group_of(groups: &[GroupSettings], texts: &[Octets]) -> Option<u8>
     requires { length groups.now ≤ 64 }
     ensures word { option_map (λ number. (group_at groups.now number).word) result

@@ -16,8 +16,8 @@ use std::marker::Model;
 /// How many octets of a zone's sort key are compared as one number.
 const LEAD: usize = 16;
 
-/// A node behind the first 32 octets of its zone's sort key, which tell most zones apart, so that few comparisons read the
-/// node itself.
+/// A node preceded by the first 32 octets of its zone's sort key, which tell most zones apart, so that few comparisons
+/// read the node itself.
 #[derive(Drop)]
 pub(crate) struct Keyed<'a> {
     first: [u8; LEAD],
@@ -76,21 +76,21 @@ impl<'a> Keyed<'a> {
     }
 }
 
-/// How octets stand to others. They are compared as numbers, without a branch for each octet.
+/// How octets compare with others. They are compared as numbers, without a branch for each octet.
 fn compare_leads(left: &[u8; LEAD], right: &[u8; LEAD]) -> Ordering
     ensures { result ≡ slice_cmp nat_cmp left.now right.now }
 {
     u128::from_be_bytes(*left).cmp(&u128::from_be_bytes(*right))
 }
 
-/// The octets behind the first 16.
+/// The octets after the first 16.
 fn behind(octets: &[u8]) -> &[u8]
     ensures { result.now ≡ drop 16 octets.now }
 {
     &octets[octets.len().min(LEAD)..]
 }
 
-/// The first octets, with zeros behind them where they are few.
+/// The first octets, followed by zeros where they are few.
 fn lead_of(octets: &[u8]) -> [u8; LEAD]
     ensures { result ≡ lead_of 16 octets.now }
 {

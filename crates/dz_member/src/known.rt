@@ -25,13 +25,14 @@ impl Model for Known {
 }
 
 impl Known {
-    /// None yet.
+    /// No listing yet.
     pub(crate) fn nothing() -> Known
         ensures { result ≡ None }
     {
         Known { listing: None }
     }
 
+    /// A listing as folds share it. The error is out of memory.
     pub(crate) fn of(alloc: Global, listing: Listing) -> Result<Known, AllocError>
         ensures { IfOk result (λ k. k ≡ Some listing) }
     {
@@ -41,6 +42,7 @@ impl Known {
         })
     }
 
+    /// The listing, if there is one.
     pub(crate) fn listing(&self) -> Option<&Listing>
         ensures { option_map (λ r. r.now) result ≡ self.now }
     {
@@ -50,7 +52,7 @@ impl Known {
         }
     }
 
-    /// The same listing once more.
+    /// One more reference to the same listing. The error is out of memory.
     pub(crate) fn share(&self) -> Result<Known, AllocError>
         ensures { IfOk result (λ k. k ≡ self.now) }
     {
@@ -62,7 +64,7 @@ impl Known {
     }
 }
 
-/// Nothing is known yet of so many catalogs.
+/// Nothing is known yet of the given number of catalogs. The error is out of memory.
 pub(crate) fn nothing_known(alloc: Global, count: usize) -> Result<Vec<Known>, AllocError>
     ensures { IfOk result (λ ks. ks.items ≡ replicate count None) }
 {
@@ -73,7 +75,7 @@ pub(crate) fn nothing_known(alloc: Global, count: usize) -> Result<Vec<Known>, A
     Ok(known)
 }
 
-/// The same listings, but for a catalog's, which is the last now.
+/// The same listings, but for a catalog's: the given one is its last now. The error is out of memory.
 pub(crate) fn with_listing(
     alloc: Global,
     known: &[Known],
@@ -89,6 +91,7 @@ pub(crate) fn with_listing(
     Ok(copies)
 }
 
+/// One more reference to each of the listings. The error is out of memory.
 fn share_all(alloc: Global, known: &[Known]) -> Result<Vec<Known>, AllocError>
     ensures { IfOk result (λ ks. ks.items ≡ known.now) }
 {
@@ -99,6 +102,7 @@ fn share_all(alloc: Global, known: &[Known]) -> Result<Vec<Known>, AllocError>
     Ok(copies)
 }
 
+/// Replaces the listing of the catalog of a number.
 fn put(known: &mut Vec<Known>, number: usize, last: Known)
     requires { number < length known.old.items }
     ensures { known.new.items ≡ slice_set known.old.items number last }

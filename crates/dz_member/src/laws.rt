@@ -7,8 +7,8 @@ pub fn held_once()
     ensures { HeldOnce }
 {}
 
-/// A zone changes its holder only where the node of its label in the old holder's last unbroken listing has a `coo` that
-/// names the new one (RFC 9432 section 4.3.1).
+/// A zone changes its holder only where the node of its label in the old holder's last unbroken listing has a `coo`
+/// that names the new one (RFC 9432 section 4.3.1).
 pub fn moves_with_consent()
     ensures { MovesWithConsent }
 {}
@@ -24,7 +24,7 @@ pub fn stays()
     ensures clash { ClashStays }
 {}
 
-/// A listing that is processed once more changes nothing: the clashes that are still there are told again.
+/// A listing that is processed once more changes nothing: the clashes that are still there are reported again.
 pub fn changes_once()
     ensures { ChangesOnce }
 {}

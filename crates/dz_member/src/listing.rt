@@ -40,6 +40,7 @@ impl Texts {
         self.items
     }
 
+    /// The RDATA of the records, in the order of their octets.
     pub fn as_slice(&self) -> &[Octets]
         ensures { result.now ≡ self.now }
     {
@@ -61,8 +62,8 @@ pub struct Node {
 
 const _: () = prove!(size_of::<Node>() == 192);
 
-/// The member nodes of a catalog: at most 65,536, in the order of their labels, no label and no zone twice. Beside each
-/// it keeps four octets, which tell the order of the zones.
+/// The member nodes of a catalog: at most 65,536, in the order of their labels, no label and no zone twice. For each it
+/// keeps four more octets, which give the order of the zones.
 #[derive(Debug, Drop)]
 pub struct Listing {
     nodes: Vec<Node>,
@@ -120,7 +121,7 @@ impl Listing {
         self.places.as_slice()
     }
 
-    /// The node of the zone that is the one of this number in canonical order, from 0; none behind the last.
+    /// The node of the zone that is the one of this number in canonical order, from 0; none after the last.
     pub(crate) fn node_by_zone(&self, number: usize) -> Option<&Node>
         ensures { option_map (λ r. r.now) result ≡ slice_get (in_zone_order self.now) number }
     {
@@ -128,7 +129,7 @@ impl Listing {
     }
 }
 
-/// The node that stands at the place of a number; none behind the last place.
+/// The node at the place of a number; none after the last place.
 fn node_at<'a>(nodes: &'a [Node], places: &[u32], number: usize) -> Option<&'a Node>
     requires { ArePlaces nodes.now places.now }
     ensures { option_map (λ r. r.now) result ≡ slice_get (in_zone_order nodes.now) number }
@@ -140,13 +141,13 @@ fn node_at<'a>(nodes: &'a [Node], places: &[u32], number: usize) -> Option<&'a N
     }
 }
 
-/// Why a catalog's version has no listing. Where more than one holds, the first in this order counts (RFC 9432
-/// sections 4 and 5).
+/// Why a catalog's version has no listing. Where more than one holds, the first in this order counts (RFC 9432 sections
+/// 4 and 5).
 #[derive(Clone, Copy, Debug, PartialEq, Eq)]
 pub enum Broken {
-    /// No TXT stands at `version` below the catalog's name.
+    /// There is no TXT record at `version` below the catalog's name.
     NoVersion,
-    /// More than one stands there.
+    /// There is more than one.
     VersionTwice,
     /// It isn't the one character string "2".
     OtherVersion,

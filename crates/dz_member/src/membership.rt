@@ -3,13 +3,12 @@
 ghost use Rattle.std.specs.Prelude.{◌≡◌, option_map};
 ghost use Rattle.dz_member.specs.Membership.{settings_at, shown, policy_in, primaries_in, IsNumbered};
 
-use crate::config::{CatalogSettings, Peers, Policy};
-use crate::key::Key;
 use dz_name::{Label, Name, Octets};
+use dz_settings::{CatalogSettings, Key, Peers, Policy};
 use std::marker::Model;
 
 /// A zone that a catalog assigns, with the numbers of the catalog in the configuration and of the group in the catalog.
-/// What they stand for is read from the [`crate::Fold`] that has it, by a [`Member`].
+/// What they represent is read from the [`crate::Fold`] that has it, by a [`Member`].
 #[derive(Clone, Copy, Debug, PartialEq, Eq)]
 pub struct Membership {
     pub zone: Name,
@@ -25,7 +24,7 @@ pub struct Membership {
 
 const _: () = prove!(size_of::<Membership>() == 336);
 
-/// A membership with the names and settings that its numbers stand for.
+/// A membership with the names and settings that its numbers represent.
 #[derive(Debug, Drop)]
 pub struct Member<'a> {
     catalogs: &'a [CatalogSettings],
@@ -54,6 +53,7 @@ impl<'a> Member<'a> {
         }
     }
 
+    /// The zone.
     pub fn zone(&self) -> &'a Name
         ensures { result.now ≡ self.now.zone }
     {
@@ -81,7 +81,7 @@ impl<'a> Member<'a> {
         self.membership.incarnation
     }
 
-    /// The word of the group that the zone is of.
+    /// The word of the group that the zone belongs to.
     pub fn choice(&self) -> Option<&'a Octets>
         ensures { option_map (λ r. r.now) result ≡ self.now.choice }
     {

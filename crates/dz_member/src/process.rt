@@ -11,14 +11,14 @@ use crate::change::Changes;
 use crate::fold::Fold;
 use crate::known::with_listing;
 use crate::listing::Listing;
-use crate::walking::{Processed, walk};
+use crate::walk::{Processed, walk};
 use dz_name::Name;
 use std::alloc::{AllocError, Global};
 use std::sync::Arc;
 
 impl Fold {
-    /// The fold after an unbroken listing of a configured catalog, with its position as the incarnation of the zones
-    /// that begin by it, and what happened. This fold stays as it is.
+    /// The fold after an unbroken listing of a configured catalog, and what happened. The listing's position is the
+    /// incarnation of the zones that become members by it. This fold stays as it is.
     ///
     /// # Errors
     ///
@@ -53,7 +53,8 @@ impl Fold {
         }
     }
 
-    /// The fold of these memberships, in which this is the last listing of a catalog; and the changes.
+    /// The fold of these memberships, in which this is the last listing of a catalog; and the changes. The error is out
+    /// of memory.
     fn with(
         &self,
         alloc: Global,
@@ -81,7 +82,7 @@ impl Fold {
     }
 }
 
-/// What the nodes of a listing leave.
+/// The members and the changes after the nodes of a listing. The error is out of memory.
 fn process_nodes(
     alloc: Global,
     fold: &Fold,

@@ -12,10 +12,10 @@ use Rattle.dz_record.specs.declared.fields.Field.TheVariants.{FixedLength, Domai
 use Rattle.dz_record.specs.Fields.{fields_of, field_end, fits, is_rdata}
 use Rattle.dz_message.specs.declared.fault.MessageFault.{MessageFault}
 use Rattle.dz_message.specs.declared.fault.MessageFault.TheVariants.{BadRdata}
-use Rattle.dz_name.specs.declared.reading.WireFault.{WireFault}
+use Rattle.dz_name.specs.declared.wire_fault.WireFault.{WireFault}
 use Rattle.dz_message.specs.Reading.{◌>>=◌, named, octets_at, name_within, field_at, rdata_at}
 
--- what stands behind an Ok of two readers
+-- what follows an Ok of two readers
 pub then_ok : {A B : Type 0} (r : Result A MessageFault) (f : A → Result B MessageFault) (y : B) → (r >>= f) ≡ Ok y → (x : A) × (r ≡ Ok x) × (f x ≡ Ok y)
 then_ok (Ok x) f y h = (x, refl, h)
 then_ok (Err e) f y h = absurd (cc)

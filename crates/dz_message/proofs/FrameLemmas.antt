@@ -11,7 +11,7 @@ use Rattle.dz_name.specs.Numbers.{two, number_of_two}
 use Rattle.dz_name.proofs.NumberLemmas.{length_two, number-two}
 use Rattle.dz_message.specs.Frame.{frame, stream, first_size, frame_at, first_messages, messages_in, AreShort, IsFirst, IsCut}
 
--- the whole frames in front of octets, one by one
+-- the whole frames at the beginning of octets, one by one
 pub no_message : (n : ℕ) (octets : List ℕ) → first_size octets ≡ None → first_messages n octets ≡ []
 unfolding first_messages
 no_message zero octets none = refl
@@ -37,7 +37,7 @@ none_short : (octets : List ℕ) → length octets < 2 → first_size octets ≡
 unfolding first_size
 none_short octets short = let t : nat_lt (length octets) 2 ≡ true = grind (arith, nat_tests) in rw t refl
 
--- what stands behind the message in front is shorter
+-- what follows the first message is shorter
 rest_short : (octets : List ℕ) (size n : ℕ) → first_size octets ≡ Some size → length octets ≤ suc n → length (drop size (drop 2 octets)) ≤ n
 rest_short octets size n some enough =
     let is = size_is octets size some in
@@ -56,7 +56,7 @@ enough (suc n) (suc m) octets first second =
           ∙ sym (one_message m octets size e)
     ] refl
 
--- the message in front and those behind it
+-- the first message and those after it
 pub messages_more : (octets : List ℕ) (size : ℕ) → first_size octets ≡ Some size → messages_in octets ≡ take size (drop 2 octets) ∷ messages_in (drop size (drop 2 octets))
 messages_more octets size some =
     let is = size_is octets size some in
@@ -65,7 +65,7 @@ messages_more octets size some =
     ∙ ap (λ others. take size (drop 2 octets) ∷ others)
     (enough (length octets - 1) (length (drop size (drop 2 octets))) (drop size (drop 2 octets)) (rest_short octets size (length octets - 1) some (omega arith)) (omega arith))
 
--- what stands at an offset
+-- what is at an offset
 at_size : (octets : List ℕ) (at : ℕ) (size : Option ℕ) → first_size (drop at octets) ≡ size → IsFirst octets at (option_map (λ size. (at + 2, at + 2 + size)) size)
 at_size octets at None e = no_message _ (drop at octets) e
 at_size octets at (Some size) e =
@@ -116,7 +116,7 @@ come_back (suc n) (message ∷ messages) part enough short ends =
     ap (first_messages (suc n)) split ∙ one_message n (two (length message) ++ (message ++ rest)) (length message) (front_size message rest short.0)
     ∙ rw (behind, take_at message rest (length message) refl, drop_at message rest (length message) refl, others) refl
 
--- the first so many messages and what stands behind them
+-- the first messages, of the given number, and what follows them
 pub record CutAt (n : ℕ) (octets : List ℕ) : Type 0 where
   pub part : List ℕ
   pub are : octets ≡ stream (first_messages n octets) ++ part
@@ -128,7 +128,7 @@ no_cut n octets none =
     let e = no_message n octets none in
     record { part = octets; are = rw e refl; ends = none; short = rw e tt }
 
--- the length and the message that it stands before
+-- the length and the message that it precedes
 frame_there : (octets : List ℕ) (size : ℕ) → All (λ octet. octet < 256) octets → first_size octets ≡ Some size
     → (octets ≡ frame (take size (drop 2 octets)) ++ drop size (drop 2 octets)) × (length (take size (drop 2 octets)) ≤ 65535)
 frame_there [] size below some = absurd (omega (arith, (size_is [] size some).long))

@@ -1,4 +1,4 @@
--- So many of a kind, read one behind the other as a loop does.
+-- The given number of a kind, read one after the other as a loop does.
 use Rattle.std.proofs.Common.{◌≡◌, ℕ, suc, ◌-◌, ◌+◌, ◌≤◌, ◌<◌, List, [], ◌∷◌, ◌++◌, Result, Ok, Err, refl, sym, ap, ◌∙◌, append_assoc, arith}
 use Rattle.std.proofs.lemmas.List.{append-nil}
 use Rattle.dz_message.specs.declared.fault.MessageFault.{MessageFault}
@@ -6,7 +6,7 @@ use Rattle.dz_message.specs.declared.fault.MessageError.{MessageError}
 use Rattle.dz_message.specs.declared.fault.MessageError.TheVariants as errors
 use Rattle.dz_message.specs.Reading.{◌>>=◌, Fails, many}
 
--- a reading with what was read before in front
+-- a reading preceded by what was read before
 abbrev pub after : {X : Type 0} → List X → Result (List X × ℕ) MessageFault → Result (List X × ℕ) MessageFault
 after front read = read >>= λ x. Ok (front ++ x.0, x.1)
 

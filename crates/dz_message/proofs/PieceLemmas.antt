@@ -163,7 +163,7 @@ tally_rises t more = elim (has_room t.is_empty t.size more) as (λ b. total_of t
   | false ↦ omega arith
 ]
 
--- a message behind its length
+-- a message preceded by its length
 frame_size : (id : ℕ) (questions : List Question) (current : List Record) → length (frame (message_octets (answer_message id questions current))) ≡ 2 + size_of questions current
 frame_size id questions current =
     let m : List ℕ = message_octets (answer_message id questions current) in

@@ -1,4 +1,4 @@
--- What stands at a place of a message: octets, numbers, fields of RDATA and records that were written there.
+-- What is at a place of a message: octets, numbers, fields of RDATA and records that were written there.
 use Rattle.std.proofs.Common.{inl, inr, ◌≡◌, ℕ, suc, ◌+◌, ◌-◌, ◌<◌, ◌≤◌, ◌^◌, true, false, List, [], ◌∷◌, ◌++◌, length, take, drop, refl, sym, ◌∙◌, ap, subst, arith, append_assoc, length-append, length-drop, length-take-le, get_or, get_or-drop, Ok, Some, None}
 use Rattle.std.specs.Prelude.{slice_index, nat_lt}
 use Rattle.std.specs.Option.{option_map_or}
@@ -25,7 +25,7 @@ rdata_there m base at rdata more is le =
     let split : drop base m ≡ take at rdata ++ (drop at rdata ++ more) = is ∙ ap (λ xs. xs ++ more) (sym (take-append-drop at rdata)) ∙ append_assoc (take at rdata) (drop at rdata) more in
     drop_there m base at (take at rdata) (drop at rdata ++ more) split (length-take-le at rdata le)
 
--- so many octets of RDATA as they are
+-- this many octets of RDATA as they are
 octets_there : (m : List ℕ) (base at count : ℕ) (rdata more : List ℕ) → drop base m ≡ rdata ++ more → at + count ≤ length rdata
     → AreOctets m (base + at) (base + length rdata) count (take count (drop at rdata)) (base + (at + count))
 octets_there m base at count rdata more is le =
@@ -37,7 +37,7 @@ octets_there m base at count rdata more is le =
       piece_is = sym (ap (take count) there ∙ take-append-le count (drop at rdata) more room);
     }
 
--- a field of RDATA ends within it, and is a field of the message that the RDATA stands in
+-- a field of RDATA ends within it, and is a field of the message that the RDATA is in
 record FieldThere (m : List ℕ) (base at end : ℕ) (rdata : List ℕ) (field : Field) : Type 0 where
   pub behind : at ≤ end
   pub within : end ≤ length rdata
@@ -103,7 +103,7 @@ field_there Remainder m base at end rdata more is le ends =
     (subst (λ x. AreOctets m (base + at) (base + length rdata) (length rdata - at) (take (length rdata - at) (drop at rdata)) (base + x)) last are) in
     record { behind = omega arith; within = omega arith; is = rw size piece }
 
--- a piece of RDATA and what stands behind it
+-- a piece of RDATA and what follows it
 piece_and_rest : (rdata : List ℕ) (at end : ℕ) → at ≤ end → take (end - at) (drop at rdata) ++ drop end rdata ≡ drop at rdata
 piece_and_rest rdata at end le =
     let n : at + (end - at) ≡ end = omega arith in
@@ -142,11 +142,11 @@ two_there m at n rest lt is = ap number_of_two is ∙ number-two n rest lt
 pub four_there : (m : List ℕ) (at n : ℕ) (rest : List ℕ) → n < 2 ^ 32 → drop at m ≡ four n ++ rest → number_of_four (drop at m) ≡ n
 four_there m at n rest lt is = ap number_of_four is ∙ number-four n rest lt
 
--- what stands behind the owner of a record
+-- what follows the owner of a record
 abbrev pub fixed_octets : Record → List ℕ
 fixed_octets r = two r.kind ++ (two 1 ++ (four r.ttl ++ (two (length r.rdata) ++ r.rdata)))
 
--- a record behind an owner that reads as its own
+-- a record after an owner that reads as its own
 pub record_there : (m owner : List ℕ) (r : Record) (more : List ℕ) (at : ℕ) → r.kind < 2 ^ 16 → IsRecord r → Reads m at 0 at (Ok (r.owner, at + length owner))
     → drop at m ≡ (owner ++ fixed_octets r) ++ more → IsRecordAt m at r (at + length (owner ++ fixed_octets r))
 record_there m owner r more at kind_small held reads is =
@@ -203,7 +203,7 @@ record_there m owner r more at kind_small held reads is =
       short = short;
     }
 
--- what is written one behind the other, from a place on, reads so
+-- what is written one after the other, from a place on, reads so
 pub each_there : {X : Type 0} (Sound : X → Type 0) (One : ℕ → X → ℕ → Type 0) (octets : X → List ℕ) (m : List ℕ) (low : ℕ)
     → ((x : X) (more : List ℕ) (at : ℕ) → Sound x → low ≤ at → drop at m ≡ octets x ++ more → One at x (at + length (octets x)))
     → (xs : List X) (more : List ℕ) (at : ℕ) → AllByRecursion Sound xs → low ≤ at → drop at m ≡ flat_map octets xs ++ more → Each One at xs (at + length (flat_map octets xs))

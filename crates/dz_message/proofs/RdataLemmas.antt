@@ -15,7 +15,7 @@ pub no_octets : (m : List ℕ) (at end count : ℕ) → end ≤ at → octets_at
 unfolding octets_at
 no_octets m at end count h = let e : nat_le (count + 1) (end - at) ≡ false = grind (arith, nat_tests) in rw e refl
 
--- a reading with the octets read before in front
+-- a reading preceded by the octets read before
 abbrev pub behind : List ℕ → Result (List ℕ) MessageFault → Result (List ℕ) MessageFault
 behind front read = read >>= λ rest. Ok (front ++ rest)
 

@@ -220,7 +220,7 @@ is_record m at x h =
     } in
     subst (λ y. IsRecordAt m at y.0 y.1) {x = record_behind owner.0 head.0 rdata.0} (ok_is (record_behind owner.0 head.0 rdata.0) x rdata.2) is
 
--- so many of a kind
+-- the given number of a kind
 each_is : {X : Type 0} (One : ℕ → X → ℕ → Type 0) (one : ℕ → Result (X × ℕ) MessageFault) → ((at : ℕ) (x : X) (next : ℕ) → One at x next → one at ≡ Ok (x, next))
     → {at end : ℕ} {xs : List X} → Each One at xs end → many one (length xs) at ≡ Ok (xs, end)
 unfolding many
@@ -240,7 +240,7 @@ is_each {X} One one is (suc count) at r h =
     let rest = is_each One one is count first.0.1 others.0 others.1 in
     subst (λ y. Each One at y.0 y.1 × (length y.0 ≡ suc count)) e (one_first (is at first.0 first.1) rest.0, ap suc rest.1)
 
--- nothing stands behind the last record
+-- nothing follows the last record
 ends : (o : Option (List ℕ)) (rest : List ℕ) → ended o ≡ Ok rest → o ≡ Some []
 ends None rest h = absurd (cc)
 ends (Some []) rest h = refl

@@ -93,12 +93,12 @@ header_there m header a b c d rest is counts there =
       behind = d12;
     }
 
--- nothing stands behind the answers
+-- nothing follows the answers
 no_others : (c d : ℕ) (octets : List ℕ) → c ≡ 0 → d ≡ 0 → octets ≡ [] → behind_records (c + d) octets ≡ Some []
 unfolding behind_records
 no_others c d octets first second is = rw (first, second, is) refl
 
--- a fact on each, by place and one behind the other
+-- a fact on each, by place and one after the other
 each : {X : Type 0} (P : X → Type 0) (xs : List X) → All P xs → AllByRecursion P xs
 each P [] all = tt
 each P (x ∷ xs) all = (all 0 x (omega arith), each P xs (λ k d lt. all (suc k) d (omega arith)))

@@ -17,13 +17,15 @@ use Rattle.dz_record.specs.Record.{Record}
 use Rattle.dz_message.specs.Frame.{stream, first_size, frame_at, first_messages, messages_in}
 use Rattle.dz_message.specs.Query.{query_octets}
 
+-- the name example.
 abbrev example : Name
 example = codes "example" ∷ []
 
--- ID 1, the question for a transfer of eXample., and an address of the same name by a pointer
+-- ID 1, the question for a transfer of eXample., and an address record of the same name by a pointer
 abbrev transfer : Octets
 transfer = 0 ∷ 1 ∷ 132 ∷ 0 ∷ 0 ∷ 1 ∷ 0 ∷ 1 ∷ 0 ∷ 0 ∷ 0 ∷ 0 ∷ 7 ∷ 101 ∷ 88 ∷ 97 ∷ 109 ∷ 112 ∷ 108 ∷ 101 ∷ 0 ∷ 0 ∷ 252 ∷ 0 ∷ 1 ∷ 192 ∷ 12 ∷ 0 ∷ 1 ∷ 0 ∷ 1 ∷ 0 ∷ 0 ∷ 14 ∷ 16 ∷ 0 ∷ 4 ∷ 192 ∷ 0 ∷ 2 ∷ 1 ∷ []
 
+-- what this message says
 abbrev content : Content
 content = record {
   header = record { id = 1; flags = 0x8400; counts = 1 ∷ 1 ∷ 0 ∷ 0 ∷ [] };
@@ -31,12 +33,12 @@ content = record {
   answers = record { owner = example; kind = 1; ttl = 3600; rdata = 192 ∷ 0 ∷ 2 ∷ 1 ∷ [] } ∷ [];
 }
 
--- names come in lower case and without pointers
+-- names are read in lower case and without pointers
 pub is_read : message_of transfer ≡ Ok content
 unfolding message_of content_of many question_in question_at record_at head_at head_in rdata_of rdata_at octets_at fields_of behind_records name_at name_from element_at header_in number_of_two number_of_four
 is_read = refl
 
--- an octet more is a fault, and so are octets that are missing
+-- an additional octet is a fault, and so are octets that are missing
 pub an_octet_more : message_of (transfer ++ 0 ∷ []) ≡ Err Trailing
 unfolding message_of content_of many question_in question_at record_at head_at head_in rdata_of rdata_at octets_at fields_of behind_records name_at name_from element_at header_in number_of_two number_of_four
 an_octet_more = refl
@@ -49,13 +51,13 @@ pub no_question_there : message_of (0 ∷ 1 ∷ 132 ∷ 0 ∷ 0 ∷ 1 ∷ 0 ∷ 
 unfolding message_of content_of many question_in question_at name_at name_from element_at header_in number_of_two
 no_question_there = refl
 
--- written without pointers
+-- the message as it is written, without pointers
 pub is_written : message_octets content
     ≡ 0 ∷ 1 ∷ 132 ∷ 0 ∷ 0 ∷ 1 ∷ 0 ∷ 1 ∷ 0 ∷ 0 ∷ 0 ∷ 0 ∷ 7 ∷ codes "example" ++ 0 ∷ 0 ∷ 252 ∷ 0 ∷ 1 ∷ 7 ∷ codes "example" ++ 0 ∷ 0 ∷ 1 ∷ 0 ∷ 1 ∷ 0 ∷ 0 ∷ 14 ∷ 16 ∷ 0 ∷ 4 ∷ 192 ∷ 0 ∷ 2 ∷ 1 ∷ []
 unfolding message_octets question_octets header_octets wire_of two four
 is_written = refl
 
--- two messages behind their lengths, and a part of a third
+-- two messages preceded by their lengths, and part of a third
 abbrev frames : Octets
 frames = 0 ∷ 3 ∷ 10 ∷ 20 ∷ 30 ∷ 0 ∷ 0 ∷ 0 ∷ 2 ∷ 40 ∷ []
 

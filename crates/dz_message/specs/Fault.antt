@@ -3,6 +3,7 @@ use Rattle.std.specs.Prelude.{ℕ}
 use Rattle.dz_message.specs.declared.fault.MessageFault.{MessageFault}
 use Rattle.dz_message.specs.declared.fault.MessageFault.TheVariants.{Wire, ShortHeader, BadRdata, BadType, Trailing}
 
+-- the number of a fault
 abbrev pub fault_number : MessageFault → ℕ
 fault_number Wire = 1
 fault_number ShortHeader = 2

@@ -4,6 +4,7 @@ use Rattle.dz_header.specs.declared.header.Header.{Header}
 use Rattle.dz_record.specs.Record.{Record}
 use Rattle.dz_header.specs.declared.question.Question.{Question}
 
+-- the header, questions and answer records of a message
 pub record Content : Type 0 where
   pub header : Header
   pub questions : List Question

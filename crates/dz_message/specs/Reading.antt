@@ -1,4 +1,4 @@
--- Meaning: a message read from left to right, with the first fault that is met (RFC 1035 section 4.1).
+-- Meaning: a message read from left to right, with the first fault that is found (RFC 1035 section 4.1).
 use Rattle.std.specs.Prelude.{◌≡◌, ℕ, zero, suc, ◌+◌, ◌-◌, Bool, ◌==◌, ◌||◌, not, nat_le, nat_lt, List, [], ◌∷◌, ◌++◌, length, take, drop, slice_index, Option, Some, None, Result, Ok, Err, if◌then◌else◌}
 use Rattle.dz_name.specs.Name.{wire_of}
 use Rattle.dz_name.specs.Reading.{name_at}
@@ -18,59 +18,61 @@ use Rattle.dz_header.specs.Question.{question_at}
 use Rattle.dz_header.specs.RecordHead.{head_of}
 use Rattle.dz_header.specs.declared.record_head.RecordHead.{RecordHead}
 use Rattle.dz_header.specs.declared.record_head.TheConstants.{HEAD_OCTETS}
-use Rattle.dz_name.specs.declared.reading.WireFault.{WireFault}
+use Rattle.dz_name.specs.declared.wire_fault.WireFault.{WireFault}
 use Rattle.dz_name.specs.declared.dns.TheConstants.{CLASS_IN, HEADER_OCTETS, MESSAGE_OCTETS}
 use Rattle.dz_message.specs.Message.{Content}
 use Rattle.dz_name.specs.Words.{Octets}
 
--- one reader after another; the first fault is the fault of the whole
 infixl 10 ◌>>=◌
+-- one reader after another; the first fault is the fault of the whole
 abbrev pub ◌>>=◌ : {A B : Type 0} → Result A MessageFault → (A → Result B MessageFault) → Result B MessageFault
 (Ok x) >>= f = f x
 (Err e) >>= f = Err e
 
--- what a call gave, seen by `view`, is what is read there, unless memory was wanting
+-- a call failed with the fault that is read, or ran out of memory
 abbrev pub Fails : {Y : Type 0} → MessageError → Result Y MessageFault → Type 0
 Fails errors.OutOfMemory read = Unit {0}
 Fails (errors.Fault f) read = read ≡ Err f
 
+-- what a call gave, seen by `view`, is what is read, unless it ran out of memory
 abbrev pub Gives : {X Y : Type 0} → (X → Y) → Result X MessageError → Result Y MessageFault → Type 0
 Gives view (Ok x) read = read ≡ Ok (view x)
 Gives view (Err e) read = Fails e read
 
--- a call that appends what is read: the octets before, the octets after, and what it gave
+-- a call that appends what is read, given the octets before, the octets after, and its result
 abbrev pub Appends : {Y : Type 0} → Octets → Octets → Result Y MessageError → Result Octets MessageFault → Type 0
 Appends old new (Ok y) read = (piece : Octets) × (read ≡ Ok piece) × (new ≡ old ++ piece)
 Appends old new (Err e) read = Fails e read
 
--- the same for one field, which gives the offset behind it
+-- the same for one field, where the result is the offset after it
 abbrev pub AppendsOne : Octets → Octets → Result ℕ MessageError → Result (Octets × ℕ) MessageFault → Type 0
 AppendsOne old new (Ok next) read = (piece : Octets) × (read ≡ Ok (piece, next)) × (new ≡ old ++ piece)
 AppendsOne old new (Err e) read = Fails e read
 
--- a call that only looks whether something can be read
+-- a call that only checks whether something can be read
 abbrev pub EndsWell : {X Y : Type 0} → Result X MessageFault → Result Y MessageFault → Type 0
 EndsWell (Ok x) read = (y : _) × (read ≡ Ok y)
 EndsWell (Err e) read = read ≡ Err e
 
--- every fault of a name is one fault of the message
+-- every fault of a name is the fault Wire of the message
 abbrev pub named : {X : Type 0} → Result X WireFault → Result X MessageFault
 named (Ok x) = Ok x
 named (Err fault) = Err Wire
 
--- octets that are missing are the same fault
+-- missing octets are the fault Wire, too
 abbrev pub all_there : {X : Type 0} → Option X → Result X MessageFault
 all_there (Some x) = Ok x
 all_there None = Err Wire
 
+-- the question at an offset and the offset after it (RFC 1035 section 4.1.2)
 unfoldable pub question_in : Octets → ℕ → Result (Question × ℕ) MessageFault
 question_in m at = named (question_at m at)
 
--- type, class, TTL and length of RDATA, ten octets behind an owner
+-- type, class, TTL and length of RDATA, the ten octets after an owner name
 unfoldable pub head_at : Octets → ℕ → Result RecordHead MessageFault
 head_at m at = all_there (head_of (drop at m))
 
--- so many octets of RDATA that ends at `end`, and the offset behind them
+-- this many octets of RDATA that ends at `end`, and the offset after them
 unfoldable pub octets_at : Octets → ℕ → ℕ → ℕ → Result (Octets × ℕ) MessageFault
 octets_at m at end count = if nat_le count (end - at) then Ok (take count (drop at m), at + count) else Err BadRdata
 
@@ -80,13 +82,14 @@ name_within m at end = do
   name ← named (name_at m at)
   if nat_le name.1 end then Ok (wire_of name.0, name.1) else Err BadRdata
 
+-- the canonical form of a field of RDATA that ends at `end`, and the offset after it
 abbrev pub field_at : Octets → ℕ → ℕ → Field → Result (Octets × ℕ) MessageFault
 field_at m at end (FixedLength count) = octets_at m at end count
 field_at m at end DomainName = name_within m at end
 field_at m at end CharacterString = octets_at m at end (slice_index m at + 1)
 field_at m at end Remainder = octets_at m at end (end - at)
 
--- the canonical form of the fields that stand from `at` to `end`, and nothing behind them
+-- the canonical form of the fields that are between `at` and `end`, with nothing after them
 unfoldable pub rdata_at : Octets → ℕ → ℕ → List Field → Result Octets MessageFault
 rdata_at m at end [] = if at == end then Ok [] else Err BadRdata
 rdata_at m at end (field ∷ fields) = do
@@ -94,17 +97,18 @@ rdata_at m at end (field ∷ fields) = do
   rest ← rdata_at m piece.1 end fields
   Ok (piece.0 ++ rest)
 
--- a record of another class than IN, or of a type that no zone holds, before its RDATA is looked at
+-- a record of a class other than IN, or of a type that no zone holds, which is judged before its RDATA
 abbrev pub is_bad_kind : RecordHead → Bool
 is_bad_kind head = not (head.class == CLASS_IN) || is_bad_type head.kind
 
--- RDATA that is all there, in canonical form, of at most 65,535 octets
+-- RDATA that is complete, in canonical form, of at most 65,535 octets
 unfoldable pub rdata_of : Octets → ℕ → RecordHead → Result Octets MessageFault
 rdata_of m at head =
     if is_bad_kind head then Err BadType
     else if nat_lt (length m) (at + head.size) then Err Wire
     else rdata_at m at (at + head.size) (fields_of head.kind) >>= λ rdata. if nat_le (length rdata) MESSAGE_OCTETS then Ok rdata else Err BadRdata
 
+-- the record at an offset and the offset after it (RFC 1035 section 4.1.3)
 unfoldable pub record_at : Octets → ℕ → Result (Record × ℕ) MessageFault
 record_at m at = do
   owner ← named (name_at m at)
@@ -112,7 +116,7 @@ record_at m at = do
   rdata ← rdata_of m (owner.1 + HEAD_OCTETS) head
   Ok (record { owner = owner.0; kind = head.kind; ttl = ttl_of head.ttl; rdata = rdata }, owner.1 + HEAD_OCTETS + head.size)
 
--- so many of a kind, one behind the other
+-- this many of a kind, one after the other, and the offset after them
 unfoldable pub many : {X : Type 0} → (ℕ → Result (X × ℕ) MessageFault) → ℕ → ℕ → Result (List X × ℕ) MessageFault
 many one zero at = Ok ([], at)
 many one (suc count) at = do
@@ -120,14 +124,16 @@ many one (suc count) at = do
   others ← many one count first.1
   Ok (first.0 ∷ others.0, others.1)
 
--- the other records are skipped by their shape, and nothing stands behind them
+-- the other records are skipped by their shape, and nothing follows them
 abbrev pub ended : Option Octets → Result Octets MessageFault
 ended None = Err Wire
 ended (Some rest) = if length rest == 0 then Ok rest else Err Trailing
 
+-- the count of a section in the header: 0 questions, 1 answers, 2 authority, 3 additional
 abbrev pub count_in : Header → ℕ → ℕ
 count_in header k = slice_index header.counts k
 
+-- what a message with this header says: its questions, its answers, and only skipped records after them
 unfoldable pub content_of : Octets → Header → Result Content MessageFault
 content_of m header = do
   questions ← many (question_in m) (count_in header 0) HEADER_OCTETS

@@ -1,4 +1,4 @@
--- Meaning: a message as octets, names without pointers (RFC 1035 section 4.1).
+-- Meaning: a message as octets, with names without pointers (RFC 1035 section 4.1).
 use Rattle.std.specs.Prelude.{◌≡◌, [], ◌∷◌, ◌++◌, length, Result, Ok, Err, ◌<◌, ◌≤◌, ◌^◌}
 use Rattle.std.specs.List.{flat_map, All, AllByRecursion}
 use Rattle.dz_name.specs.Name.{wire_of, IsName}
@@ -13,35 +13,37 @@ use Rattle.dz_message.specs.Message.{Content}
 use Rattle.dz_name.specs.declared.dns.TheConstants.{MESSAGE_OCTETS}
 use Rattle.dz_name.specs.Words.{Octets}
 
+-- a question as octets: name, type and class (RFC 1035 section 4.1.2)
 unfoldable pub question_octets : Question → Octets
 question_octets q = wire_of q.name ++ (two q.kind ++ two q.class)
 
+-- a message as octets: header, questions and answer records
 unfoldable pub message_octets : Content → Octets
 message_octets m = header_octets m.header ++ (flat_map question_octets m.questions ++ flat_map record_octets m.answers)
 
--- the counts are the numbers of questions and answers, and there are no other records
+-- the header counts the questions and answers that there are, and no other records
 abbrev pub CountsAgree : Content → Type 0
 CountsAgree m = m.header.counts ≡ length m.questions ∷ length m.answers ∷ 0 ∷ 0 ∷ []
 
--- a message of at most 65,535 octets is written; TooLong comes for a longer one alone
+-- a message of at most 65,535 octets is written; TooLong is given for a longer one only
 abbrev pub IsWritten : Content → Result Octets WriteError → Type 0
 IsWritten m (Ok octets) = (octets ≡ message_octets m) × (length octets ≤ MESSAGE_OCTETS)
 IsWritten m (Err errors.TooLong) = MESSAGE_OCTETS < length (message_octets m)
 IsWritten m (Err errors.OutOfMemory) = Unit {0}
 
--- a question in memory: a name, and two numbers of two octets
+-- a question in memory: a name, and two 16-bit numbers
 pub record IsAsking (q : Question) : Type 0 where
   pub name : IsName q.name
   pub kind : q.kind < 2 ^ 16
   pub class : q.class < 2 ^ 16
 
--- the six numbers of a header have two octets each
+-- a header in memory: each of its six numbers has 16 bits
 pub record IsHeader (header : Header) : Type 0 where
   pub id : header.id < 2 ^ 16
   pub flags : header.flags < 2 ^ 16
   pub counts : AllByRecursion (λ n. n < 2 ^ 16) header.counts
 
--- what a message in memory holds
+-- a message in memory: each of its parts is one
 pub record IsHeldMessage (m : Content) : Type 0 where
   pub header : IsHeader m.header
   pub questions : All IsAsking m.questions

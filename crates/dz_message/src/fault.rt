@@ -1,4 +1,4 @@
-//! Why octets are no message, and why a message has no octets.
+//! Why octets are not a message, and why a message has no octets.
 
 ghost use Rattle.std.specs.Prelude.{◌≡◌};
 ghost use Rattle.dz_message.specs.declared.fault.MessageFault.TheVariants.{Wire};
@@ -9,23 +9,23 @@ ghost use Rattle.dz_message.specs.Fault.{fault_number};
 use dz_name::WireFault;
 use std::alloc::{AllocError, AllocFailed};
 
-/// The first fault from left to right.
+/// The first fault of a message, from left to right.
 #[derive(Clone, Copy, Debug, PartialEq, Eq)]
 pub enum MessageFault {
-    /// A name has no reading, or octets are missing.
+    /// A name can't be read, or octets are missing.
     Wire,
     /// There are fewer than twelve octets.
     ShortHeader,
     /// RDATA doesn't fit its type, or has more than 65,535 octets in canonical form.
     BadRdata,
-    /// An answer record is of another class than IN or of a type that no zone holds.
+    /// An answer record has a class other than IN, or a type that no zone holds.
     BadType,
-    /// Octets stand behind the last record.
+    /// There are trailing octets after the last record.
     Trailing,
 }
 
 impl MessageFault {
-    /// The fault's number, 1 to 5 in the order Wire, ShortHeader, BadRdata, BadType, Trailing.
+    /// The number of the fault, 1 to 5 in the order Wire, ShortHeader, BadRdata, BadType, Trailing.
     pub fn number(self) -> u8
         ensures { result ≡ fault_number self }
     {
@@ -57,6 +57,7 @@ pub enum WriteError {
 impl From<WireFault> for MessageFault {
     ghost from_gives = { λ _ e. e ≡ Wire };
 
+    /// Every fault of a name is `Wire`.
     fn from(_fault: WireFault) -> MessageFault {
         MessageFault::Wire
     }
@@ -65,6 +66,7 @@ impl From<WireFault> for MessageFault {
 impl From<WireFault> for MessageError {
     ghost from_gives = { λ _ e. e ≡ errors.Fault Wire };
 
+    /// Every fault of a name is the fault `Wire`.
     fn from(_fault: WireFault) -> MessageError {
         MessageError::Fault(MessageFault::Wire)
     }
@@ -73,6 +75,7 @@ impl From<WireFault> for MessageError {
 impl From<MessageFault> for MessageError {
     ghost from_gives = { λ f e. e ≡ errors.Fault f };
 
+    /// The fault of the octets.
     fn from(fault: MessageFault) -> MessageError {
         MessageError::Fault(fault)
     }
@@ -81,6 +84,7 @@ impl From<MessageFault> for MessageError {
 impl From<AllocError> for MessageError {
     ghost from_gives = { λ _ e. e ≡ errors.OutOfMemory };
 
+    /// Out of memory.
     fn from(_error: AllocError) -> MessageError {
         MessageError::OutOfMemory
     }
@@ -89,6 +93,7 @@ impl From<AllocError> for MessageError {
 impl<T: Drop> From<AllocFailed<T>> for MessageError {
     ghost from_gives = { λ _ e. e ≡ errors.OutOfMemory };
 
+    /// Out of memory.
     fn from(_error: AllocFailed<T>) -> MessageError {
         MessageError::OutOfMemory
     }
@@ -97,6 +102,7 @@ impl<T: Drop> From<AllocFailed<T>> for MessageError {
 impl From<AllocError> for WriteError {
     ghost from_gives = { λ _ e. e ≡ write_errors.OutOfMemory };
 
+    /// Out of memory.
     fn from(_error: AllocError) -> WriteError {
         WriteError::OutOfMemory
     }

@@ -1,17 +1,14 @@
-//! Frames: over TCP each message stands behind its length in two octets (RFC 1035 section 4.2.2).
+//! Frames: over TCP each message is preceded by its length in two octets (RFC 1035 section 4.2.2).
 
 ghost use Rattle.std.specs.Prelude.{◌≡◌, ◌≤◌, ◌++◌, length, is_ok, if◌then◌else◌, IfSome};
 ghost use Rattle.dz_message.specs.Frame.{frame, frame_at, IsWithin, IsFirst, ComesBack, ComesBackBeforeAPart, EachIsCut};
 
-use dz_name::dns::MESSAGE_OCTETS;
+use dz_name::dns::{LENGTH_OCTETS, MESSAGE_OCTETS};
 use dz_name::numbers::{number_of_two, two};
 use std::alloc::AllocError;
 
-/// How many octets the length of a message has.
-pub const LENGTH_OCTETS: usize = 2;
-
-/// Where the message of the whole frame at an offset begins, and the offset behind it. `None` exactly where no whole
-/// frame stands there, also past the end.
+/// Where the message of the whole frame at an offset begins, and the offset after it. `None` exactly where there is no
+/// whole frame, also past the end.
 #[tactic(auto, using(crate::proofs::FrameLemmas::first_there))]
 pub fn next_frame(octets: &[u8], at: usize) -> Option<(usize, usize)>
     ensures place { result ≡ frame_at octets.now at }
@@ -21,6 +18,7 @@ pub fn next_frame(octets: &[u8], at: usize) -> Option<(usize, usize)>
     frame_at(octets, at)
 }
 
+/// Where the message of the whole frame at an offset begins and ends; none where there is no whole frame.
 #[tactic(auto, unfolding(crate::specs::Frame::frame_at, crate::specs::Frame::first_size))]
 fn frame_at(octets: &[u8], at: usize) -> Option<(usize, usize)>
     ensures place { result ≡ frame_at octets.now at }
@@ -44,7 +42,7 @@ fn frame_at(octets: &[u8], at: usize) -> Option<(usize, usize)>
 ///
 /// # Errors
 ///
-/// `AllocError` where memory is wanting; what was there is then left as it was.
+/// `AllocError` where memory runs out; `out` is then left as it was.
 pub fn push_frame(out: &mut Vec<u8>, message: &[u8]) -> Result<(), AllocError>
     requires { length message.now ≤ MESSAGE_OCTETS }
     ensures { out.new.items ≡ (if is_ok result then out.old.items ++ frame message.now
@@ -61,13 +59,13 @@ pub fn push_frame(out: &mut Vec<u8>, message: &[u8]) -> Result<(), AllocError>
     }
 }
 
-/// What was put into frames comes back.
+/// What was put into frames is read back, also where it is followed by part of a frame.
 pub fn comes_back()
     ensures whole { ComesBack }
     ensures cut { ComesBackBeforeAPart }
 {}
 
-/// Every string of octets is the frames of its whole messages, and a part of a frame behind them.
+/// Every string of octets consists of the frames of its whole messages, followed by part of a frame.
 pub fn each_is_cut()
     ensures { EachIsCut }
 {}

@@ -1,4 +1,4 @@
-//! Messages of a transfer that are put together record by record (RFC 5936 section 2.2).
+//! Messages of a transfer that are built record by record (RFC 5936 section 2.2).
 
 ghost use Rattle.std.specs.Prelude.{◌≡◌, ◌==◌, ℕ, List, ◌+◌, ◌≤◌, ◌++◌, ◌∷◌, [], false, length, take, drop, option_map, if◌then◌else◌};
 ghost use Rattle.std.specs.Option.{option_to_list};
@@ -13,16 +13,16 @@ use dz_name::numbers::two;
 use dz_record::Rr;
 use std::marker::Model;
 
-/// A message takes no further record that would bring it past so many octets, unless it holds none.
+/// A message takes no further record that would make it longer than this many octets, unless it has none.
 pub const PIECE_OCTETS: usize = 16_384;
 
 /// QR and AA (RFC 5936 section 2.2.1).
 pub const ANSWER_FLAGS: u16 = 0x8400;
 
-/// Where the number of answer records stands in a header (RFC 1035 section 4.1.1).
+/// The offset of ANCOUNT in a header (RFC 1035 section 4.1.1).
 const COUNT_AT: usize = 6;
 
-/// A message of a transfer that is put together at the front of a buffer, which each call is given: how many octets and
+/// A message of a transfer that is built at the beginning of a buffer, which is given to each call: how many octets and
 /// how many answer records it has so far.
 #[derive(Debug, Drop)]
 pub struct Piece {
@@ -41,7 +41,7 @@ impl Model for Piece {
 }
 
 impl Piece {
-    /// Begins a message with this ID, and with a question or without one.
+    /// Begins a message with this ID, with or without a question.
     pub fn begin(id: u16, question: Option<&Question>, out: &mut [u8]) -> Piece
         requires { length out.old ≡ MESSAGE_OCTETS }
         ensures holds { Holds result out.new id
@@ -54,6 +54,7 @@ impl Piece {
         }
     }
 
+    /// Begins a message without a question.
     fn begin_bare(id: u16, out: &mut [u8]) -> Piece
         requires { length out.old ≡ MESSAGE_OCTETS }
         ensures holds { Holds result out.new id [] [] }
@@ -66,6 +67,7 @@ impl Piece {
         }
     }
 
+    /// Begins a message with a question.
     fn begin_asked(id: u16, question: &Question, out: &mut [u8]) -> Piece
         requires { length out.old ≡ MESSAGE_OCTETS }
         ensures holds { Holds result out.new id (question.now ∷ []) [] }
@@ -76,8 +78,8 @@ impl Piece {
         Piece { size, count: 0 }
     }
 
-    /// Whether a record of so many octets has room: the message stays within 65,535 octets, and within 16,384 unless it
-    /// holds no record.
+    /// Whether there is room for a record of `more` octets: the message stays within 65,535 octets, and within 16,384
+    /// unless it has no record.
     fn has_room(&self, more: usize) -> bool
         requires { more ≤ 131_072 }
         ensures { result ≡ has_room (self.now.count == 0) self.now.size more }
@@ -86,7 +88,8 @@ impl Piece {
         size <= MESSAGE_OCTETS && (self.count == 0 || size <= PIECE_OCTETS)
     }
 
-    /// Adds a record without pointers, where it has room; whether it has. Without room nothing changes.
+    /// Adds a record without pointers, if there is room for it, and returns whether there is. Without room nothing
+    /// changes.
     pub fn add(&mut self, rr: &Rr, out: &mut [u8]) -> bool
         requires { length out.old ≡ MESSAGE_OCTETS }
         ensures room { result ≡ has_room (self.old.count == 0) self.old.size
@@ -107,7 +110,7 @@ impl Piece {
         true
     }
 
-    /// Ends the message: its number of octets. They stand at the front of the buffer.
+    /// Ends the message, and returns its number of octets, which are at the beginning of the buffer.
     pub fn end(self, out: &mut [u8]) -> usize
         requires { length out.old ≡ MESSAGE_OCTETS }
         ensures size { result ≡ self.size }
@@ -121,7 +124,7 @@ impl Piece {
     }
 }
 
-/// Puts the header to the front, as that of a message without answers.
+/// Writes the header to the beginning of the buffer, as that of a message without answers.
 fn put_head(id: u16, asked: u16, out: &mut [u8])
     requires { length out.old ≡ MESSAGE_OCTETS }
     ensures { take HEADER_OCTETS out.new ≡ head_octets id asked }
@@ -136,7 +139,7 @@ fn put_head(id: u16, asked: u16, out: &mut [u8])
     put_at(out, 0, &octets);
 }
 
-/// Puts a question behind the header; the place behind it.
+/// Writes a question after the header, and returns the offset after it.
 fn put_question(question: &Question, out: &mut [u8]) -> usize
     requires { length out.old ≡ MESSAGE_OCTETS }
     ensures place { result ≡ HEADER_OCTETS + length (question_octets question.now) }
@@ -152,7 +155,7 @@ fn put_question(question: &Question, out: &mut [u8]) -> usize
     behind + 4
 }
 
-/// Puts octets to a place.
+/// Writes octets at an offset.
 fn put_at(out: &mut [u8], at: usize, octets: &[u8])
     requires { at + length octets.now ≤ length out.old }
     ensures { out.new ≡ take at out.old

@@ -4,19 +4,20 @@ ghost use Rattle.dz_record.specs.Record.{record_octets};
 ghost use Rattle.dz_message.specs.Spelling.{Spells};
 ghost use Rattle.dz_message.specs.Query.{query_kind, query_header, query_question, query_octets, query_content, IsHeld, IsHeldSoa};
 
-use crate::writing::{write_answer, write_head, write_question};
+use crate::write::{write_answer, write_head, write_question};
 use dz_header::{Header, Question};
 use dz_name::dns::{CLASS_IN, TYPE_AXFR, TYPE_IXFR};
 use dz_name::{Name, Octets};
 use dz_record::Rr;
 use std::alloc::{AllocError, Global};
 
-/// The octets of the query for a transfer of a zone, names without pointers: for all of it (AXFR, RFC 5936 section
-/// 2.1), or beside the SOA record of a held version for the differences from that version (IXFR, RFC 1995 section 3).
+/// The octets of the query for a transfer of a zone, with names without pointers. It asks for the whole zone (AXFR, RFC
+/// 5936 section 2.1), or, given the SOA record of the held version, for the differences from that version (IXFR, RFC
+/// 1995 section 3).
 ///
 /// # Errors
 ///
-/// `AllocError` where memory is wanting.
+/// `AllocError` where memory runs out.
 #[tactic(auto, unfolding(crate::specs::Query::query_octets))]
 pub fn write_query(
     alloc: Global,
@@ -37,6 +38,7 @@ pub fn write_query(
     Ok(Octets::from_vec(out))
 }
 
+/// The header of the query, which counts the held SOA record.
 fn query_header(id: u16, held: Option<&Rr>) -> Header
     ensures { result ≡ query_header id (option_map (λ r. r.now) held.entry) }
 {
@@ -47,6 +49,7 @@ fn query_header(id: u16, held: Option<&Rr>) -> Header
     }
 }
 
+/// The question of the query: IXFR where a version is held, and otherwise AXFR.
 fn query_question(zone: &Name, held: Option<&Rr>) -> Question
     ensures { result ≡ query_question zone.now (option_map (λ r. r.now) held.entry) }
 {
@@ -57,7 +60,7 @@ fn query_question(zone: &Name, held: Option<&Rr>) -> Question
     }
 }
 
-/// The held record, in the authority section.
+/// Appends the held SOA record, for the authority section. `AllocError` where memory runs out.
 fn write_held(held: Option<&Rr>, out: &mut Vec<u8>) -> Result<(), AllocError>
     ensures octets { OnOk result
         (out.new.items ≡ out.old.items

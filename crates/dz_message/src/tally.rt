@@ -1,17 +1,16 @@
-//! How many octets messages have in which records are packed.
+//! How many octets the messages have into which records are packed.
 
 ghost use Rattle.std.specs.Prelude.{◌≡◌, ◌≤◌, ◌<◌, ◌+◌, ◌^◌, length};
 ghost use Rattle.dz_record.specs.Record.{record_octets};
 ghost use Rattle.dz_message.specs.Piece.{has_room, nothing_counted, tallied, total_of};
 
-use crate::frame::LENGTH_OCTETS;
 use crate::piece::PIECE_OCTETS;
-use dz_name::dns::{HEADER_OCTETS, MESSAGE_OCTETS};
+use dz_name::dns::{HEADER_OCTETS, LENGTH_OCTETS, MESSAGE_OCTETS};
 use dz_record::Rr;
 use std::marker::Model;
 
-/// How many octets the messages have, behind their lengths, in which records are packed as [`crate::Piece`] takes them,
-/// without a message written.
+/// Counts the octets of the messages, each preceded by its length, into which records are packed as [`crate::Piece`]
+/// takes them, without writing any message.
 #[derive(Debug, Drop)]
 pub struct Tally {
     before: usize,
@@ -28,7 +27,7 @@ impl Model for Tally {
 }
 
 impl Tally {
-    /// A first message without a record, in which a question takes so many octets.
+    /// A first message without a record, whose question has the given number of octets.
     pub fn new(question: usize) -> Tally
         requires { question < 2 ^ 32 }
         ensures { result ≡ nothing_counted question }
@@ -40,7 +39,7 @@ impl Tally {
         }
     }
 
-    /// Counts one record more.
+    /// Counts one more record.
     pub fn add(&mut self, rr: &Rr)
         requires { total_of self.old < 2 ^ 62 }
         ensures { self.new ≡ tallied self.old (length (record_octets rr.now)) }
@@ -55,6 +54,7 @@ impl Tally {
         self.is_empty = false;
     }
 
+    /// Whether the last message has room for a record of `more` octets, as in [`crate::Piece`].
     fn has_room(&self, more: usize) -> bool
         requires more { more ≤ 131_072 }
         requires few { total_of self.now < 2 ^ 62 }
@@ -64,7 +64,7 @@ impl Tally {
         size <= MESSAGE_OCTETS && (self.is_empty || size <= PIECE_OCTETS)
     }
 
-    /// The octets of all messages so far.
+    /// How many octets all messages so far have, including the length before each.
     pub fn total(&self) -> usize
         requires { total_of self.now < 2 ^ 63 }
         ensures { result ≡ total_of self.now }

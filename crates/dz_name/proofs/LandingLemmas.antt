@@ -1,4 +1,4 @@
--- What stands where a chain of pointers ends reads as what stands where it begins, but for where it ends in its place.
+-- What is at the end of a chain of pointers reads the same as what is at its beginning, but for the offset after it.
 use Rattle.std.proofs.Common.{◌≡◌, ℕ, ◌+◌, ◌<◌, ◌≤◌, List, [], ◌∷◌, ◌++◌, length, refl, sym, ◌∙◌, inl, inr, true, false, arith}
 use Rattle.std.specs.Prelude.{slice_index, slice_index_or, nat_lt}
 use Rattle.std.proofs.Common.{length-append}

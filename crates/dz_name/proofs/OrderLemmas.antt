@@ -16,7 +16,7 @@ unfolding wire_of
 labels_few [] each = omega arith
 labels_few (label ∷ labels) each = omega (arith, labels_few labels each.1, each.0.some, length-append label (wire_of labels))
 
--- what stands at a label's place
+-- what is at a label's place
 pub wire_at : (labels : List (List ℕ)) (k : ℕ) → k ≤ length labels → drop (offset_of labels k) (wire_of labels) ≡ wire_of (drop k labels)
 unfolding wire_of
 wire_at labels zero h = let e : length (wire_of labels) - length (wire_of labels) ≡ 0 = omega arith in rw e refl
@@ -44,7 +44,7 @@ offset_lt labels k = omega (arith, wire_some (drop k labels), wire_some labels)
 pub label_within : (labels : List (List ℕ)) (k : ℕ) → k ≤ length labels → offset_of labels k + get_or (wire_of labels) (offset_of labels k) 0 < length (wire_of labels)
 label_within labels k h = omega (arith, first_at labels k h, first_in (drop k labels), wire_drop_le k labels)
 
--- the label that stands at its place
+-- the label at its place
 pub label_in_wire : (labels : List (List ℕ)) (k : ℕ) → k < length labels → take (get_or (wire_of (drop k labels)) 0 0) (drop 1 (wire_of (drop k labels))) ≡ get_or labels k []
 unfolding wire_of
 label_in_wire [] k h = absurd (omega arith)

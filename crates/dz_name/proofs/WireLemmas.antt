@@ -4,7 +4,7 @@ use Rattle.std.proofs.lemmas.List.{append-nil}
 use Rattle.dz_name.specs.Name.{wire_of, IsName, labels_in, labels_of, IsWire}
 use Rattle.dz_name.proofs.KeptLemmas.{labels_in-wire_of, labels_le}
 
--- the labels stand at the front of their wire form and what follows it
+-- the labels are at the beginning of their wire form and what follows it
 pub labels_front : (labels : List (List ℕ)) (more : List ℕ) (n : ℕ) → IsName labels → n ≡ length (wire_of labels) → labels_in n (wire_of labels ++ more) ≡ labels
 labels_front labels more n name n_is = rw n_is (labels_in-wire_of labels _ more name.each (labels_le labels))
 

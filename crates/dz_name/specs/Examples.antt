@@ -4,7 +4,7 @@ use Rattle.std.specs.declared.cmp.Ordering.TheVariants.{Less, Greater}
 use Rattle.dz_name.specs.Words.{Name, Octets}
 use Rattle.dz_name.specs.Name.{wire_of, is_within, canonical_order, wildcard_of}
 use Rattle.dz_name.specs.Reading.{name_at, name_from, element_at}
-use Rattle.dz_name.specs.declared.reading.WireFault.TheVariants.{Short, BadPointer}
+use Rattle.dz_name.specs.declared.wire_fault.WireFault.TheVariants.{Short, BadPointer}
 use Rattle.dz_name.specs.Text.{items, labels_from, with_label, name_of_text, text_of}
 use Rattle.dz_name.specs.declared.text.NameError.TheVariants.{EmptyLabel, BadEscape}
 
@@ -56,7 +56,7 @@ below_itself = refl
 pub beside : is_within (codes "an-example" ∷ []) example ≡ false
 beside = refl
 
--- texts: escapes, and what is no name (RFC 1035 section 5.1)
+-- texts: escapes, and texts that are not names (RFC 1035 section 5.1)
 pub escapes : name_of_text (codes "A\\.b\\046.Example.") ≡ Ok (codes "a.b." ∷ example)
 unfolding name_of_text items labels_from with_label wire_of
 escapes = refl

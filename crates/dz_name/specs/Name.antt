@@ -21,12 +21,12 @@ pub record IsLabel (label : Octets) : Type 0 where
   pub short : length label < 64
   pub lower_case : lower label ≡ label
 
--- the wire form: each label behind its length octet, and a zero octet at the end
+-- the wire form: each label preceded by its length octet, and a zero octet at the end (RFC 1035 section 3.1)
 unfoldable pub wire_of : Name → Octets
 wire_of [] = 0 ∷ []
 wire_of (label ∷ labels) = length label ∷ (label ++ wire_of labels)
 
--- the labels whose wire form stands at the front of some octets (RFC 1035 section 3.1); the number only bounds how many
+-- the labels whose wire form is at the beginning of some octets (RFC 1035 section 3.1); the number only bounds how many
 -- are read
 unfoldable pub labels_in : ℕ → Octets → Name
 labels_in zero octets = []
@@ -34,7 +34,7 @@ labels_in (suc n) [] = []
 labels_in (suc n) (zero ∷ octets) = []
 labels_in (suc n) (suc k ∷ octets) = take (suc k) octets ∷ labels_in n (drop (suc k) octets)
 
--- a name is a list of labels whose wire form has at most 255 octets
+-- a name is a list of labels whose wire form has at most 255 octets (RFC 1035 section 3.1)
 pub record IsName (labels : Name) : Type 0 where
   pub each : AllByRecursion IsLabel labels
   pub short : length (wire_of labels) ≤ 255
@@ -48,30 +48,33 @@ pub record IsWire (wire : Octets) : Type 0 where
   pub name : IsName (labels_of wire)
   pub wire_is : wire ≡ wire_of (labels_of wire)
 
--- a name is within another where that one is a suffix of it
+-- a name is at or below another where that one is a suffix of it
 abbrev pub IsWithin : Name → Name → Type 0
 IsWithin name above = (front : Name) × (name ≡ front ++ above)
 
--- the same as truth values: two labels are one, two names are one, and a name is within another
+-- whether two labels are the same
 abbrev pub same_label : Octets → Octets → Bool
 same_label a b = bytes_eq a b
 
+-- whether two names are the same
 abbrev pub same_name : Name → Name → Bool
 same_name a b = pointwise bytes_eq a b
 
+-- whether a name is at or below another, as a truth value
 abbrev pub is_within : Name → Name → Bool
 is_within name above = ends_with bytes_eq name above
 
--- the name one label up; the root has none
+-- the parent name, one label up; none for the root
 abbrev pub parent_of : Name → Option Name
 parent_of [] = None
 parent_of (label ∷ labels) = Some labels
 
+-- the leftmost label; none for the root
 abbrev pub first_label : Name → Option Octets
 first_label [] = None
 first_label (label ∷ labels) = Some label
 
--- the name and those above it, the longest first, the root last
+-- the name and its ancestors, the longest first, the root last
 unfoldable pub upward : Name → List Name
 upward [] = [] ∷ []
 upward (label ∷ labels) = (label ∷ labels) ∷ upward labels
@@ -84,15 +87,15 @@ wildcard_of name = (42 ∷ []) ∷ name
 abbrev pub fitting : Name → Option Name
 fitting name = if nat_le (length (wire_of name)) 255 then Some name else None
 
--- labels in order: as octet strings, where a missing octet sorts first
+-- the order of labels as octet strings, where a missing octet sorts first
 abbrev pub label_order : Octets → Octets → Ordering
 label_order = slice_cmp nat_cmp
 
--- canonical order: label by label from the right, as octet strings; a missing label or octet sorts first
--- (RFC 4034 section 6.1)
+-- canonical order: label by label from the right, as octet strings; a missing label or octet sorts first (RFC 4034
+-- section 6.1)
 abbrev pub canonical_order : Name → Name → Ordering
 canonical_order a b = slice_cmp (slice_cmp nat_cmp) (reverse a) (reverse b)
 
--- a name with one label more in front: its wire form has the label and its length octet more, and at most 255 octets
+-- the child of a name with one more label before the first, where its wire form has at most 255 octets
 abbrev pub child_of : Name → Octets → Result Name NameError
 child_of name label = if nat_lt (length (wire_of name) + length label) 255 then Ok (label ∷ name) else Err NameTooLong

@@ -9,6 +9,6 @@ Octets = List ℕ
 abbrev pub Name : Type 0
 Name = List Octets
 
--- the number of a type (RFC 1035 section 3.2.2)
+-- the number of a TYPE (RFC 1035 section 3.2.2)
 abbrev pub Kind : Type 0
 Kind = ℕ

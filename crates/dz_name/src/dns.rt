@@ -21,7 +21,7 @@ pub const TYPE_MG: u16 = 8;
 pub const TYPE_MR: u16 = 9;
 /// A pointer to another name (RFC 1035 section 3.3.12).
 pub const TYPE_PTR: u16 = 12;
-/// Who answers for a mailbox (RFC 1035 section 3.3.7).
+/// The mailbox responsible for a mailing list or a mailbox (RFC 1035 section 3.3.7).
 pub const TYPE_MINFO: u16 = 14;
 /// A mail exchange (RFC 1035 section 3.3.9).
 pub const TYPE_MX: u16 = 15;
@@ -51,25 +51,25 @@ pub const TYPE_KX: u16 = 36;
 pub const TYPE_A6: u16 = 38;
 /// The redirection of a subtree (RFC 6672).
 pub const TYPE_DNAME: u16 = 39;
-/// EDNS (RFC 6891), which is no record of a zone.
+/// The pseudo-record of EDNS (RFC 6891), which no zone holds.
 pub const TYPE_OPT: u16 = 41;
-/// The digest of a key of a zone below (RFC 4034 section 5).
+/// The digest of a key of a child zone (RFC 4034 section 5).
 pub const TYPE_DS: u16 = 43;
 /// A signature (RFC 4034 section 3).
 pub const TYPE_RRSIG: u16 = 46;
-/// The next name and the types of a name (RFC 4034 section 4).
+/// The next owner name, and the types at an owner name (RFC 4034 section 4).
 pub const TYPE_NSEC: u16 = 47;
 /// A digest of a zone (RFC 8976).
 pub const TYPE_ZONEMD: u16 = 63;
-/// The first of the numbers that are types of questions and transactions alone: TKEY (RFC 2930).
+/// The first of the QTYPEs and Meta-TYPEs from 249 to 255: TKEY (RFC 2930).
 pub const TYPE_TKEY: u16 = 249;
-/// A question for the differences from a version of a zone (RFC 1995).
+/// The QTYPE for the differences from a version of a zone (RFC 1995).
 pub const TYPE_IXFR: u16 = 251;
-/// A question for a whole zone (RFC 5936).
+/// The QTYPE for a whole zone (RFC 5936).
 pub const TYPE_AXFR: u16 = 252;
-/// A question for records of mail agents, obsolete (RFC 1035 section 3.2.3).
+/// The QTYPE for records of mail agents, obsolete (RFC 1035 section 3.2.3).
 pub const TYPE_MAILA: u16 = 254;
-/// A question for all types (RFC 1035 section 3.2.3, RFC 8482).
+/// The QTYPE for all types (RFC 1035 section 3.2.3, RFC 8482).
 pub const TYPE_ANY: u16 = 255;
 
 /// The Internet (RFC 1035 section 3.2.4).
@@ -80,23 +80,25 @@ pub const OPCODE_QUERY: u16 = 0;
 /// A NOTIFY (RFC 1996 section 3).
 pub const OPCODE_NOTIFY: u16 = 4;
 
-/// How many octets a label has at most (RFC 1035 section 3.1).
+/// The maximum length of a label in octets (RFC 1035 section 3.1).
 pub const LABEL_OCTETS: usize = 63;
-/// How many octets the wire form of a name has at most (RFC 1035 section 3.1).
+/// The maximum length of the wire form of a name in octets (RFC 1035 section 3.1).
 pub const NAME_OCTETS: usize = 255;
-/// How many octets a header has (RFC 1035 section 4.1.1).
+/// The length of a header in octets (RFC 1035 section 4.1.1).
 pub const HEADER_OCTETS: usize = 12;
-/// How many octets a message has at most, and RDATA, since their lengths have two octets (RFC 1035 sections 4.1.3 and
-/// 4.2.2).
+/// The maximum length of a message, and of RDATA, in octets, since either length has two octets (RFC 1035 sections
+/// 4.1.3 and 4.2.2).
 pub const MESSAGE_OCTETS: usize = 65_535;
-/// How many octets a reply over UDP has at most without EDNS (RFC 1035 section 4.2.1).
+/// The size in octets of the length field before a message over TCP (RFC 1035 section 4.2.2).
+pub const LENGTH_OCTETS: usize = 2;
+/// The maximum length in octets of a reply over UDP without EDNS (RFC 1035 section 4.2.1).
 pub const UDP_OCTETS: usize = 512;
-/// How many octets a reply over UDP has at most with EDNS: what passes Ethernet and IPv6 unbroken (RFC 6891 section
-/// 6.2.5).
+/// The maximum length in octets of a reply over UDP with EDNS, which fits Ethernet and IPv6 without fragmentation (RFC
+/// 6891 section 6.2.5).
 pub const EDNS_OCTETS: usize = 1232;
-/// How many CNAME records one answer has at most.
+/// The maximum number of CNAME records in an answer.
 pub const ALIASES: usize = 16;
-/// How many records a zone has at most.
+/// The maximum number of records in a zone.
 pub const ZONE_RECORDS: usize = 250_000;
-/// How many octets a transfer has at most, its messages behind their lengths: 64 MiB.
+/// The maximum length of a transfer in octets, counting the length field before each message: 64 MiB.
 pub const TRANSFER_OCTETS: usize = 67_108_864;

@@ -1,4 +1,4 @@
-//! Names in little memory.
+//! Names that take little memory.
 
 ghost use Rattle.std.specs.Prelude.{◌≡◌, IfOk};
 ghost use Rattle.dz_name.specs.Name.{canonical_order};
@@ -9,11 +9,11 @@ use std::alloc::{AllocError, Global};
 use std::cmp::Ordering;
 use std::marker::Model;
 
-/// Wire forms of so many octets stand in the name itself.
+/// Wire forms of at most this many octets are kept in the name itself.
 const INLINE: usize = 32;
 
-/// A name in little memory: up to 32 octets of its wire form stand in it, and more in an allocation of their number.
-/// Contracts see it as the list of its labels.
+/// A name that takes little memory: a wire form of at most 32 octets is kept in the name itself, and a longer one in an
+/// allocation of its size. Contracts see it as the list of its labels.
 #[derive(Debug, Drop)]
 pub struct KeptName {
     octets: SmallVec<u8, INLINE>,
@@ -31,7 +31,7 @@ impl Model for KeptName {
 }
 
 impl KeptName {
-    /// The name with octets of its own.
+    /// A copy of the name with octets of its own.
     ///
     /// # Errors
     ///
@@ -44,25 +44,25 @@ impl KeptName {
         })
     }
 
-    /// The same name once more, in memory of its own.
+    /// A copy of the name, in memory of its own.
     ///
     /// # Errors
     ///
-    /// As of [`KeptName::of`].
+    /// As for [`KeptName::of`].
     pub fn try_clone(&self) -> Result<KeptName, AllocError>
         ensures { IfOk result (λ copy. copy ≡ self.now) }
     {
         KeptName::of(*self.octets.allocator(), &self.as_ref())
     }
 
-    /// The name on its own octets.
+    /// The name as a reference to its own octets.
     pub fn as_ref(&self) -> NameRef<'_>
         ensures { result ≡ self.now }
     {
         NameRef::of_wire(self.octets.as_slice())
     }
 
-    /// Canonical order (RFC 4034 section 6.1).
+    /// Canonical order of names (RFC 4034 section 6.1).
     pub fn canonical_cmp(&self, other: &KeptName) -> Ordering
         ensures { result ≡ canonical_order self.now other.now }
     {

@@ -1,6 +1,7 @@
 //! Domain names (RFC 1034 section 3.1, RFC 1035 section 3.1, RFC 4034 section 6.1).
 #![tactic(auto)]
 
+mod decimal;
 pub mod dns;
 mod kept_name;
 mod label;
@@ -10,15 +11,16 @@ pub mod numbers;
 mod octets;
 mod order;
 mod parts;
-mod reading;
 mod text;
 mod wire;
+mod wire_fault;
 
+pub use decimal::read_number;
 pub use kept_name::KeptName;
 pub use label::Label;
 pub use name::Name;
 pub use name_ref::NameRef;
 pub use octets::Octets;
-pub use reading::{WireFault, canonical_name_end};
 pub use text::NameError;
 pub use wire::{Wire, landings_of};
+pub use wire_fault::{WireFault, canonical_name_end};

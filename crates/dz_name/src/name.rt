@@ -8,9 +8,9 @@ use crate::name_ref::NameRef;
 use crate::text::NameError;
 use std::marker::Model;
 
-/// A domain name: labels of 1 to 63 octets, kept with ASCII letters in lower case, whose wire form has at most
-/// 255 octets (RFC 1035 section 3.1, RFC 4343 section 2). Contracts see it as the list of its labels, the one of the
-/// host first and without the root's.
+/// A domain name: labels of 1 to 63 octets, kept with ASCII letters in lower case, whose wire form has at most 255
+/// octets (RFC 1035 section 3.1, RFC 4343 section 2). Contracts see it as the list of its labels, the leftmost first
+/// and without the root's.
 #[derive(Clone, Copy, Debug)]
 pub struct Name {
     octets: [u8; 255],
@@ -33,7 +33,7 @@ impl Model for Name {
 }
 
 impl Name {
-    /// The name without labels.
+    /// The root: the name without labels.
     pub fn root() -> Name
         ensures { result ≡ [] }
     {
@@ -51,14 +51,14 @@ impl Name {
         &self.octets[..self.len as usize]
     }
 
-    /// The name on its own octets.
+    /// The name as a reference to its own octets.
     pub fn as_ref(&self) -> NameRef<'_>
         ensures { result ≡ self.now }
     {
         NameRef::of_wire(self.wire())
     }
 
-    /// The name whose wire form these octets are.
+    /// The name that has this wire form.
     pub(crate) fn of_wire(wire: &[u8]) -> Name
         requires { IsWire wire.now }
         ensures { result ≡ labels_of wire.now }
@@ -71,7 +71,7 @@ impl Name {
         }
     }
 
-    /// Puts a label behind the last one, with its ASCII letters in lower case.
+    /// Appends a label after the last one, with its ASCII letters in lower case.
     pub fn push_label(&mut self, label: &[u8])
         requires some { 0 < length label.now }
         requires short { length label.now < 64 }
@@ -85,7 +85,7 @@ impl Name {
         self.len += label.len() as u8 + 1;
     }
 
-    /// The name behind the first labels.
+    /// The ancestor that is left when the first `skip` labels are removed.
     pub fn ancestor(&self, skip: usize) -> Name
         requires { skip ≤ length self.now }
         ensures { result ≡ drop skip self.now }
@@ -99,7 +99,7 @@ impl Name {
         }
     }
 
-    /// The same on the octets of this name.
+    /// The same ancestor, as a reference to the octets of this name.
     pub fn ancestor_ref(&self, skip: usize) -> NameRef<'_>
         requires { skip ≤ length self.now }
         ensures { result ≡ drop skip self.now }
@@ -107,7 +107,7 @@ impl Name {
         NameRef::of_wire(self.as_ref().behind(skip))
     }
 
-    /// The name with one more label in front, where there is room for it.
+    /// The name with one more label before the first, where there is room for it.
     fn prepend(&self, label: &[u8]) -> Name
         requires is { IsLabel label.now }
         requires room { length (wire_of self.now) + length label.now < 255 }
@@ -125,7 +125,7 @@ impl Name {
         }
     }
 
-    /// The name with one more label in front.
+    /// The child of the name with this label before the first.
     ///
     /// # Errors
     ///
@@ -140,8 +140,8 @@ impl Name {
         }
     }
 
-    /// So many first labels of the name, followed by the labels of another one, as a DNAME renames (RFC 6672 section 2.2);
-    /// none where its wire form would have more than 255 octets.
+    /// The first `count` labels of the name followed by the labels of `above`, as a DNAME substitution does (RFC 6672
+    /// section 2.2); none where its wire form would have more than 255 octets.
     pub fn in_front(&self, count: usize, above: &NameRef) -> Option<Name>
         requires { count ≤ length self.now }
         ensures { result ≡ fitting (take count self.now ++ above.now) }
@@ -170,7 +170,7 @@ impl Name {
     }
 }
 
-/// Writes a label in lower case behind its length octet.
+/// Writes a label in lower case, preceded by its length octet.
 fn write_label(octets: &mut [u8; 255], at: usize, label: &[u8])
     requires short { length label.now < 64 }
     requires room { at + length label.now + 1 < 255 }
@@ -183,7 +183,7 @@ fn write_label(octets: &mut [u8; 255], at: usize, label: &[u8])
     part.make_ascii_lowercase();
 }
 
-/// Writes octets at a place.
+/// Writes octets at an offset.
 fn write_at(octets: &mut [u8; 255], at: usize, part: &[u8])
     requires { at + length part.now ≤ 255 }
     ensures { octets.new ≡ take at octets.old

@@ -1,4 +1,4 @@
-//! Names whose wire form lies elsewhere.
+//! Names whose wire form is held elsewhere.
 
 ghost use Rattle.std.specs.Prelude.{◌≡◌, ℕ, ◌+◌, ◌-◌, ◌<◌, ◌≤◌, ◌↔◌, List, [], ◌∷◌, ◌++◌, length, take, drop, IsTrue, IfSome, slice_index, slice_index_or};
 ghost use Rattle.dz_name.specs.Name.{wire_of, IsLabel, IsName, IsWithin, same_name, is_within, canonical_order, labels_of, IsWire};
@@ -9,10 +9,11 @@ use crate::name::Name;
 use std::cmp::Ordering;
 use std::marker::Model;
 
-/// A wire form has at most 127 labels.
+/// The room for the label offsets of a name; a wire form has at most 127 labels.
 const LABELS: usize = 128;
 
-/// A name whose wire form lies elsewhere, as at the front of a record. Contracts see it as the list of its labels.
+/// A name whose wire form is held elsewhere, such as at the beginning of a record. Contracts see it as the list of its
+/// labels.
 #[derive(Debug, Drop)]
 pub struct NameRef<'a> {
     octets: &'a [u8],
@@ -30,7 +31,7 @@ impl<'a> Model for NameRef<'a> {
 }
 
 impl<'a> NameRef<'a> {
-    /// The name whose wire form these octets are.
+    /// The name that has this wire form.
     pub fn of_wire(wire: &'a [u8]) -> NameRef<'a>
         requires { IsWire wire.now }
         ensures { result ≡ labels_of wire.now }
@@ -46,7 +47,7 @@ impl<'a> NameRef<'a> {
         self.octets
     }
 
-    /// The name with octets of its own.
+    /// A copy of the name with octets of its own.
     pub fn to_name(&self) -> Name
         ensures { result ≡ self.now }
     {
@@ -66,7 +67,7 @@ impl<'a> NameRef<'a> {
         count
     }
 
-    /// The wire form of the name that stands behind the first labels.
+    /// The wire form of the name that follows the first `skip` labels.
     pub fn behind(&self, skip: usize) -> &'a [u8]
         requires { skip ≤ length self.now }
         ensures wire { result.now ≡ wire_of (drop skip self.now) }
@@ -79,7 +80,7 @@ impl<'a> NameRef<'a> {
         rest
     }
 
-    /// A label behind its length octet, as it stands in the wire form; 0 is the first.
+    /// A label preceded by its length octet, as in the wire form; 0 is the first.
     pub fn piece(&self, number: usize) -> &'a [u8]
         requires { number < length self.now }
         ensures piece { (d : Octets)
@@ -90,7 +91,7 @@ impl<'a> NameRef<'a> {
         first_piece(self.behind(number))
     }
 
-    /// Whether the two names are one.
+    /// Whether the two names are the same.
     pub fn same(&self, other: &NameRef) -> bool
         ensures value { result ≡ same_name self.now other.now }
         ensures equal { IsTrue result ↔ (self.now ≡ other.now) }
@@ -98,7 +99,7 @@ impl<'a> NameRef<'a> {
         self.wire() == other.wire()
     }
 
-    /// Whether the name is the other one or stands below it.
+    /// Whether the name is the other one or below it.
     pub fn is_within(&self, above: &NameRef) -> bool
         ensures value { result ≡ is_within self.now above.now }
         ensures suffix { IsTrue result ↔ IsWithin self.now above.now }
@@ -106,7 +107,7 @@ impl<'a> NameRef<'a> {
         self.is_within_part(above, 0)
     }
 
-    /// Whether the name is within what stands behind the first labels of the other.
+    /// Whether the name is at or below the other name without its first `skip` labels.
     pub fn is_within_part(&self, above: &NameRef, skip: usize) -> bool
         requires { skip ≤ length above.now }
         ensures value { result ≡ is_within self.now (drop skip above.now) }
@@ -127,7 +128,7 @@ impl<'a> NameRef<'a> {
         }
     }
 
-    /// The order of two names that differ in their first labels alone; none of others.
+    /// The order of two names that differ in their first label alone; none for all others.
     fn sibling_cmp(&self, other: &NameRef) -> Option<Ordering>
         ensures { IfSome result (λ order. order ≡ canonical_order self.now other.now) }
     {
@@ -143,7 +144,7 @@ impl<'a> NameRef<'a> {
         }
     }
 
-    /// Canonical order by all labels.
+    /// Canonical order, by comparing all labels from the right.
     fn cmp_from_the_right(&self, other: &NameRef) -> Ordering
         ensures { result ≡ canonical_order self.now other.now }
     {
@@ -162,7 +163,7 @@ impl<'a> NameRef<'a> {
         left.cmp(&right)
     }
 
-    /// Writes down where each label begins in the wire form, and says how many labels there are.
+    /// Writes down the offset of each label in the wire form, and returns the number of labels.
     fn starts(&self, starts: &mut [u8; LABELS]) -> usize
         ensures count { result ≡ length self.now }
         ensures starts { AreStarts self.now (length self.now) starts.new }
@@ -178,7 +179,7 @@ impl<'a> NameRef<'a> {
         count
     }
 
-    /// The label of a number, counted from 0 on the left.
+    /// The label with this number, counted from 0 on the left.
     fn label(&self, starts: &[u8; LABELS], number: usize) -> &[u8]
         requires within { number < length self.now }
         requires starts { AreStarts self.now (length self.now) starts.now }
@@ -188,7 +189,7 @@ impl<'a> NameRef<'a> {
     }
 }
 
-/// What stands behind the first label of a wire form.
+/// What follows the first label of a wire form.
 fn behind_label(wire: &[u8]) -> &[u8]
     requires some { 0 < length wire.now }
     requires whole { slice_index wire.now 0 < length wire.now }
@@ -197,7 +198,7 @@ fn behind_label(wire: &[u8]) -> &[u8]
     &wire[wire[0] as usize + 1..]
 }
 
-/// The first label of a wire form behind its length octet.
+/// The first label of a wire form, preceded by its length octet.
 fn first_piece(wire: &[u8]) -> &[u8]
     requires some { 0 < length wire.now }
     requires whole { slice_index wire.now 0 < length wire.now }
@@ -206,7 +207,7 @@ fn first_piece(wire: &[u8]) -> &[u8]
     &wire[..wire[0] as usize + 1]
 }
 
-/// The label whose length octet stands at a place.
+/// The label whose length octet is at an offset.
 fn label_at(wire: &[u8], at: usize) -> &[u8]
     requires at { at < length wire.now }
     requires whole { at + slice_index wire.now at < length wire.now }

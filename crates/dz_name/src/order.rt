@@ -24,6 +24,7 @@ impl PartialEq for Name {
 
     ghost laws = { names_partly_equal };
 
+    /// Whether the two names are the same.
     fn eq(&self, other: &Name) -> bool {
         self.same(other)
     }
@@ -38,6 +39,7 @@ impl PartialOrd for Name {
 
     ghost laws = { names_ordered };
 
+    /// Canonical order, which is total.
     fn partial_cmp(&self, other: &Name) -> Option<Ordering> {
         Some(self.canonical_cmp(other))
     }
@@ -52,6 +54,7 @@ impl Ord for Name {
 
     ghost matches_eq = { same_ties };
 
+    /// Canonical order of names (RFC 4034 section 6.1).
     fn cmp(&self, other: &Name) -> Ordering {
         self.canonical_cmp(other)
     }
@@ -62,6 +65,7 @@ impl PartialEq for Label {
 
     ghost laws = { labels_partly_equal };
 
+    /// Whether the two labels have the same octets.
     fn eq(&self, other: &Label) -> bool {
         self.octets() == other.octets()
     }
@@ -76,6 +80,7 @@ impl PartialOrd for Label {
 
     ghost laws = { labels_ordered };
 
+    /// The order of labels as octet strings, which is total.
     fn partial_cmp(&self, other: &Label) -> Option<Ordering> {
         Some(self.cmp(other))
     }
@@ -90,6 +95,7 @@ impl Ord for Label {
 
     ghost matches_eq = { same_label_ties };
 
+    /// The order of labels as octet strings.
     fn cmp(&self, other: &Label) -> Ordering {
         self.octets().cmp(other.octets())
     }

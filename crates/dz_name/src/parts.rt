@@ -15,7 +15,7 @@ impl Name {
         self.as_ref().label_count()
     }
 
-    /// The wire form of the name that stands behind the first labels.
+    /// The wire form of the name that follows the first `skip` labels.
     pub fn behind(&self, skip: usize) -> &[u8]
         requires { skip ≤ length self.now }
         ensures wire { result.now ≡ wire_of (drop skip self.now) }
@@ -24,7 +24,7 @@ impl Name {
         self.as_ref().behind(skip)
     }
 
-    /// A label behind its length octet, as it stands in the wire form; 0 is the first.
+    /// A label preceded by its length octet, as in the wire form; 0 is the first.
     pub fn piece(&self, number: usize) -> &[u8]
         requires { number < length self.now }
         ensures piece { (d : Octets)
@@ -35,7 +35,7 @@ impl Name {
         self.as_ref().piece(number)
     }
 
-    /// Whether the two names are one.
+    /// Whether the two names are the same.
     pub fn same(&self, other: &Name) -> bool
         ensures value { result ≡ same_name self.now other.now }
         ensures equal { IsTrue result ↔ (self.now ≡ other.now) }
@@ -43,7 +43,7 @@ impl Name {
         self.as_ref().same(&other.as_ref())
     }
 
-    /// Whether the name is the other one or stands below it.
+    /// Whether the name is the other one or below it.
     pub fn is_within(&self, above: &Name) -> bool
         ensures value { result ≡ is_within self.now above.now }
         ensures suffix { IsTrue result ↔ IsWithin self.now above.now }
@@ -51,7 +51,7 @@ impl Name {
         self.as_ref().is_within(&above.as_ref())
     }
 
-    /// Whether the name is within what stands behind the first labels of the other.
+    /// Whether the name is at or below the other name without its first `skip` labels.
     pub fn is_within_part(&self, above: &Name, skip: usize) -> bool
         requires { skip ≤ length above.now }
         ensures value { result ≡ is_within self.now (drop skip above.now) }
@@ -60,7 +60,7 @@ impl Name {
         self.as_ref().is_within_part(&above.as_ref(), skip)
     }
 
-    /// The label on the left; none for the root alone.
+    /// The leftmost label; none for the root.
     pub fn first(&self) -> Option<Label>
         ensures { result ≡ first_label self.now }
     {
@@ -71,7 +71,7 @@ impl Name {
         }
     }
 
-    /// The name one label up; none for the root alone.
+    /// The parent name, one label up; none for the root.
     pub fn parent(&self) -> Option<Name>
         ensures { result ≡ parent_of self.now }
     {

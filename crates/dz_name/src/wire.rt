@@ -9,8 +9,8 @@ use std::marker::Model;
 /// How far a pointer reaches: its offset has 14 bits (RFC 1035 section 4.1.4).
 const POINTER_REACH: usize = 16_384;
 
-/// The octets of a message whose names are read. Beside them may stand a table of where pointers end that lead to
-/// pointers, so that no chain of them is followed twice. Contracts see the octets.
+/// The octets of a message whose names are read, with an optional table of where pointers end that lead to pointers, so
+/// that no chain of them is followed twice. Contracts see the octets.
 #[derive(Debug, Drop)]
 pub struct Wire<'m> {
     octets: &'m [u8],
@@ -29,7 +29,8 @@ impl<'m> Model for Wire<'m> {
 }
 
 impl<'m> Wire<'m> {
-    /// A message without a table: each chain of pointers is followed anew. It serves octets of which few names are read.
+    /// A message without a table: each chain of pointers is followed anew. It is for octets in which few names are
+    /// read.
     pub fn plain(octets: &'m [u8]) -> Wire<'m>
         ensures { result ≡ octets.now }
     {
@@ -39,7 +40,7 @@ impl<'m> Wire<'m> {
         }
     }
 
-    /// A message and the table that `landings_of` gave of it.
+    /// A message and the table that `landings_of` gave for it.
     pub fn with_landings(octets: &'m [u8], landings: &'m [u16]) -> Wire<'m>
         requires { AreLandings octets.now landings.now }
         ensures { result ≡ octets.now }
@@ -62,7 +63,7 @@ impl<'m> Wire<'m> {
     }
 }
 
-/// Where a name goes on that a pointer leads to.
+/// The offset at which a name continues after a pointer to `target`.
 pub(crate) fn landing(landings: &[u16], target: usize) -> usize
     ensures { result ≡ landing_in landings.now target }
 {
@@ -74,7 +75,8 @@ pub(crate) fn landing(landings: &[u16], target: usize) -> usize
 }
 
 /// Where the chains of pointers end that begin at the offsets of a message: two octets for each offset that a pointer
-/// can lead to, or nothing where no pointer leads to a pointer, as in every message that a server means well.
+/// can lead to. It is empty where no pointer leads to a pointer, as in every well-meant message. `AllocError` where
+/// memory runs out.
 pub fn landings_of(alloc: Global, message: &[u8]) -> Result<Vec<u16>, AllocError>
     ensures { IfOk result (λ landings. AreLandings message.now landings.items) }
 {
@@ -93,7 +95,7 @@ pub fn landings_of(alloc: Global, message: &[u8]) -> Result<Vec<u16>, AllocError
     Ok(landings)
 }
 
-/// Whether some pointer leads to a pointer, among so many offsets.
+/// Whether some pointer leads to a pointer, among the first `reach` offsets.
 fn has_chain(message: &[u8], reach: usize) -> bool {
     (0..reach).any(|at| match leads_to(message, at) {
         Some(target) => leads_to(message, target).is_some(),
@@ -101,7 +103,7 @@ fn has_chain(message: &[u8], reach: usize) -> bool {
     })
 }
 
-/// Where the pointer at an offset leads, if one stands there that leads to before itself.
+/// Where the pointer at an offset leads, if there is one and it leads to before itself.
 fn leads_to(message: &[u8], at: usize) -> Option<usize>
     ensures some { IfSome result (LeadsTo message.now at) }
     ensures none { IsNone result → ¬ LeadsOn message.now at }

@@ -1,4 +1,4 @@
--- Judge: NOTIFY requests, whose zone and whose replies the checker computes.
+-- Judge: NOTIFY requests, with their zones and their replies computed by the checker.
 use Rattle.std.specs.Prelude.{refl, ◌≡◌, [], ◌∷◌, Some, None, codes}
 use Rattle.dz_name.specs.Numbers.{two, number_of_two, number_of_four}
 use Rattle.dz_header.specs.Header.{header_in, header_octets}
@@ -24,7 +24,7 @@ pub names_its_zone : notify_zone_in notify ≡ Some (codes "example" ∷ [])
 unfolding request with_header asked_for asked_in question_in question_at name_at name_from element_at wire_of opt_in behind_records header_in number_of_two
 names_its_zone = refl
 
--- the same of the name's addresses names no zone
+-- the same with a question for type A, which is about no zone
 abbrev of_addresses : Octets
 of_addresses = 0 ∷ 80 ∷ 36 ∷ 0 ∷ 0 ∷ 1 ∷ 0 ∷ 0 ∷ 0 ∷ 0 ∷ 0 ∷ 0 ∷ 7 ∷ 101 ∷ 88 ∷ 97 ∷ 109 ∷ 112 ∷ 108 ∷ 101 ∷ 0 ∷ 0 ∷ 1 ∷ 0 ∷ 1 ∷ []
 
@@ -40,7 +40,7 @@ pub taken : notify_reply_of of_example Taken ≡ Some (0 ∷ 80 ∷ 160 ∷ 0 �
 unfolding notify_reply_of notify_reply_for request with_header asked_for asked_in question_in question_at name_at name_from element_at wire_of opt_in behind_records header_in number_of_two bare_octets head_octets header_octets flags_number opt_octets two
 taken = refl
 
--- the same from somebody else
+-- the same from another host
 pub from_a_stranger : notify_reply_of of_example Stranger ≡ None
 unfolding notify_reply_of notify_reply_for request with_header asked_for asked_in question_in question_at name_at name_from element_at wire_of opt_in behind_records header_in number_of_two bare_octets head_octets header_octets flags_number opt_octets two
 from_a_stranger = refl

@@ -15,7 +15,8 @@ use Rattle.dz_request.specs.declared.request.Request.TheVariants.{Silent, Curt, 
 use Rattle.dz_notify.specs.Reply.{code_for}
 use Rattle.dz_notify.specs.declared.notify.Heard.{Heard}
 
--- ID and question are those of the request; QR, opcode, RD and response code are the reply's; no records but the OPT
+-- ID and question are those of the request; QR, opcode, RD and response code are those of the reply; there are no
+-- records but the OPT
 pub record SpellsReply (asked : Asked) (code : ℕ) (text : Octets) : Type 0 where
   pub id : (header_in text).id ≡ asked.header.id
   pub flags : (header_in text).flags ≡ reply_flags asked.header.flags code false false
@@ -23,10 +24,12 @@ pub record SpellsReply (asked : Asked) (code : ℕ) (text : Octets) : Type 0 whe
   pub question : question_at text HEADER_OCTETS ≡ Ok (asked.question, HEADER_OCTETS + asked.size)
   pub opt : drop (HEADER_OCTETS + asked.size) text ≡ opt_octets code asked.edns
 
+-- the octets are a reply with this code; nothing is said where there is no code
 abbrev pub SpellsCode : Asked → Option ResponseCode → Octets → Type 0
 SpellsCode asked None text = ⊤
 SpellsCode asked (Some code) text = SpellsReply asked (number_of code) text
 
+-- the octets are the reply to a NOTIFY; nothing is said of other requests
 abbrev pub ReadsBackFor : Heard → Request → Octets → Type 0
 ReadsBackFor heard Silent text = ⊤
 ReadsBackFor heard (Curt header code) text = ⊤
@@ -35,6 +38,6 @@ ReadsBackFor heard (NotImp asked) text = ⊤
 ReadsBackFor heard (Notify asked) text = SpellsCode asked (code_for heard) text
 ReadsBackFor heard (Asks asked) text = ⊤
 
--- these octets, as the reply to a NOTIFY, read as the reply
+-- these octets, written as the reply to a NOTIFY, are read as that reply
 unfoldable pub ReadsBack : Octets → Heard → Octets → Type 0
 ReadsBack octets heard text = ReadsBackFor heard (request octets) text

@@ -1,4 +1,4 @@
-//! NOTIFY (RFC 1996): the zone that a request tells of, how it is heard, and its reply. Nothing here allocates.
+//! NOTIFY (RFC 1996): the zone that a request is about, how it is received, and its reply. Nothing here allocates.
 #![tactic(auto)]
 
 mod notify;

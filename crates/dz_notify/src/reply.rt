@@ -10,12 +10,12 @@ ghost use Rattle.dz_notify.specs.Reply.{code_for, notify_reply_of, IsWritten};
 ghost use Rattle.dz_notify.specs.ReadsBack.{ReadsBack};
 
 use crate::notify::Heard;
-use dz_header::{ReplyBuffer, ResponseCode, Writer};
+use dz_header::{ReplyBuffer, ResponseCode, Transport, Writer};
 use dz_name::dns::UDP_OCTETS;
-use dz_request::{Asked, Frame, Request, Transport, read_request};
+use dz_request::{Asked, Frame, Request, read_request};
 
-/// Writes the reply to a NOTIFY: how many octets it has, of which `buffer.reply(count)` are the reply. None where it came
-/// from a stranger, who gets none. It takes no memory, and every reply fits in 512 octets.
+/// Writes the reply to a NOTIFY and returns its number of octets, so that `buffer.reply(count)` is the reply. None
+/// where the NOTIFY came from a stranger, who gets no reply. It allocates nothing, and every reply fits in 512 octets.
 pub fn write_notify_reply(request: &[u8], heard: Heard, buffer: &mut ReplyBuffer) -> Option<usize>
     requires { IsSome (notify_zone_in request.now) }
     ensures reply { IsWritten result buffer.new.reply.writing (notify_reply_of request.now heard) }
@@ -29,7 +29,8 @@ pub fn write_notify_reply(request: &[u8], heard: Heard, buffer: &mut ReplyBuffer
     notify_reply_to(request, heard, buffer.writer())
 }
 
-/// The same over the writer of a reply alone, so that the request may stand in the other half of the buffer.
+/// The same with only the writer of a reply, so that the request may be in the other half of the buffer. None where
+/// there is no reply.
 pub fn notify_reply_to(request: &[u8], heard: Heard, writer: &mut Writer) -> Option<usize>
     requires { IsSome (notify_zone_in request.now) }
     ensures reply { IsWritten result writer.new.writing (notify_reply_of request.now heard) }
@@ -46,7 +47,7 @@ pub fn notify_reply_to(request: &[u8], heard: Heard, writer: &mut Writer) -> Opt
     }
 }
 
-/// The code of the reply.
+/// The code of the reply; none where there is no reply.
 fn code_for(heard: Heard) -> Option<ResponseCode>
     ensures { result ≡ code_for heard }
 {
@@ -57,7 +58,7 @@ fn code_for(heard: Heard) -> Option<ResponseCode>
     }
 }
 
-/// Writes header, question and OPT record: how many octets they have.
+/// Writes header, question and OPT record, and returns how many octets they have.
 fn reply_code(request: &[u8], asked: &Asked, code: ResponseCode, writer: &mut Writer) -> usize
     requires { IsWhole request.now asked.now.size }
     ensures octets { let text = bare_octets (query_of request.now asked.now) (number_of code) in

@@ -140,7 +140,7 @@ soa_short r is kind =
     let fields : fits (fields_of 6) r.rdata 0 ≡ true = grind (arith, nat_tests, there) in
     omega (arith, record_size r, soa_fields r.rdata fields, is.owner.short)
 
--- what is left behind a message
+-- what is left after a message
 pub rest_stopped : (zone : Zone) (id : ℕ) (questions : List Question) (current more : List Record) (start end : ℕ) (piece : PieceState) (out : List ℕ) (r : Record)
     → packed id questions current (filter is_other (drop start zone.records) ++ soa_of zone) ≡ packed id questions (current ++ more) (filter is_other (drop end zone.records) ++ soa_of zone)
     → Holds piece out id questions (current ++ more) → end < length zone.records → r ≡ get_or zone.records end r → IsStopped piece zone.records end → All FitsAlone zone.records

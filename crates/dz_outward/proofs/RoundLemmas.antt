@@ -24,9 +24,9 @@ use Rattle.dz_message.proofs.WrittenLemmas.{message_spells}
 use Rattle.dz_zone.specs.Valid.{at_apex, fault_of}
 use Rattle.dz_zone.specs.Version.{Zone, IsVersion, apex_soa}
 use Rattle.dz_zone.proofs.FaultLemmas.{fault_in_order, found_passes, found_some, has_soa}
-use Rattle.dz_form.specs.Apex.{is_apex_soa}
-use Rattle.dz_form.specs.Place.{amid, ended, read, said}
-use Rattle.dz_form.specs.Stands.{complete}
+use Rattle.dz_xfr.specs.Apex.{is_apex_soa}
+use Rattle.dz_xfr.specs.Place.{amid, ended, read, said}
+use Rattle.dz_xfr.specs.Stands.{complete}
 use Rattle.dz_axfr.specs.Reading.{nothing, opened, one, reading_of}
 use Rattle.dz_axfr.proofs.WholeLemmas.{read_body}
 use Rattle.dz_take.specs.Form.{form, checked, decision_of}
@@ -84,7 +84,7 @@ form_all id zone soa known =
     let inside_form : form (transfer_of id zone) (all_of zone soa) ≡ decision_of zone.apex (reading_of zone.apex (all_of zone soa)) = rw known.opens refl in
     inside_form ∙ ap (decision_of zone.apex) (reading_all zone.apex soa others known.opens known.inner) ∙ ap (λ (d : Decision). Some d) decided
 
--- a front of all records begins with the SOA and holds others behind it
+-- a prefix of all records begins with the SOA, followed by others
 inside : (P : Record → Type 0) (front others rest : List Record) (r s : Record) → front ++ r ∷ rest ≡ others ++ s ∷ [] → AllByRecursion P others → AllByRecursion P front
 inside P [] others rest r s e all = tt
 inside P (x ∷ front) [] rest r s e all = let q : front ++ r ∷ rest ≡ [] = cc in absurd (omega (arith, ap (λ xs. length xs) q, length-append front (r ∷ rest)))
@@ -139,7 +139,7 @@ answered id front questions current held =
     flat_map-append answers_in front (message_octets (answer_message id questions current) ∷ [])
     ∙ ap (λ xs. flat_map answers_in front ++ xs) (append-nil _ ∙ (rw (reads id questions current held) refl))
 
--- records that decide a transfer together, and of which no front does
+-- records that decide a transfer together, and of which no prefix does
 pub record Deciding (T : Transfer) (all : List Record) (d : Decision) : Type 0 where
   pub id_short : T.id < 2 ^ 16
   pub part : (front rest : List Record) (r : Record) → 0 < length front → front ++ r ∷ rest ≡ all → form T front ≡ None

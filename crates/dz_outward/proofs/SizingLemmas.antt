@@ -36,7 +36,7 @@ next_counted t u records at r rest lt is one =
 pub last_counted : (t : TallyState) (records : List Record) (at : ℕ) (rest : List Record) → length records ≤ at → octets_behind t (filter is_other (drop at records) ++ rest) ≡ octets_behind t rest
 last_counted t records at rest le = ap (λ xs. octets_behind t (filter is_other xs ++ rest)) (drop_all at records le)
 
--- the octets of a list of records in front
+-- the octets of a list of records that comes first
 pub one_behind : (t : TallyState) (r : Record) (rest : List Record) → octets_behind t (r ∷ rest) ≡ octets_behind (tallied t (length (record_octets r))) rest
 unfolding octets_behind
 one_behind t r rest = refl

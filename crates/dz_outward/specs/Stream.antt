@@ -35,6 +35,6 @@ abbrev pub fits_alone : Record → Bool
 fits_alone r = nat_le (HEADER_OCTETS + length (record_octets r)) MESSAGE_OCTETS
 
 -- a version can be sent: each record fits into a message, and the frames together have at most 67,108,864 octets. That
--- number doesn't hang on the ID
+-- number doesn't depend on the ID
 abbrev pub is_fit : Zone → Bool
 is_fit zone = list_all fits_alone zone.records && nat_le (length (stream (written (messages_of 0 zone)))) TRANSFER_OCTETS

@@ -2,7 +2,7 @@
 
 ghost use Rattle.dz_outward.specs.Laws.{ComesBack};
 
-/// What is sent of a version comes back: its records, no more and no fewer.
+/// What is sent of a version is what a secondary that transfers it gets: its records, no more and no fewer.
 pub fn comes_back()
     ensures { ComesBack }
 {}

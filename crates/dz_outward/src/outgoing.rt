@@ -9,7 +9,7 @@ ghost use Rattle.dz_message.specs.Piece.{Holds, FitsAlone, has_room, packed};
 ghost use Rattle.dz_outward.specs.Stream.{messages_of, is_fit, is_other, question_of};
 ghost use Rattle.dz_outward.specs.inner.Filled.{AddsUp, IsStopped, Gives, GivesNext, left_of, rest_of, IsOutgoing};
 
-use crate::sizing::is_fit;
+use crate::fit::is_fit;
 use dz_header::{Question, Writer};
 use dz_message::Piece;
 use dz_name::dns::{CLASS_IN, MESSAGE_OCTETS, TYPE_AXFR, TYPE_SOA};
@@ -34,8 +34,8 @@ pub(crate) enum Stage {
     Over,
 }
 
-/// A version on its way out, message by message (RFC 5936 section 2.2): the SOA, the other records in canonical order, and
-/// the SOA again. Contracts see the messages that are left.
+/// A version on its way out, message by message (RFC 5936 section 2.2): the SOA, the other records in canonical order,
+/// and the SOA again. Contracts see the messages that are left.
 #[derive(Debug, Drop)]
 pub struct Outgoing {
     version: Arc<Version>,
@@ -76,7 +76,8 @@ impl Outgoing {
         })
     }
 
-    /// Writes the next message to the front of a writer's room: how many octets it has. None exactly behind the last.
+    /// Writes the next message to the beginning of a writer's room: how many octets it has. None exactly after the
+    /// last.
     pub fn next(&mut self, writer: &mut Writer) -> Option<usize>
         ensures { MatchOption result ((self.old ≡ []) × (self.new ≡ []))
             (λ count. Gives self.old self.new count writer.new.room) }
@@ -92,7 +93,7 @@ impl Outgoing {
     }
 }
 
-/// Writes the next message to the front of a buffer: how many octets it has, and where the stream then stands.
+/// Writes the next message to the beginning of a buffer: how many octets it has, and how far the version was then sent.
 fn write_next(version: &Version, id: u16, stage: Stage, out: &mut [u8]) -> Option<(usize, Stage)>
     requires room { length out.old ≡ MESSAGE_OCTETS }
     requires fit { IsOutgoing version.now }
@@ -108,7 +109,7 @@ fn write_next(version: &Version, id: u16, stage: Stage, out: &mut [u8]) -> Optio
     }
 }
 
-/// Writes the first message.
+/// Writes the first message: how many octets it has, and how far the version was then sent.
 fn write_first(version: &Version, id: u16, out: &mut [u8]) -> (usize, Stage)
     requires room { length out.old ≡ MESSAGE_OCTETS }
     requires fit { IsOutgoing version.now }
@@ -126,7 +127,7 @@ fn write_first(version: &Version, id: u16, out: &mut [u8]) -> (usize, Stage)
     write_rest(version, id, 0, piece, out)
 }
 
-/// Adds records from a place on, and the SOA behind the last, as long as they have room, and ends the message.
+/// Adds records from a place on, and the SOA after the last, as long as they have room, and ends the message.
 fn write_rest(
     version: &Version,
     id: u16,
@@ -155,7 +156,7 @@ fn write_rest(
     (piece.end(out), stage)
 }
 
-/// Adds the records from a place on, but the SOA, as long as they have room: the place of the first that has none.
+/// Adds the records from a place on, except the SOA, as long as they have room: the place of the first that has none.
 fn add_others(records: &[Rr], place: usize, piece: &mut Piece, out: &mut [u8]) -> usize
     requires { length out.old ≡ MESSAGE_OCTETS }
     ensures reaches { AddsUp piece.old out.old piece.new out.new records.now place result }

@@ -10,7 +10,7 @@ use Rattle.std.proofs.lemmas.List.Folds.{list_any-append}
 use Rattle.dz_name.specs.Name.{same_label, label_order}
 use Rattle.dz_name.specs.Order.{same_label_decides, same_label_ties}
 use Rattle.dz_member.specs.declared.listing.Node.{Node}
-use Rattle.dz_form.specs.Apex.{held_serial}
+use Rattle.dz_xfr.specs.Apex.{held_serial}
 use Rattle.dz_serial.specs.Serial.{is_newer}
 use Rattle.dz_producer.specs.Amended.{listed, is_dropped, kept, is_listed, no_label, amend_fault}
 use Rattle.dz_producer.specs.Draft.{saturated, spent}

@@ -1,11 +1,11 @@
 -- How a run of `produce` ends: with Done at the end of its input alone.
 use Rattle.std.specs.Bool.{⊤}
 use Rattle.std.proofs.Common.{◌≡◌, ◌≢◌, ◌+◌, ℕ, Bool, true, false, cond, nat_lt, List, [], ◌∷◌, length, Option, Some, None, IsSome, Result, Ok, Err, refl}
-use Rattle.dz_io.specs.Lines.{lines_of, content}
-use Rattle.dz_io.specs.Script.{Turn, goes_on, ends, Said, Rules, behind}
-use Rattle.dz_io.specs.Run.{Place, beginning, Step, further, over, after_turn, step_at, said_from, said_of, place_after, GoesToTheEnd, IsRun}
-use Rattle.dz_io.specs.declared.lines.TheConstants.{LIMIT}
-use Rattle.dz_io.specs.declared.run.ScriptError.{ScriptError}
+use Rattle.dz_script.specs.Lines.{lines_of, content}
+use Rattle.dz_script.specs.Script.{Turn, goes_on, ends, Said, Rules, behind}
+use Rattle.dz_script.specs.Run.{Place, beginning, Step, further, over, after_turn, step_at, said_from, said_of, place_after, GoesToTheEnd, IsRun}
+use Rattle.dz_script.specs.declared.lines.TheConstants.{LIMIT}
+use Rattle.dz_script.specs.declared.run.ScriptError.{ScriptError}
 use Rattle.dz_name.specs.Words.{Octets}
 use Rattle.dz_script.specs.Line.{is_skipped}
 use Rattle.dz_produce.specs.Lines.{line_of}

@@ -6,13 +6,13 @@ use Rattle.std.specs.Option.{ForSome}
 use Rattle.std.proofs.lemmas.Bool.Decides.{nat_tests}
 use Rattle.std.proofs.lemmas.List.{take_more}
 use Rattle.std.proofs.lemmas.List.Sums.{sum_by-append, sum_by_push}
-use Rattle.dz_form.specs.Apex.{held_serial}
+use Rattle.dz_xfr.specs.Apex.{held_serial}
 use Rattle.dz_serial.specs.Serial.{is_newer}
 use Rattle.dz_member.specs.declared.listing.Node.{Node}
 use Rattle.dz_producer.specs.Amended.{listed, kept, is_dropped, nodes_after, no_label, amend_fault}
 use Rattle.dz_outward.specs.Stream.{is_fit}
 use Rattle.dz_member.specs.Listing.{same_zone}
-use Rattle.dz_member.specs.Twice.{has_twice}
+use Rattle.dz_settings.specs.Twice.{has_twice}
 use Rattle.dz_producer.specs.Draft.{IsDraft, IsHeld, IsGrown, IsGood, Judges, saturated, spent, node_size}
 use Rattle.dz_producer.specs.Produced.{produced}
 use Rattle.dz_producer.specs.Records.{plain_records, all_records}

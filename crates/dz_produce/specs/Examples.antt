@@ -8,9 +8,11 @@ use Rattle.dz_produce.specs.Lines.{groups_of, line_of}
 use Rattle.dz_produce.specs.Producing.{first_turn, next_turn, begun, bad_turn, produce_turn}
 use Rattle.dz_produce.specs.declared.line.Line.TheVariants.{Catalog, Member, Drop, Change}
 
+-- the name example.
 abbrev example : Name
 example = codes "example" ∷ []
 
+-- a node whose zone is example.
 abbrev member_of : Octets → Option Name → List Octets → Node
 member_of label coo groups = record { label = label; zone = example; coo = coo; groups = groups }
 

@@ -1,9 +1,9 @@
--- Meaning: the lines of `produce`. One space is between two fields.
+-- Meaning: the lines of `produce`. Two fields have one space between them.
 use Rattle.std.specs.Prelude.{ℕ, ◌-◌, ◌^◌, List, [], ◌∷◌, length, codes, Option, Some, None, option_map, if◌then◌else◌}
 use Rattle.std.specs.Option.{option_and_then}
 use Rattle.std.specs.Str.{bytes_eq}
-use Rattle.dz_member.specs.Number.{number_of}
-use Rattle.dz_member.specs.Peer.{word_of}
+use Rattle.dz_name.specs.Decimal.{number_of}
+use Rattle.dz_settings.specs.Peer.{word_of}
 use Rattle.dz_member.specs.declared.listing.Node.{Node}
 use Rattle.dz_name.specs.Words.{Name, Octets}
 use Rattle.dz_script.specs.Fields.{fields_of, one, two}
@@ -28,6 +28,7 @@ coo_of text = if bytes_eq text (codes "-") then Some None else option_map Some (
 abbrev pub group_of : Octets → Option Octets
 group_of text = option_map (λ word. length word ∷ word) (word_of text)
 
+-- a group put before others
 abbrev pub in_front : Option Octets → Option (List Octets) → Option (List Octets)
 in_front (Some group) (Some groups) = Some (group ∷ groups)
 in_front _ _ = None
@@ -38,19 +39,21 @@ groups_of [] = Some []
 groups_of (field ∷ fields) = in_front (group_of field) (groups_of fields)
 
 -- ---- the four forms, by the fields after the first
--- `<apex> <serial>`
+-- a catalog of what its fields were read as
 abbrev pub catalog_from : Option Name → Option ℕ → Option Line
 catalog_from (Some apex) (Some serial) = Some (Catalog apex serial)
 catalog_from _ _ = None
 
+-- `<apex> <serial>`
 abbrev pub catalog_of : List Octets → Option Line
 catalog_of fields = option_and_then (λ f. catalog_from (name_of f.0) (serial_of f.1)) (two fields)
 
--- `<label> <zone> <coo> <words ..>`
+-- a node of what its fields were read as
 abbrev pub node_from : Option Octets → Option Name → Option (Option Name) → Option (List Octets) → Option Node
 node_from (Some label) (Some zone) (Some coo) (Some groups) = Some (record { label = label; zone = zone; coo = coo; groups = groups })
 node_from _ _ _ _ = None
 
+-- `<label> <zone> <coo> <words ..>`
 abbrev pub node_of : List Octets → Option Node
 node_of (label ∷ zone ∷ coo ∷ words) = node_from (label_of label) (name_of zone) (coo_of coo) (groups_of words)
 node_of _ = None
@@ -63,6 +66,7 @@ drop_of fields = option_map Drop (option_and_then label_of (one fields))
 abbrev pub change_of : List Octets → Option Line
 change_of fields = option_map Change (option_and_then serial_of (one fields))
 
+-- a line, by its first field
 abbrev pub line_in : List Octets → Option Line
 line_in [] = None
 line_in (word ∷ fields) =

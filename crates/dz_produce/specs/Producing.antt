@@ -1,10 +1,10 @@
--- Meaning: what `produce` writes: a catalog is made of the members that the first lines name, and then one after another of
--- each change. A line is bad where it has no form, where it isn't in its turn, or where it brings a fault.
+-- Meaning: what `produce` writes: a catalog is made of the members that the first lines name, and then one after
+-- another of each change. A line is bad where it has no form, where it isn't in its turn, or where it brings a fault.
 use Rattle.std.specs.Prelude.{ℕ, Bool, ◌==◌, ◌&&◌, List, [], ◌∷◌, ◌++◌, length, codes, decimal, Option, Some, None, is_some, Result, if◌then◌else◌}
 use Rattle.hex.specs.Hex.{encode_lower}
-use Rattle.dz_io.specs.Run.{IsRun}
-use Rattle.dz_io.specs.Script.{Turn, goes_on, ends, Said, Rules}
-use Rattle.dz_io.specs.declared.run.ScriptError.{ScriptError}
+use Rattle.dz_script.specs.Run.{IsRun}
+use Rattle.dz_script.specs.Script.{Turn, goes_on, ends, Said, Rules}
+use Rattle.dz_script.specs.declared.run.ScriptError.{ScriptError}
 use Rattle.dz_name.specs.Words.{Name, Octets}
 use Rattle.dz_member.specs.declared.listing.Node.{Node}
 use Rattle.dz_message.specs.Frame.{stream}
@@ -21,8 +21,8 @@ use Rattle.dz_produce.specs.declared.line.Line.TheVariants.{Catalog, Member, Dro
 use Rattle.dz_produce.specs.declared.saying.ProduceEnd.{ProduceEnd}
 use Rattle.dz_produce.specs.declared.saying.ProduceEnd.TheVariants.{Done, BadInput}
 
--- a catalog that is being made: of the nodes that are added, or of the catalog before without the nodes of the labels that
--- are dropped and with those that are added
+-- a catalog that is being made: of the nodes that are added, or of the catalog before without the nodes of the labels
+-- that are dropped and with those that are added
 pub record Making : Type 0 where
   pub apex : Name
   pub serial : ℕ
@@ -35,18 +35,21 @@ abbrev pub State : Type 0
 State = Option Making
 
 -- ---- the catalog that is made
--- something is wrong with it
+-- a catalog that is being made has a fault, by whether it changes one before
 abbrev pub is_faulty_after : Option Zone → Making → Bool
 is_faulty_after None m = is_some (produce_fault m.apex m.serial m.added)
 is_faulty_after (Some old) m = is_some (amend_fault old m.serial m.dropped m.added)
 
+-- a catalog that is being made has a fault
 unfoldable pub is_faulty : Making → Bool
 is_faulty m = is_faulty_after m.before m
 
+-- the version of a catalog, by whether it changes one before
 abbrev pub version_after : Option Zone → Making → Zone
 version_after None m = produced m.apex m.serial m.added
 version_after (Some old) m = produced old.apex m.serial (nodes_after old m.dropped m.added)
 
+-- the version of a catalog that is being made
 unfoldable pub version_of : Making → Zone
 version_of m = version_after m.before m
 
@@ -59,31 +62,38 @@ abbrev pub text_after : Option Zone → Making → Octets
 text_after None m = hex_line (codes "axfr ") (stream (written (messages_of 0 (version_of m))))
 text_after (Some old) m = hex_line (codes "ixfr ") (difference_octets old m.serial m.dropped m.added)
 
+-- the line of a catalog that is being made
 unfoldable pub text_of : Making → Octets
 text_of m = text_after m.before m
 
 -- ---- what the lines make of it
+-- a catalog without nodes
 abbrev pub begun : Name → ℕ → Making
 begun apex serial = record { apex = apex; serial = serial; before = None; dropped = []; added = [] }
 
+-- the catalog with one node more
 abbrev pub with_member : Making → Node → Making
 with_member m node = record m { added = m.added ++ node ∷ [] }
 
+-- the catalog without the node of a label
 abbrev pub without : Making → Octets → Making
 without m label = record m { dropped = m.dropped ++ label ∷ [] }
 
+-- a change of the catalog's version that drops and adds nothing yet
 abbrev pub changed : Making → ℕ → Making
 changed m serial = record { apex = m.apex; serial = serial; before = Some (version_of m); dropped = []; added = [] }
 
 -- ---- turns
+-- what is written of a bad line, by its number
 abbrev pub bad : ℕ → Octets
 bad number = codes "bad " ++ (decimal number ++ (10 ∷ []))
 
--- a text is written, and the script goes on with a catalog unless that one has a fault: then the line is bad, and the state
--- stays
+-- a text is written, and the script goes on with a catalog unless that one has a fault: then the line is bad, and the
+-- state is unchanged
 abbrev pub unless_faulty : State → ℕ → Octets → Making → Turn State ProduceEnd
 unless_faulty state number text next = if is_faulty next then ends (text ++ bad number) state BadInput else goes_on text (Some next)
 
+-- a bad line ends the script
 abbrev pub bad_turn : State → ℕ → Turn State ProduceEnd
 bad_turn state number = ends (bad number) state BadInput
 
@@ -98,6 +108,7 @@ first_turn number (Change serial) = bad_turn None number
 abbrev pub may_drop : Making → Bool
 may_drop m = is_some m.before && length m.added == 0
 
+-- a node is dropped where one may be
 abbrev pub drop_turn : Making → ℕ → Octets → Turn State ProduceEnd
 drop_turn m number label = if may_drop m then unless_faulty (Some m) number [] (without m label) else bad_turn (Some m) number
 
@@ -108,6 +119,7 @@ next_turn m number (Member node) = unless_faulty (Some m) number [] (with_member
 next_turn m number (Drop label) = drop_turn m number label
 next_turn m number (Change serial) = unless_faulty (Some m) number (text_of m) (changed m serial)
 
+-- a line of one of the forms
 abbrev pub form_turn : State → ℕ → Line → Turn State ProduceEnd
 form_turn None number line = first_turn number line
 form_turn (Some m) number line = next_turn m number line
@@ -117,12 +129,15 @@ abbrev pub line_turn : State → ℕ → Option Line → Turn State ProduceEnd
 line_turn state number None = bad_turn state number
 line_turn state number (Some line) = form_turn state number line
 
+-- a line; a skipped one does nothing
 unfoldable pub produce_turn : State → ℕ → Octets → Turn State ProduceEnd
 produce_turn state number line = if is_skipped line then goes_on [] state else line_turn state number (line_of line)
 
+-- a bad end: its text and its state
 abbrev pub bad_said : State → ℕ → Said State ProduceEnd
 bad_said state number = record { text = bad number; state = state; ending = BadInput }
 
+-- a line past the limit is bad
 abbrev pub produce_too_long : State → ℕ → Said State ProduceEnd
 produce_too_long state number = bad_said state number
 
@@ -131,6 +146,7 @@ unfoldable pub produce_finish : State → ℕ → Said State ProduceEnd
 produce_finish None number = bad_said None number
 produce_finish (Some m) number = record { text = text_of m; state = Some m; ending = Done }
 
+-- the rules of the script
 abbrev pub produce_rules : Rules State ProduceEnd
 produce_rules = record { turn = produce_turn; too_long = produce_too_long; finish = produce_finish }
 

@@ -5,7 +5,7 @@ ghost use Rattle.std.specs.BTreeSet.{contains};
 ghost use Rattle.std.specs.List.{AllByRecursion, list_any};
 ghost use Rattle.dz_name.specs.Name.{label_order, same_label};
 ghost use Rattle.dz_name.specs.Words.{Octets};
-ghost use Rattle.dz_form.specs.Apex.{held_serial};
+ghost use Rattle.dz_xfr.specs.Apex.{held_serial};
 ghost use Rattle.dz_producer.specs.Amended.{IsCatalog, listed, kept, no_label, amend_fault};
 ghost use Rattle.dz_serial.specs.Serial.{is_newer};
 ghost use Rattle.dz_producer.specs.Draft.{IsDraft, IsHeld, saturated, spent};
@@ -77,7 +77,7 @@ impl Change {
         Ok(amended.is_some())
     }
 
-    /// Whether it has none with one label more.
+    /// Whether the change has no fault with one label more.
     fn is_faultless_without(
         &self,
         alloc: Global,
@@ -101,7 +101,7 @@ impl Change {
         Ok(amended.is_some())
     }
 
-    /// Drops the node of a label where that is no fault: whether it is none.
+    /// Drops the node of a label where that is no fault: whether it was dropped.
     pub(crate) fn drop_label(
         &mut self,
         alloc: Global,

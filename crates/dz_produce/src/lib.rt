@@ -1,4 +1,5 @@
-//! The command `produce`: a catalog is made of the members that lines name, and changed as further lines say (RFC 9432).
+//! The command `produce`: a catalog is made of the members that lines name, and changed as further lines say
+//! (RFC 9432).
 #![tactic(auto)]
 
 mod change;

@@ -4,9 +4,10 @@ ghost use Rattle.std.specs.Prelude.{◌≡◌, ◌<◌, ◌∷◌, length, IfOk}
 ghost use Rattle.dz_script.specs.Settings.{name_of};
 ghost use Rattle.dz_produce.specs.Lines.{serial_of, label_of, coo_of, group_of, groups_of, catalog_of, node_from, node_of, drop_of, change_of, line_in, line_of};
 
-use dz_member::{Node, Texts, read_number, read_word};
-use dz_name::{KeptName, Label, Name, Octets};
+use dz_member::{Node, Texts};
+use dz_name::{KeptName, Label, Name, Octets, read_number};
 use dz_script::Fields;
+use dz_settings::read_word;
 use std::alloc::{AllocError, Global};
 
 /// A line that isn't skipped.
@@ -93,6 +94,7 @@ fn read_node(alloc: Global, fields: Fields<'_>) -> Result<Option<Node>, AllocErr
     }
 }
 
+/// A node of these fields; none where a field is of another form.
 fn read_node_from(
     alloc: Global,
     label: &[u8],

@@ -2,7 +2,7 @@
 
 ghost use Rattle.std.specs.Prelude.{◌≡◌, ◌&&◌, [], true, false, not, is_some, Some, None, MatchOption, IfOk, OnOk, if◌then◌else◌};
 ghost use Rattle.std.specs.Option.{option_copied};
-ghost use Rattle.dz_form.specs.Apex.{held_serial};
+ghost use Rattle.dz_xfr.specs.Apex.{held_serial};
 ghost use Rattle.dz_producer.specs.Amended.{IsCatalog, amend_fault};
 ghost use Rattle.dz_producer.specs.Draft.{IsHeld};
 ghost use Rattle.dz_produce.specs.Producing.{is_faulty, text_of, begun, with_member, without, changed, may_drop};
@@ -28,7 +28,8 @@ pub(crate) struct Making {
     /// None where it is the first.
     change: Option<Change>,
     added: Vec<Node>,
-    /// What is kept of the nodes that stay and of those that are added. Where there is none, it is made when it is needed.
+    /// What is kept of the nodes that stay and of those that are added. Where there is none, it is made when it is
+    /// needed.
     draft: Option<Draft>,
 }
 
@@ -72,7 +73,7 @@ impl Making {
         }))
     }
 
-    /// Adds a node where that is no fault: whether it is none.
+    /// Adds a node where that is no fault: whether it was added.
     pub(crate) fn add(&mut self, alloc: Global, node: Node) -> Result<bool, AllocError>
         ensures good { IfOk result (λ good. good ≡ not (is_faulty (with_member self.old node))) }
         ensures new { IfOk result (λ good. self.new
@@ -201,6 +202,7 @@ impl Making {
         }
     }
 
+    /// The version and its line; the catalog has no fault.
     fn made(&self, alloc: Global) -> Result<Made, AllocError>
         ensures made { IfOk result (λ made. IsMade self.now made.version made.line.items) }
         ensures apex { IfOk result (λ made. made.version.apex ≡ self.now.apex) }

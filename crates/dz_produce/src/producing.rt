@@ -27,6 +27,7 @@ impl Model for Producing {
 }
 
 impl Producing {
+    /// No catalog yet.
     pub(crate) fn new() -> Producing
         ensures { result ≡ None }
     {
@@ -79,6 +80,7 @@ impl Producing {
         }
     }
 
+    /// Begins a catalog without nodes; where the apex has a fault, the line is bad.
     fn begin(
         &mut self,
         alloc: Global,

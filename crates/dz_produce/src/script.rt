@@ -2,13 +2,14 @@
 
 ghost use Rattle.std.specs.Prelude.{◌≡◌, [], Ok, Some, None};
 ghost use Rattle.dz_io.specs.Device.{HasCauseOf};
-ghost use Rattle.dz_io.specs.Run.{IsRun};
+ghost use Rattle.dz_script.specs.Run.{IsRun};
 ghost use Rattle.dz_name.specs.Words.{Octets};
 ghost use Rattle.dz_produce.specs.Producing.{State, Runs, produce_rules};
 
 use crate::producing::Producing;
 use crate::saying::{ProduceEnd, bad_line};
-use dz_io::{Script, ScriptError, Sink, Source, TurnError, put, run_script};
+use dz_io::{Sink, Source};
+use dz_script::{Script, ScriptError, TurnError, put, run_script};
 use std::alloc::Global;
 
 /// What `produce` goes on with, and the output to which it writes.
@@ -92,6 +93,7 @@ impl<'a, K: Sink> Script for ProduceScript<'a, K> {
 
     ghost rules = { produce_rules };
 
+    /// Takes a line and writes what it says; the error is a failed write or that memory ran out.
     fn turn(
         &mut self,
         alloc: Global,
@@ -107,6 +109,7 @@ impl<'a, K: Sink> Script for ProduceScript<'a, K> {
         }
     }
 
+    /// A line past the limit is bad.
     fn too_long(&mut self, alloc: Global, number: u64) -> Result<ProduceEnd, TurnError> {
         match bad_line(alloc, number) {
             Err(_) => Err(TurnError::OutOfMemory),
@@ -117,6 +120,7 @@ impl<'a, K: Sink> Script for ProduceScript<'a, K> {
         }
     }
 
+    /// Writes the line of the last catalog, or that there is none.
     fn finish(&mut self, alloc: Global, number: u64) -> Result<ProduceEnd, TurnError> {
         match self.producing.finish(alloc, number) {
             Err(_) => Err(TurnError::OutOfMemory),

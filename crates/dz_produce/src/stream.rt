@@ -13,7 +13,8 @@ use dz_record::Rr;
 use dz_zone::Version;
 use std::alloc::{AllocError, Global};
 
-/// The messages of a version's transfer with ID 0, each after its length (RFC 5936 section 2.2). The version can be sent.
+/// The messages of a version's transfer with ID 0, each after its length (RFC 5936 section 2.2). The version can be
+/// sent.
 pub(crate) fn stream_of(alloc: Global, version: &Version) -> Result<Octets, AllocError>
     requires { is_fit version.now ≡ true }
     ensures { IfOk result (λ octets. octets ≡ stream (written (messages_of 0 version.now))) }

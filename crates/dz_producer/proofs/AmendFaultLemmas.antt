@@ -4,10 +4,10 @@ use Rattle.std.specs.Prelude.{nat_lt}
 use Rattle.std.specs.List.{list_any, list_all}
 use Rattle.dz_name.specs.Name.{same_label}
 use Rattle.dz_name.specs.Words.{Octets}
-use Rattle.dz_member.specs.Twice.{has_twice}
+use Rattle.dz_settings.specs.Twice.{has_twice}
 use Rattle.dz_serial.specs.Serial.{is_newer}
 use Rattle.dz_zone.specs.Version.{Zone}
-use Rattle.dz_form.specs.Apex.{held_serial}
+use Rattle.dz_xfr.specs.Apex.{held_serial}
 use Rattle.dz_member.specs.declared.listing.Node.{Node}
 use Rattle.dz_producer.specs.Amended.{listed, no_label, nodes_after, difference_octets, amend_fault}
 use Rattle.dz_producer.specs.Faults.{produce_fault}

@@ -11,7 +11,7 @@ use Rattle.std.proofs.lemmas.List.Folds.{list_any-append}
 use Rattle.std.proofs.lemmas.Slice.Eq.{bytes_eq-Decides}
 use Rattle.dz_name.specs.Name.{label_order, same_label}
 use Rattle.dz_name.specs.Order.{same_label_ties}
-use Rattle.dz_member.specs.Twice.{has_twice}
+use Rattle.dz_settings.specs.Twice.{has_twice}
 use Rattle.dz_member.specs.declared.listing.Node.{Node}
 use Rattle.dz_producer.specs.inner.Nodes.{values}
 use Rattle.dz_producer.proofs.TwiceLemmas.{IsSeen}

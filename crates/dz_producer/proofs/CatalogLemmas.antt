@@ -15,7 +15,7 @@ use Rattle.dz_name.specs.Words.{Name}
 use Rattle.dz_name.proofs.NumberLemmas.{number-four}
 use Rattle.dz_member.specs.Listing.{same_zone}
 use Rattle.dz_member.specs.Sorting.{insert_by, sorted_by}
-use Rattle.dz_member.specs.Twice.{has_twice}
+use Rattle.dz_settings.specs.Twice.{has_twice}
 use Rattle.dz_member.specs.declared.listing.Node.{Node}
 use Rattle.dz_member.specs.declared.listing.TheConstants.Listing.{NODES}
 use Rattle.dz_name.specs.declared.dns.TheConstants.{ZONE_RECORDS}
@@ -24,7 +24,7 @@ use Rattle.dz_record.specs.Records.{distinct, in_order, insertion}
 use Rattle.dz_record.specs.declared.rr.Soa.{Soa}
 use Rattle.dz_zone.specs.Valid.{at_apex}
 use Rattle.dz_zone.specs.Version.{Zone}
-use Rattle.dz_form.specs.Apex.{serial_of, held_serial}
+use Rattle.dz_xfr.specs.Apex.{serial_of, held_serial}
 use Rattle.dz_outward.specs.Stream.{is_fit}
 use Rattle.dz_producer.specs.Amended.{IsCatalog, listed, nodes_in}
 use Rattle.dz_producer.specs.Faults.{same_node, has_bad_group, is_string, is_long, too_many, produce_fault}

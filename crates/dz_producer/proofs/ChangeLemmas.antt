@@ -11,8 +11,8 @@ use Rattle.std.proofs.lemmas.List.Sums.{sum_by-cons, sum_by-append, sum_by_push}
 use Rattle.dz_name.specs.Name.{wire_of, same_label}
 use Rattle.dz_name.specs.Order.{same_label_decides}
 use Rattle.dz_serial.specs.Serial.{is_newer}
-use Rattle.dz_form.specs.Apex.{held_serial}
-use Rattle.dz_member.specs.Twice.{has_twice}
+use Rattle.dz_xfr.specs.Apex.{held_serial}
+use Rattle.dz_settings.specs.Twice.{has_twice}
 use Rattle.dz_member.specs.declared.listing.Node.{Node}
 use Rattle.dz_record.specs.Record.{Record}
 use Rattle.dz_zone.specs.Version.{Zone}

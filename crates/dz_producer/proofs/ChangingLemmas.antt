@@ -11,7 +11,7 @@ use Rattle.dz_record.specs.Records.{insertion}
 use Rattle.dz_ixfr.specs.Incremental.{is_there, without, Deletes, Adds}
 use Rattle.dz_producer.proofs.AlikeLemmas.{Alike, Once, any_alike, filter_alike, append_alike, cons_alike, swap_alike, same_as, once_alike, once_back}
 
--- ---- a record and those behind it
+-- ---- a record and those after it
 few_none : (p : Record → Bool) (rs : List Record) → length (filter p rs) ≤ 0 → list_any p rs ≡ false
 few_none p [] h = refl
 few_none p (r ∷ rs) h =
@@ -72,7 +72,7 @@ swap_halves xs ys once z =
     whole ∙ (short_swap (filter p xs) (filter p ys) (subst (λ (l : List Record). length l ≤ 1) whole (once z)) ∙ sym
     (filter-append p ys xs))
 
--- those of some elements in front of those of the others
+-- those of some elements before those of the others
 pub flat_split : {X : Type 0} (f : X → List Record) (p : X → Bool) (xs : List X) → Once (flat_map f xs)
     → Alike (flat_map f xs) (flat_map f (filter p xs) ++ flat_map f (filter (λ x. not (p x)) xs))
 flat_split f p [] once z = refl
@@ -95,7 +95,7 @@ pub record Deleted (zone rs rest : List Record) : Type 0 where
   pub deletes : Deletes zone rs middle
   pub left : Alike middle rest
 
--- the front of a list is deleted, and what stands behind it is left
+-- the front of a list is deleted, and what follows it is left
 pub deleted_all : (zone rs rest : List Record) → Alike zone (rs ++ rest) → Once (rs ++ rest) → Deleted zone rs rest
 deleted_all zone [] rest h once = record { middle = zone; deletes = refl; left = h }
 deleted_all zone (r ∷ rs) rest h once =

@@ -11,7 +11,7 @@ use Rattle.dz_record.specs.Records.{distinct, in_order, insertion}
 use Rattle.dz_zone.specs.Valid.{fault_of}
 use Rattle.dz_zone.specs.Version.{Zone, zone_of}
 use Rattle.dz_zone.proofs.FaultLemmas.{fault_in_order}
-use Rattle.dz_form.specs.Apex.{is_apex_soa, serial_of, held_serial}
+use Rattle.dz_xfr.specs.Apex.{is_apex_soa, serial_of, held_serial}
 use Rattle.dz_ixfr.specs.Incremental.{HasNoSoa, Difference, spelled, IsDifference, leads_last, others, IsIncremental}
 use Rattle.dz_producer.specs.Amended.{IsCatalog, listed, is_dropped, gone, kept, nodes_after, no_label, digest_of, deleted, added_records, difference, difference_octets, after_nodes, amend_fault}
 use Rattle.dz_producer.specs.Faults.{produce_fault}
@@ -69,7 +69,7 @@ soa_opens apex serial = name_itself apex
 abbrev pub front : List (List ℕ) → List Record
 front apex = name_server apex ∷ version_property apex ∷ []
 
--- the records without the SOA: those of some nodes and the digest in front of the rest
+-- the records without the SOA: those of some nodes and the digest before the rest
 module _ (apex : List (List ℕ)) (last : Record) where
   -- the records of nodes, and all but the SOA
   abbrev of : List Node → List Record
@@ -78,7 +78,7 @@ module _ (apex : List (List ℕ)) (last : Record) where
   abbrev without_soa : List Node → List Record
   without_soa ns = front apex ++ (of ns ++ last ∷ [])
 
-  -- those of the nodes that pass a test, and the last record, in front
+  -- those of the nodes that pass a test, preceded by the last record
   pub gone_first : (p : Node → Bool) (nodes : List Node)
       → Once (without_soa nodes)
       → Alike (without_soa nodes) ((of (filter p nodes) ++ last ∷ []) ++ (front apex ++ of (filter (λ n. not (p n)) nodes)))
@@ -110,7 +110,7 @@ module _ (apex : List (List ℕ)) (last : Record) where
       sym (append_assoc some (last ∷ []) (front apex ++ rest)) in
       λ z. first z ∙ (ap (filter (same_record z)) regroup ∙ (second z ∙ (third z ∙ ap (filter (same_record z)) end)))
 
-  -- those of the second of two lists of nodes, and the last record, in front
+  -- those of the second of two lists of nodes, preceded by the last record
   pub added_first : (nodes more : List Node) → Once (without_soa (nodes ++ more))
       → Alike (without_soa (nodes ++ more)) ((of more ++ last ∷ []) ++ (front apex ++ of nodes))
   added_first nodes more once =

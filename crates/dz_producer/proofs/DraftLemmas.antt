@@ -18,7 +18,7 @@ use Rattle.dz_name.specs.Order.{same_label_ties, same_ties}
 use Rattle.dz_name.specs.Numbers.{four}
 use Rattle.dz_name.proofs.NumberLemmas.{length_four}
 use Rattle.dz_member.specs.Listing.{same_zone}
-use Rattle.dz_member.specs.Twice.{has_twice}
+use Rattle.dz_settings.specs.Twice.{has_twice}
 use Rattle.dz_member.specs.declared.listing.Node.{Node}
 use Rattle.dz_record.specs.Record.{Record, record_octets}
 use Rattle.dz_message.proofs.PieceLemmas.{record_size}

@@ -6,7 +6,7 @@ use Rattle.std.specs.List.{list_any, flat_map}
 use Rattle.std.proofs.lemmas.List.{length-map}
 use Rattle.std.proofs.lemmas.List.Folds.{list_any-append}
 use Rattle.dz_member.specs.Listing.{same_zone}
-use Rattle.dz_member.specs.Twice.{has_twice}
+use Rattle.dz_settings.specs.Twice.{has_twice}
 use Rattle.dz_member.specs.declared.listing.Node.{Node}
 use Rattle.dz_record.specs.Record.{Record}
 use Rattle.dz_catalog.specs.Broken.{version_name}

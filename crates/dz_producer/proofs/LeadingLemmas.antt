@@ -19,10 +19,10 @@ use Rattle.dz_record.specs.Record.{Record, IsRecord, record_octets}
 use Rattle.dz_record.specs.Records.{distinct}
 use Rattle.dz_zone.specs.Valid.{fault_of}
 use Rattle.dz_zone.specs.Version.{Zone, IsVersion, zone_of}
-use Rattle.dz_form.specs.Apex.{serial_of, held_serial}
-use Rattle.dz_form.specs.Place.{Place, amid, ended, failed, read, said}
-use Rattle.dz_form.specs.Stands.{more}
-use Rattle.dz_form.proofs.ReadingLemmas.{read_pieces, ended_alone, failed_not_ended}
+use Rattle.dz_xfr.specs.Apex.{serial_of, held_serial}
+use Rattle.dz_xfr.specs.Place.{Place, amid, ended, failed, read, said}
+use Rattle.dz_xfr.specs.Stands.{more}
+use Rattle.dz_xfr.proofs.ReadingLemmas.{read_pieces, ended_alone, failed_not_ended}
 use Rattle.dz_ixfr.specs.Reading.{Amid, one, start, place_of}
 use Rattle.dz_ixfr.specs.Reading as incremental
 use Rattle.dz_ixfr.proofs.ToEnd.{to_end}
@@ -236,7 +236,7 @@ module _ (old : Zone) (serial : ℕ) (dropped : List Octets) (added : List Node)
         let parts = all_parts FitsAlone (flat nodes) new_digest all_new_fit.1.1.1 in
         all_append FitsAlone (flat added) new_digest (of_added FitsAlone parts.0) parts.1
 
-    -- behind the first record
+    -- after the first record
     all_behind : (P : Record → Type 0) → P first → P second → AllByRecursion P goes → AllByRecursion P comes
         → AllByRecursion P (second ∷ behind)
     all_behind P of_first of_second away more_records =

@@ -19,7 +19,7 @@ use Rattle.dz_name.specs.Order.{same_label_decides, label_order_decides, canonic
 use Rattle.dz_name.proofs.WireLemmas.{labels_of-wire}
 use Rattle.dz_member.specs.Listing.{same_zone}
 use Rattle.dz_member.specs.Sorting.{sorted_by}
-use Rattle.dz_member.specs.Twice.{has_twice}
+use Rattle.dz_settings.specs.Twice.{has_twice}
 use Rattle.dz_member.specs.declared.listing.Node.{Node}
 use Rattle.dz_record.specs.Record.{Record, same_record, target_of}
 use Rattle.dz_record.specs.Records.{distinct, in_order, insertion}

@@ -9,7 +9,7 @@ use Rattle.dz_record.specs.Record.{Record}
 use Rattle.dz_message.specs.Frame.{stream}
 use Rattle.dz_message.specs.Piece.{FitsAlone, packed, written}
 use Rattle.dz_zone.specs.Version.{Zone}
-use Rattle.dz_form.specs.Apex.{held_serial}
+use Rattle.dz_xfr.specs.Apex.{held_serial}
 use Rattle.dz_member.specs.declared.listing.Node.{Node}
 use Rattle.dz_producer.specs.Amended.{IsCatalog, listed, is_dropped, no_label, gone, kept, nodes_after, question_of, difference_octets, amend_fault}
 use Rattle.dz_producer.specs.Faults.{produce_fault}

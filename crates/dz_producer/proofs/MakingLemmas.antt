@@ -16,7 +16,7 @@ use Rattle.dz_record.specs.Fields.{is_rdata, fields_of}
 use Rattle.dz_record.specs.Record.{Record}
 use Rattle.dz_catalog.specs.Member.{coo_name, group_name}
 use Rattle.dz_producer.specs.Faults.{is_long, is_string, has_bad_group}
-use Rattle.dz_member.specs.Twice.{has_twice}
+use Rattle.dz_settings.specs.Twice.{has_twice}
 use Rattle.std.specs.Str.{bytes_eq}
 use Rattle.dz_record.specs.Records.{distinct, in_order}
 use Rattle.dz_zonemd.specs.Digested.{digested}
@@ -42,7 +42,7 @@ label_made word is =
     let short : nat_lt (length word) 64 ≡ true = let w = is.short in grind (arith, nat_tests) in
     rw (some, short, is.lower_case) refl
 
--- the words in front of names
+-- the words before names
 pub zones_label : IsLabel (122 ∷ 111 ∷ 110 ∷ 101 ∷ 115 ∷ [])
 zones_label = record { some = omega arith; short = omega arith; lower_case = refl }
 

@@ -10,7 +10,7 @@ use Rattle.std.proofs.lemmas.List.Elements.{All-push}
 use Rattle.dz_name.specs.Name.{label_order, canonical_order}
 use Rattle.dz_name.specs.Order.{same_label_ties, same_ties}
 use Rattle.dz_member.specs.Listing.{same_zone}
-use Rattle.dz_member.specs.Twice.{has_twice}
+use Rattle.dz_settings.specs.Twice.{has_twice}
 use Rattle.dz_member.specs.declared.listing.Node.{Node}
 use Rattle.dz_producer.specs.Faults.{same_node}
 use Rattle.dz_producer.specs.inner.Nodes.{values}

@@ -8,7 +8,7 @@ use Rattle.std.proofs.lemmas.List.{append-nil}
 use Rattle.std.proofs.lemmas.List.Elements.{filter-append}
 use Rattle.dz_name.specs.Name.{same_name, same_label, wire_of}
 use Rattle.dz_name.specs.Order.{same_decides, same_label_decides}
-use Rattle.dz_member.specs.Twice.{has_twice}
+use Rattle.dz_settings.specs.Twice.{has_twice}
 use Rattle.dz_member.specs.declared.listing.Node.{Node}
 use Rattle.dz_record.specs.Record.{Record, same_record}
 use Rattle.dz_zone.specs.Valid.{some_two, both_are}
@@ -32,7 +32,7 @@ name_itself a = (same_decides a a).1 refl
 pub not_longer : (a b : List (List ℕ)) (n : ℕ) → length a ≡ length b + suc n → a ≡ b → ⊥
 not_longer a b n more e = let k : length a ≡ length b = ap length e in omega arith
 
--- a record's owner is a node's, or has one label in front of it
+-- a record's owner is a node's, or is one label longer
 abbrev pub Under : List (List ℕ) → Record → Type 0
 Under owner r = (r.owner ≡ owner) ⊎ ((label : List ℕ) × (r.owner ≡ label ∷ owner))
 
@@ -154,7 +154,7 @@ one_pointer apex n =
     all_pairs [] = tt
     all_pairs (x ∷ xs) = (all_true x xs, all_pairs xs)
 
--- and no two records that are the same, where no group stands twice
+-- and no two records that are the same, where no group comes twice
 groups_differ : (owner : List (List ℕ)) (a b : List ℕ) → bytes_eq a b ≡ false → same_record (uncached (group_name owner) 16 a) (uncached (group_name owner) 16 b) ≡ false
 groups_differ owner a b f = rw f (and_no (same_name (group_name owner) (group_name owner)))
   where

@@ -9,7 +9,7 @@ use Rattle.dz_record.specs.Records.{distinct}
 use Rattle.dz_zone.specs.Valid.{some_two}
 use Rattle.dz_zone.proofs.Ordered.{puts, put}
 use Rattle.dz_member.specs.Sorting.{insert_by, sorted_by}
-use Rattle.dz_member.specs.Twice.{has_twice}
+use Rattle.dz_settings.specs.Twice.{has_twice}
 
 pub or_false : (a b : Bool) → a ≡ false → b ≡ false → (a || b) ≡ false
 or_false a b p q = rw (p, q) refl
@@ -78,7 +78,7 @@ pub sorted_map : {X : Type 0} (f : X → X) (lt : X → X → Bool) → ((x y : 
 sorted_map f lt keeps [] = refl
 sorted_map f lt keeps (x ∷ xs) = ap (insert_by lt (f x)) (sorted_map f lt keeps xs) ∙ insert_map f lt keeps x (sorted_by lt xs)
 
--- what stands twice after sorting stood twice before
+-- what comes twice after sorting came twice before
 or_swap : (a b c : Bool) → (a || (b || c)) ≡ (b || (a || c))
 or_swap true true c = refl
 or_swap true false c = refl

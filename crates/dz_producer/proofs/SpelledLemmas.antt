@@ -13,7 +13,7 @@ use Rattle.dz_zone.specs.Valid.{at_apex}
 use Rattle.std.proofs.lemmas.List.Elements.{filter-append}
 use Rattle.dz_message.specs.Piece.{FitsAlone}
 use Rattle.dz_zone.specs.Version.{Zone, apex_soa}
-use Rattle.dz_form.specs.Apex.{held_serial}
+use Rattle.dz_xfr.specs.Apex.{held_serial}
 use Rattle.dz_member.specs.declared.listing.Node.{Node}
 use Rattle.dz_catalog.specs.Broken.{version_name}
 use Rattle.dz_producer.specs.Produced.{produced}

@@ -1,4 +1,4 @@
--- Whether something stands twice in a list, told by a set of what was seen.
+-- Whether something comes twice in a list, told by a set of what was seen.
 use Rattle.std.proofs.Common.{◌≡◌, ℕ, ◌+◌, ◌<◌, ◌≤◌, Bool, true, false, not, ◌||◌, cond, List, [], ◌∷◌, ◌++◌, length, take, drop, get_or, refl, sym, ◌∙◌, ap, inl, inr}
 use Rattle.std.specs.Prelude.{if◌then◌else◌}
 use Rattle.std.specs.declared.cmp.Ordering.{Ordering}
@@ -7,7 +7,7 @@ use Rattle.std.specs.Ordering.{is_eq}
 use Rattle.std.proofs.lemmas.Bool.{cases_Bool}
 use Rattle.std.proofs.lemmas.List.{take-append-drop, take_more, take_all}
 use Rattle.std.proofs.lemmas.List.Folds.{list_any-append}
-use Rattle.dz_member.specs.Twice.{has_twice}
+use Rattle.dz_settings.specs.Twice.{has_twice}
 
 or_mid : (a b c d : Bool) → ((a || b) || (c || d)) ≡ ((a || c) || (b || d))
 or_mid true b c d = refl
@@ -89,7 +89,7 @@ module _ {X K V : Type 0} (cmp : V → V → Ordering) (val : K → V) (key : X 
       end true = refl
       end false = refl
 
-  -- and stands there twice where it does
+  -- and comes twice there where it does
   pub one_again : (before : K → Bool) (xs : List X) (x : X) (k : K) (added : Bool) → IsSeen before xs → val k ≡ key x → added ≡ not (before k) → added ≡ false → has_twice tie (xs ++ x ∷ []) ≡ true
   one_again before xs x k added seen is new not_added =
       let there : before k ≡ true = turned (before k) (sym new ∙ not_added) in

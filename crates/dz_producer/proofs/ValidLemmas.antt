@@ -9,7 +9,7 @@ use Rattle.dz_name.specs.Words.{Name}
 use Rattle.dz_name.proofs.PartLemmas.{within_suffix}
 use Rattle.dz_member.specs.declared.listing.Node.{Node}
 use Rattle.dz_member.specs.Listing.{same_zone}
-use Rattle.dz_member.specs.Twice.{has_twice}
+use Rattle.dz_settings.specs.Twice.{has_twice}
 use Rattle.dz_record.specs.Record.{Record}
 use Rattle.dz_record.specs.Records.{distinct}
 use Rattle.dz_outward.specs.Stream.{is_fit}
@@ -84,7 +84,7 @@ not_both : (kind : ℕ) (r s : Record) → (r.kind == kind) ≡ false → (s.kin
 unfolding both_are
 not_both kind r s f g = rw f (and_none (same_name r.owner s.owner))
 
--- a name with labels in front is within it
+-- a name with labels before it is within it
 inside : (front apex : Name) → not (is_within (front ++ apex) apex) ≡ false
 inside front apex = rw ((within_suffix (front ++ apex) apex).1 (front, refl)) refl
 

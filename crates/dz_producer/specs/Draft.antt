@@ -16,6 +16,7 @@ use Rattle.dz_producer.specs.declared.draft.Verdict.TheVariants.{Fine, Faulty, U
 use Rattle.dz_producer.specs.inner.Nodes.{record_count}
 
 -- ---- sums, which stop at the largest number of 64 bits
+-- a number, or the largest of 64 bits where it is larger
 abbrev pub saturated : ℕ → ℕ
 saturated n = min n (2 ^ 64 - 1)
 
@@ -23,20 +24,22 @@ saturated n = min n (2 ^ 64 - 1)
 abbrev pub octets_of : List Record → ℕ
 octets_of records = sum_by (λ r. length (record_octets r)) records
 
+-- how many octets a node's records have
 abbrev pub node_size : Name → Node → ℕ
 node_size apex node = octets_of (node_records apex node)
 
+-- how many octets the records of nodes have
 abbrev pub spent : Name → List Node → ℕ
 spent apex nodes = sum_by (node_size apex) nodes
 
--- ---- what is known of every node that a program holds
+-- what is known of every node that a program holds
 pub record IsHeld (node : Node) : Type 0 where
   pub label : IsLabel node.label
   pub zone : IsName node.zone
   pub coo : ForSome node.coo IsName
   pub groups : AllByRecursion (All (λ octet. octet < 2 ^ 8)) node.groups
 
--- ---- these are the nodes that were put into a draft
+-- these are the nodes that were put into a draft
 pub record IsDraft (nodes : List Node) (draft : Draft) : Type 0 where
   pub labels : (label : Octets) → contains label_order draft.labels label ≡ list_any (λ n. same_label n.label label) nodes
   pub zones : (zone : Name) → contains canonical_order draft.zones zone ≡ list_any (λ n. same_name n.zone zone) nodes
@@ -63,5 +66,6 @@ pub record IsGood (apex : Name) (serial : ℕ) (nodes : List Node) (so_far : Dra
   pub held : AllByRecursion IsHeld nodes
   pub faultless : produce_fault apex serial nodes ≡ None
 
+-- a verdict holds, whatever nodes without a fault the draft is of, and whatever their serial
 abbrev pub Judges : Verdict → Name → Node → Draft → Draft → Type 0
 Judges verdict apex node before after = (serial : ℕ) (nodes : List Node) → IsGood apex serial nodes before → IsJudged verdict apex nodes node before after

@@ -10,19 +10,23 @@ use Rattle.dz_producer.specs.Laws.{in_label_order}
 use Rattle.dz_producer.specs.Records.{soa, uncached, node_records}
 use Rattle.dz_producer.specs.declared.fault.ProduceFault.TheVariants.{LabelTwice, BadGroup, NameTooLong}
 
--- the catalog c., and nodes of it
+-- the apex of the catalog c.
 abbrev apex : Name
 apex = codes "c" ∷ []
 
+-- a node whose zone has one label
 abbrev node_of : Octets → Octets → Option Name → List Octets → Node
 node_of label zone coo groups = record { label = label; zone = zone ∷ []; coo = coo; groups = groups }
 
+-- a node without a change of ownership and without groups
 abbrev plain : Octets → Octets → Node
 plain label zone = node_of label zone None []
 
+-- a node of the zone z. with groups
 abbrev with_groups : Octets → List Octets → Node
 with_groups label groups = node_of label (codes "z") None groups
 
+-- the group `edge` as a character string
 abbrev edge : Octets
 edge = 4 ∷ codes "edge"
 
@@ -67,10 +71,11 @@ pub group_twice : produce_fault apex 7 (with_groups (codes "m") (edge ∷ (1 ∷
 unfolding produce_fault
 group_twice = refl
 
--- an apex of so many octets leaves no room for `version`, whatever the nodes
+-- a label of this many octets
 abbrev letters : ℕ → Octets
 letters n = replicate n 97
 
+-- an apex of 248 octets, which leaves no room for `version`, whatever the nodes
 abbrev long_apex : Name
 long_apex = letters 63 ∷ letters 63 ∷ letters 63 ∷ letters 54 ∷ []
 

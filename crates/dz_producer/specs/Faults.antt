@@ -6,7 +6,7 @@ use Rattle.dz_name.specs.Name.{wire_of, same_label}
 use Rattle.dz_name.specs.Words.{Name, Octets}
 use Rattle.dz_name.specs.declared.dns.TheConstants.{NAME_OCTETS, ZONE_RECORDS}
 use Rattle.dz_member.specs.Listing.{same_zone}
-use Rattle.dz_member.specs.Twice.{has_twice}
+use Rattle.dz_settings.specs.Twice.{has_twice}
 use Rattle.dz_member.specs.declared.listing.Node.{Node}
 use Rattle.dz_member.specs.declared.listing.TheConstants.Listing.{NODES}
 use Rattle.dz_zone.specs.Version.{zone_of}
@@ -15,7 +15,7 @@ use Rattle.dz_producer.specs.Records.{plain_records, all_records}
 use Rattle.dz_producer.specs.declared.fault.ProduceFault.{ProduceFault}
 use Rattle.dz_producer.specs.declared.fault.ProduceFault.TheVariants.{LabelTwice, BadGroup, NameTooLong, TooMany, ZoneTwice}
 
--- two nodes of one label
+-- two nodes have one label
 abbrev pub same_node : Node → Node → Bool
 same_node a b = same_label a.label b.label
 
@@ -24,7 +24,7 @@ abbrev pub is_string : Octets → Bool
 is_string [] = false
 is_string (size ∷ text) = nat_lt 0 (length text) && size == length text
 
--- a group is none, or stands twice at the node
+-- a group isn't such a string, or comes twice at the node
 abbrev pub has_bad_group : Node → Bool
 has_bad_group node = not (list_all is_string node.groups) || has_twice bytes_eq node.groups
 

@@ -19,16 +19,20 @@ use Rattle.dz_producer.specs.Amended.{IsCatalog, nodes_after, amend_fault, diffe
 use Rattle.dz_producer.specs.Faults.{produce_fault}
 use Rattle.dz_producer.specs.Produced.{produced}
 
--- ---- the nodes in the order of their labels, the groups of each in the order of their octets
+-- ---- nodes are in the order of their labels, and the groups of each in the order of their octets
+-- octets come before others in the order of their values
 abbrev pub octets_before : Octets → Octets → Bool
 octets_before a b = is_lt (slice_cmp nat_cmp a b)
 
+-- a node with its groups in order
 abbrev pub with_sorted_groups : Node → Node
 with_sorted_groups node = record node { groups = sorted_by octets_before node.groups }
 
+-- a node's label comes before another's
 abbrev pub label_before : Node → Node → Bool
 label_before a b = is_lt (label_order a.label b.label)
 
+-- the nodes in order
 abbrev pub in_label_order : List Node → List Node
 in_label_order nodes = sorted_by label_before (map with_sorted_groups nodes)
 
@@ -39,17 +43,21 @@ pub record IsNode (node : Node) : Type 0 where
   pub coo : ForSome node.coo IsName
 
 -- ---- the laws, of nodes without a fault
+-- the catalog that is made lists its nodes, in order
 abbrev pub ListsItsNodes : Type 0
 ListsItsNodes = (apex : Name) (serial : ℕ) (nodes : List Node) → All IsNode nodes → produce_fault apex serial nodes ≡ None
     → listing_of apex (produced apex serial nodes).records ≡ Ok (in_label_order nodes)
 
+-- the digest of the catalog that is made verifies it (RFC 8976 section 4)
 abbrev pub StandsGood : Type 0
 StandsGood = (apex : Name) (serial : ℕ) (nodes : List Node) → serial < 2 ^ 32 → standing apex (produced apex serial nodes).records ≡ Good
 
 -- ---- a change is read back against the version that was changed (RFC 1995 section 4)
+-- an IXFR with ID 0 to one that holds the version that was changed
 abbrev pub change_of : Zone → Transfer
 change_of old = record { apex = old.apex; ask = Ixfr; id = 0; held = Some old }
 
+-- the difference leads to the catalog of the nodes after the change
 abbrev pub LeadsOn : Type 0
 LeadsOn = (old : Zone) (serial : ℕ) (dropped : List Octets) (added : List Node) → IsVersion old → IsCatalog old → serial < 2 ^ 32 → All IsNode added → amend_fault old serial dropped added ≡ None
     → outcome (change_of old) (difference_octets old serial dropped added) ≡ new (produced old.apex serial (nodes_after old dropped added))

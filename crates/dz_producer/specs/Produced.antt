@@ -12,7 +12,7 @@ use Rattle.dz_producer.specs.declared.fault.ProduceError.TheVariants.{Fault, Out
 abbrev pub produced : Name → ℕ → List Node → Zone
 produced apex serial nodes = zone_of apex (all_records apex serial nodes)
 
--- that catalog where its nodes have no fault, or else the first fault; want of memory tells nothing
+-- that catalog where its nodes have no fault, or else the first fault; where memory runs out, nothing is told
 abbrev pub IsProduced : Name → ℕ → List Node → Result Zone ProduceError → Type 0
 IsProduced apex serial nodes (Ok version) = (produce_fault apex serial nodes ≡ None) × (version ≡ produced apex serial nodes)
 IsProduced apex serial nodes (Err (Fault fault)) = produce_fault apex serial nodes ≡ Some fault

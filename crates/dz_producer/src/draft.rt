@@ -8,7 +8,7 @@ ghost use Rattle.dz_member.specs.declared.listing.Node.{Node};
 ghost use Rattle.dz_producer.specs.Draft.{IsDraft, IsHeld, Judges, saturated, node_size};
 ghost use Rattle.dz_producer.specs.inner.Sizes.{pointer_octets, text_octets};
 
-use crate::judging::{COO, FIXED_RECORDS, GROUP, ZONES, has_bad_group, is_node_long, record_count};
+use crate::refused::{COO, FIXED_RECORDS, GROUP, ZONES, has_bad_group, is_node_long, record_count};
 use dz_member::{Listing, Node};
 use dz_name::dns::ZONE_RECORDS;
 use dz_name::{KeptName, Label, Name, Octets};
@@ -25,7 +25,7 @@ pub enum Verdict {
     Fine,
     /// They have a fault, whatever the serial.
     Faulty,
-    /// They have so many octets that the catalog must be made to tell.
+    /// They have so many octets that only making the catalog can tell.
     Unsure,
 }
 
@@ -40,12 +40,12 @@ pub struct Draft {
 }
 
 impl Draft {
-    /// The nodes' records may have so many octets without a stream passing its limit: there are no more than 4,096 octets
-    /// of other records, and less than a thousandth more of headers, since each message but the last has at least 15,000
-    /// octets of records.
+    /// The octets that the nodes' records may have without a stream passing its limit. There are at most 4,096 octets
+    /// of other records, and less than a thousandth more of headers, since each message but the last has at least
+    /// 15,000 octets of records.
     pub const SURE: usize = 66_990_000;
 
-    /// No nodes, and so many octets of others.
+    /// No nodes, and this many octets of other records.
     pub fn new(alloc: Global, octets: usize) -> Draft
         ensures draft { IsDraft [] result }
         ensures octets { result.octets ≡ octets }
@@ -59,8 +59,8 @@ impl Draft {
         }
     }
 
-    /// Puts a node beside the others, without a judgement and without its octets: whether none of them has its label and
-    /// none its zone.
+    /// Puts a node beside the others, without a judgement and without its octets: whether none of them has its label
+    /// and none its zone.
     pub fn put(&mut self, node: &Node) -> Result<bool, AllocError>
         ensures draft { OnOk result ((nodes : List Node) → IsDraft nodes self.old
             → IsDraft (nodes ++ node.now ∷ []) self.new) }
@@ -86,7 +86,8 @@ impl Draft {
         self.octets = self.octets.saturating_add(node_octets(apex, node));
     }
 
-    /// Adds a node, and judges it with the others, which have no fault. Where it is faulty, the draft is of no more use.
+    /// Adds a node, and judges it with the others, which have no fault. Where it is faulty, the draft is of no more
+    /// use.
     pub fn add(&mut self, alloc: Global, apex: &Name, node: &Node) -> Result<Verdict, AllocError>
         ensures { IfOk result (λ verdict. Judges verdict apex.now node.now self.old self.new) }
     {

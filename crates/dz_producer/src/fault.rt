@@ -7,7 +7,7 @@ use std::alloc::{AllocError, AllocFailed};
 pub enum ProduceFault {
     /// Two nodes have one label.
     LabelTwice,
-    /// A group isn't one character string of 1 to 255 octets, or stands twice at a node.
+    /// A group isn't one character string of 1 to 255 octets, or comes twice at a node.
     BadGroup,
     /// An owner that is needed passes 255 octets.
     NameTooLong,
@@ -30,6 +30,7 @@ impl From<AllocError> for ProduceError {
 
     ghost from_gives = { λ _ e. e ≡ OutOfMemory };
 
+    /// Out of memory.
     fn from(_error: AllocError) -> ProduceError {
         ProduceError::OutOfMemory
     }
@@ -41,6 +42,7 @@ impl<T: Drop> From<AllocFailed<T>> for ProduceError {
 
     ghost from_gives = { λ _ e. e ≡ OutOfMemory };
 
+    /// Out of memory; what was to be kept goes.
     fn from(_failed: AllocFailed<T>) -> ProduceError {
         ProduceError::OutOfMemory
     }
@@ -72,6 +74,7 @@ impl From<AllocError> for AmendError {
 
     ghost from_gives = { λ _ e. e ≡ OutOfMemory };
 
+    /// Out of memory.
     fn from(_error: AllocError) -> AmendError {
         AmendError::OutOfMemory
     }
@@ -83,6 +86,7 @@ impl<T: Drop> From<AllocFailed<T>> for AmendError {
 
     ghost from_gives = { λ _ e. e ≡ OutOfMemory };
 
+    /// Out of memory; what was to be kept goes.
     fn from(_failed: AllocFailed<T>) -> AmendError {
         AmendError::OutOfMemory
     }

@@ -56,7 +56,7 @@ fn invalid() -> &'static [u8]
     b"\x07invalid\x00"
 }
 
-/// A name with one more label in front, for which there is room.
+/// A name with one more label before it, for which there is room.
 fn child(name: &Name, label: &Label) -> Name
     requires { is_long (label.now ∷ name.now) ≡ false }
     ensures { result ≡ label.now ∷ name.now }
@@ -67,7 +67,7 @@ fn child(name: &Name, label: &Label) -> Name
     }
 }
 
-/// A name with a word in front, for which there is room.
+/// A name with a word before it as a label, for which there is room.
 fn below(name: &Name, word: &[u8]) -> Name
     requires label { IsLabel word.now }
     requires room { is_long (word.now ∷ name.now) ≡ false }

@@ -1,6 +1,6 @@
 -- What a list tells of a job that ended.
 use Rattle.std.proofs.Common.{◌≡◌, ℕ, ◌≤◌, Bool, true, false, List, [], ◌∷◌, ◌++◌, length, take, Option, Some, None, Result, Ok, Err, refl, sym, ap, subst, ◌∙◌, arith, append_assoc, inl, inr}
-use Rattle.std.specs.Prelude.{⊤, slice_get, MatchResult}
+use Rattle.std.specs.Prelude.{⊤, slice_get, IfOk, MatchResult}
 use Rattle.std.proofs.lemmas.Bool.{cases_Bool}
 use Rattle.std.proofs.Math.Seq.{take-length}
 use Rattle.std.proofs.lemmas.List.{take-append-le}
@@ -25,6 +25,7 @@ use Rattle.dz_provision.specs.declared.provisioner.Unmade.{Unmade}
 use Rattle.dz_provision.specs.declared.provisioner.Unmade.TheVariants as unmade
 use Rattle.dz_desk.specs.Seen.{Page}
 use Rattle.dz_provision.specs.Held.{Held, IsSettled, IsFailed}
+use Rattle.dz_provision.specs.Keeping.{IsLastVerdict}
 use Rattle.dz_provision.specs.Receipts.{core_of, verdict_after, IsJoined, IsSettledAt, IsFailedAt}
 use Rattle.dz_provision.proofs.TakenLemmas.{list_after}
 
@@ -104,6 +105,25 @@ module _ (c : Core) (job : JobOf) (octets : Octets) (now : ℕ) (used : octets_u
   untaken_at (Stale n) d from none is = is.0 ∙ same_verdict c job octets
   untaken_at OutOfMemory d from none is = tt
 
+  -- the verdict of one that is taken is that of the last entry
+  last_by : (v : Verdict) (d : Core) → v ≡ verdict_of c job octets → is_taken v ≡ true → d ≡ settled c job octets now → IsLastVerdict d.list v
+  last_by v d is takes ends = record {
+    before = c.list;
+    job = job;
+    octets = octets;
+    are = ap (λ (x : Core). x.list) ends ∙ list_then (rw is at takes);
+    own = is ∙ same_verdict c job octets;
+    taken = takes;
+  }
+
+  pub last_at : (v : Verdict) (d : Core) → is_taken v ≡ true → IsOffered c job octets now v d → IsLastVerdict d.list v
+  last_at (Published n serial aftermath) d takes is = last_by (Published n serial aftermath) d is.0 refl is.1
+  last_at (Confirmed n serial) d takes is = last_by (Confirmed n serial) d is.0 refl is.1
+  last_at (Refused fault) d takes is = absurd (cc takes)
+  last_at (PolicyRefused standing) d takes is = absurd (cc takes)
+  last_at (Stale n) d takes is = absurd (cc takes)
+  last_at OutOfMemory d takes is = absurd (cc takes)
+
 -- ---- what a call under the lock answers
 module _ (h k : Held) (job : JobOf) (now : ℕ) where
   pub settled_ok : (octets : Octets) (v : Verdict) (told : Page) (list later : List Entry) → octets_used (transfer_for job) octets ≡ length octets → list ≡ h.core.list → IsSettled h job octets now (Ok (v, told)) k
@@ -113,6 +133,10 @@ module _ (h k : Held) (job : JobOf) (now : ℕ) where
     | inl t ↦ rw same (taken_at h.core job octets now used v k.core later t is.1.0 (rw (← note) (taken t)))
     | inr f ↦ rw (untaken f ∙ same) (untaken_at h.core job octets now used v k.core (length list) f is.1.0)
   ]
+
+  pub settled_last : (octets : Octets) (v : Verdict) (told : Page) → octets_used (transfer_for job) octets ≡ length octets → IsSettled h job octets now (Ok (v, told)) k → is_taken v ≡ true → IsLastVerdict k.core.list v
+  unfolding IsSettled
+  settled_last octets v told used is takes = last_at h.core job octets now used v k.core takes is.1.0
 
   pub settled_err : (octets : Octets) (u : Unmade) (list : List Entry) → list ≡ h.core.list → IsSettled h job octets now (Err u) k → IsSettledAt (Err u) job octets (length list) list
   unfolding IsSettled
@@ -136,6 +160,10 @@ module _ (h k : Held) (job : JobOf) (now : ℕ) where
 pub starved_at : (r : Result Verdict Unmade) (job : JobOf) (octets : Octets) (from : ℕ) (list : List Entry) → MatchResult r (λ v. v ≡ OutOfMemory) (λ u. u ≡ unmade.LogFault) → IsSettledAt r job octets from list
 starved_at (Ok v) job octets from list is = rw is tt
 starved_at (Err u) job octets from list is = rw is tt
+
+pub starved_last : (r : Result Verdict Unmade) (list : List Entry) → MatchResult r (λ v. v ≡ OutOfMemory) (λ u. u ≡ unmade.LogFault) → IfOk r (λ v. is_taken v ≡ true → IsLastVerdict list v)
+starved_last (Ok v) list is = λ takes. absurd (let e : is_taken OutOfMemory ≡ true = rw is at takes in cc e)
+starved_last (Err u) list is = tt
 
 -- ---- an answer holds behind a shorter list too
 pub settled_sooner : (r : Result Verdict Unmade) (job : JobOf) (octets : Octets) (less from : ℕ) (list : List Entry) → less ≤ from → IsSettledAt r job octets from list → IsSettledAt r job octets less list

@@ -1,8 +1,8 @@
 -- The list that has a configuration alone.
 use Rattle.std.proofs.Common.{◌≡◌, List, [], ◌∷◌, ◌++◌, Option, Some, refl, false}
 use Rattle.dz_name.specs.Words.{Octets}
-use Rattle.dz_member.specs.declared.config.CatalogSettings.{CatalogSettings}
-use Rattle.dz_member.specs.Config.{IsAllowed}
+use Rattle.dz_settings.specs.declared.config.CatalogSettings.{CatalogSettings}
+use Rattle.dz_settings.specs.Config.{IsAllowed}
 use Rattle.dz_history.specs.declared.entry.Entry.TheVariants.{Setup}
 use Rattle.dz_history.specs.After.{after, step}
 use Rattle.dz_history.specs.Legal.{IsLegal, IsLegalFrom}

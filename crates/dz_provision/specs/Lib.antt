@@ -1,5 +1,6 @@
 pub mod Held
 pub mod Journal
+pub mod Keeping
 pub mod Log
 pub mod Names
 pub mod Receipts

@@ -3,6 +3,7 @@ use Rattle.std.specs.Prelude.{⊤, ◌≡◌, ℕ, Bool, List, [], ◌∷◌, �
 use Rattle.hex.specs.Hex.{encode_lower}
 use mathlib.Core.List.{IsPrefix}
 use Rattle.dz_name.specs.Words.{Name, Octets}
+use Rattle.dz_name.specs.Text.{text_of as printed}
 use Rattle.dz_take.specs.declared.outcome.TakeFault.{TakeFault}
 use Rattle.dz_zonemd.specs.declared.acceptance.Standing.{Standing}
 use Rattle.dz_notify.specs.declared.notify.Heard.{Heard}
@@ -13,11 +14,13 @@ use Rattle.dz_job.specs.declared.verdict.Verdict.TheVariants.{Refused, PolicyRef
 use Rattle.dz_job.specs.declared.verdict.Failure.{Failure}
 use Rattle.dz_fleet.specs.declared.due.Due.{Due}
 use Rattle.dz_fleet.specs.declared.due.Due.TheVariants as due
-use Rattle.dz_report.specs.Lines.{job_line, failure_line, notify_line, verdict_lines}
+use Rattle.dz_store.specs.declared.fault.StoreFault.{StoreFault}
+use Rattle.dz_store.specs.declared.fault.StoreFault.TheVariants as faults
+use Rattle.dz_report.specs.Lines.{also, end, job_line, failure_line, notify_line, verdict_lines}
 use Rattle.dz_provision.specs.Journal.{journal}
 
 -- what tells of no entry: a job, and that there is none; what ended a job by which nothing was taken; a NOTIFY; a reply to
--- a query, and that there is none
+-- a query, and that there is none; a zone that a store couldn't keep or forget
 pub data Aside : Type 0 where
   handed : JobOf → Aside
   idle : Aside
@@ -30,6 +33,18 @@ pub data Aside : Type 0 where
   heard : Name → Heard → Aside
   replied : Octets → Aside
   silent : Aside
+  unkept : Name → StoreFault → Aside
+
+-- why a store couldn't
+abbrev pub fault_word : StoreFault → Octets
+fault_word faults.DiskFault = codes "disk"
+fault_word faults.Full = codes "full"
+fault_word faults.Unfit = codes "unfit"
+fault_word faults.OutOfMemory = codes "memory"
+
+-- `unkept <zone> <word>`
+abbrev pub unkept_text : Name → StoreFault → Octets
+unkept_text zone fault = end (also (also (codes "unkept") (printed zone)) (fault_word fault))
 
 abbrev pub text_of : Aside → Octets
 text_of (handed job) = job_line job
@@ -43,6 +58,7 @@ text_of (failed zone failure) = failure_line zone failure
 text_of (heard zone how) = notify_line zone how
 text_of (replied octets) = codes "reply " ++ (encode_lower octets ++ (10 ∷ []))
 text_of silent = codes "none\n"
+text_of (unkept zone fault) = unkept_text zone fault
 
 -- the lines of a call that asks for a job, and of one that ends a job: there are none where there is no job, and for want
 -- of memory
@@ -56,13 +72,15 @@ abbrev pub settled_lines : Name → Verdict → Octets
 settled_lines zone OutOfMemory = []
 settled_lines zone verdict = verdict_lines zone verdict
 
--- what can be said beside events: that there is no job, a reply or none, and want of memory for a zone's transfer
+-- what can be said beside events: that there is no job, a reply or none, want of memory for a zone's transfer, and a zone
+-- that isn't kept
 abbrev pub IsRemark : Aside → Type 0
 IsRemark idle = ⊤
 IsRemark full = ⊤
 IsRemark (starved zone) = ⊤
 IsRemark (replied octets) = ⊤
 IsRemark silent = ⊤
+IsRemark (unkept zone fault) = ⊤
 IsRemark aside = ⊥
 
 abbrev pub CanBeSaid : Octets → Type 0

@@ -2,19 +2,26 @@
 //! the lock is free (RFC 9432 section 5).
 #![tactic(auto)]
 
-mod copying;
-mod handing;
-mod hearing;
+mod copied;
+mod hand;
+mod hear;
 mod jobs;
-mod logging;
+mod keep;
+mod kept_jobs;
+mod log;
 mod naming;
 mod provisioner;
-mod seeing;
-mod settling;
+mod restored;
+mod see;
+mod settle;
 mod shared;
-mod starving;
+mod starved;
+mod unkept;
 
 pub use jobs::Jobs;
+pub use keep::keep_last;
+pub use kept_jobs::Keeping;
 pub use naming::Naming;
 pub use provisioner::{LogFault, Parts, Provisioner, Unmade, Unstarted};
+pub use restored::{Restored, restore};
 pub use shared::{Locked, Shared};

@@ -3,20 +3,20 @@
 ghost use Rattle.std.specs.Prelude.{◌≡◌, [], length, None, true, false, IfOk, IfErr, IfSome, MatchBool};
 ghost use Rattle.std.specs.Arc.{arc_value};
 ghost use Rattle.dz_io.specs.Counts.{HasRisen};
-ghost use Rattle.dz_member.specs.Config.{IsAllowed};
+ghost use Rattle.dz_settings.specs.Config.{IsAllowed};
 ghost use Rattle.dz_fleet.specs.Core.{opened_core};
 ghost use Rattle.dz_fleet.specs.Sound.{IsSound};
 ghost use Rattle.dz_history.specs.declared.entry.Entry.TheVariants.{Setup};
 ghost use Rattle.dz_desk.specs.Seen.{page};
 ghost use Rattle.dz_provision.specs.Log.{IsLogged};
 
-use crate::copying::copied;
+use crate::copied::copied;
 use crate::naming::Naming;
 use dz_desk::{Publisher, Told};
 use dz_fleet::{Absent, Fleet};
 use dz_history::{Entry, Step};
 use dz_io::Sink;
-use dz_member::Config;
+use dz_settings::Config;
 use dz_table::Table;
 use std::alloc::{AllocError, Global};
 use std::marker::{Model, PhantomData};
@@ -169,6 +169,7 @@ impl<K: Sink, J: Naming> Provisioner<K, J> {
     pub fn has_failed(&self) -> bool
         ensures failed { result ≡ self.now.failed }
         ensures cause { self.now.failed ≡ true → (k : K) × HasRisen 0 (K.faults k) }
+        ensures risen { self.now.failed ≡ true → HasRisen 0 self.now.faults }
     {
         self.log_failed
     }

@@ -16,7 +16,7 @@ use std::sync::{Mutex, Wait};
 
 /// Something behind a lock, for threads to share. [`Locked::close`] takes it out.
 pub struct Locked<P> {
-    lock: Mutex<ManuallyDrop<P>>,
+    pub(crate) lock: Mutex<ManuallyDrop<P>>,
 }
 
 /// A provisioner behind a lock. It hears NOTIFY, hands jobs out and ends them for the readings of its publisher.

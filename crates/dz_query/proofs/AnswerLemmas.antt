@@ -1,4 +1,4 @@
--- What is due, by the reply of the table; and that every reply fits behind its length.
+-- What is due, by the reply of the table; and that every reply fits after its length.
 use Rattle.std.proofs.Common.{◌≡◌, inl, inr, ℕ, ◌≤◌, Bool, false, List, length, take, Option, refl, sym, ap, ◌∙◌, arith, length-append}
 use Rattle.std.specs.Prelude.{IsSome}
 use Rattle.std.proofs.lemmas.Bool.Decides.{leb_tells}
@@ -31,8 +31,8 @@ use Rattle.dz_query.specs.Answer.{reply_at}
 use Rattle.dz_query.specs.Due.{due_of, due}
 use Rattle.dz_query.specs.Served.{sent_of, IsExcused}
 use Rattle.dz_query.specs.inner.Replying.{IsAnswered, IsShort, IsShortText, fate_of, texts_of}
-use Rattle.dz_query.specs.declared.answering.Answered.{Answered}
-use Rattle.dz_query.specs.declared.answering.Answered.TheVariants as answers
+use Rattle.dz_query.specs.declared.answered.Answered.{Answered}
+use Rattle.dz_query.specs.declared.answered.Answered.TheVariants as answers
 
 -- ---- what is due
 pub due_is : (list : List Entry) (tcp : Bool) (octets : Octets) (peer : Peer) (moment : ℕ) (reply : Reply) → reply_at list octets moment tcp ≡ reply → due list tcp (packet octets peer) moment ≡ due_of reply list (packet octets peer)

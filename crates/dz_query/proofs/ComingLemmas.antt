@@ -19,7 +19,7 @@ fills_more at n buffer rest before middle now whole was gained =
     let split : take (at + n) (take at buffer ++ rest) ≡ take at buffer ++ take n rest = ap (λ k. take (k + n) (take at buffer ++ rest)) (sym whole) ∙ take-append-add (take at buffer) rest n in
     rw split (gains_more (take at buffer) (take n rest) before middle now was gained)
 
--- ---- a message behind its length
+-- ---- a message after its length
 short_octets : (a b : ℕ) → a < 256 → b < 256 → (i : ℕ) → get_or (a ∷ b ∷ []) i 0 < 256
 short_octets a b first second zero = first
 short_octets a b first second (suc zero) = second

@@ -91,7 +91,7 @@ part_told : (octets : Octets) (before now : Option Octets) → Tells [] before �
 part_told octets before now none part =
     told_then (λ written. IsPrefix written octets) (take part.0 octets) now (tells_gained (take part.0 octets) before now none part.2) (drop part.0 octets, take-append-drop part.0 octets)
 
--- after want of memory the replies that were written begin all
+-- where memory ran out, the replies that were written are a beginning of all of them
 starved_part : (downstream : List Octets) (list : List Entry) (served : List Served) (last : Served) (before now : Option Octets) → Gains (framed downstream list served) before now → GainsPrefix (framed downstream list (served ++ last ∷ [])) before now
 starved_part downstream list served last before now gained =
     let all : framed downstream list (served ++ last ∷ []) ≡ framed downstream list served ++ stream (owed downstream list last ++ []) =

@@ -30,8 +30,8 @@ use Rattle.dz_query.specs.Laws.{ComesBack}
 use Rattle.dz_query.specs.Served.{sent_of}
 use Rattle.dz_query.specs.inner.Replying.{IsAnswered, fate_of}
 use Rattle.dz_query.specs.inner.Sending.{owed_by, fate_in, Sends, IsSending, IsGoing}
-use Rattle.dz_query.specs.declared.answering.Answered.{Answered}
-use Rattle.dz_query.specs.declared.answering.Answered.TheVariants as answers
+use Rattle.dz_query.specs.declared.answered.Answered.{Answered}
+use Rattle.dz_query.specs.declared.answered.Answered.TheVariants as answers
 use Rattle.dz_query.specs.declared.sending.Sending.{Sending}
 use Rattle.dz_query.specs.declared.sending.Sending.TheVariants as sending
 use Rattle.dz_query.proofs.AnswerLemmas.{goes_out, excused, short}

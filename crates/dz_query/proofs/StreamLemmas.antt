@@ -82,7 +82,7 @@ goes_on downstream may_fail may_give from list later peer before middle now mess
       sights = rw (length-append was.served (s ∷ [])) (rises_more (length was.served) 1 before.sights middle.sights now.sights was.sights sights);
     }
 
--- the whole messages that came, with a part of one behind them
+-- the whole messages that came, followed by a part of one
 read_to : (downstream : List Octets) (may_fail : Type 0) (may_give : ℕ → Bool) (from : ℕ) (list : List Entry) (peer : Peer) (before middle now : Flow) (part : Octets) (was : IsFlowing downstream may_fail may_give from list peer before middle)
     → first_size part ≡ None → Gains part middle.read now.read → now.moments ≡ middle.moments → now.sights ≡ middle.sights
     → AreRead may_fail may_give from list peer before now was.served

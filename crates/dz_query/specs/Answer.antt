@@ -10,6 +10,6 @@ use Rattle.dz_desk.specs.Seen.{Viewed, raised}
 abbrev pub reply_at : List Entry → Octets → ℕ → Bool → Reply
 reply_at list octets moment tcp = reply_of (after list).table octets moment tcp
 
--- a reading that looked once more, saw this list, and is at rest
+-- a reading after one more look, which saw this list, and at rest
 abbrev pub answered : Viewed → List Entry → Viewed
 answered r list = record r { list = list; sights = raised r.sights }

@@ -8,12 +8,12 @@ use Rattle.dz_history.specs.declared.entry.Entry.{Entry}
 use Rattle.dz_history.specs.Heard.{heard_at}
 use Rattle.dz_query.specs.Answer.{reply_at}
 
--- that of the table; to a NOTIFY by how it is heard
+-- the reply of the table, or to a NOTIFY the one by how it is heard
 abbrev pub due_of : Reply → List Entry → Packet → Option Octets
 due_of nothing list request = None
 due_of (written text) list request = Some text
 due_of (notify zone) list request = notify_reply_of request.octets (heard_at list request.peer zone)
 
--- after a list of taken transfers, at a moment, over TCP or UDP
+-- the reply that is due after a list of taken transfers, at a moment in seconds, over TCP or UDP
 unfoldable pub due : List Entry → Bool → Packet → ℕ → Option Octets
 due list tcp request moment = due_of (reply_at list request.octets moment tcp) list request

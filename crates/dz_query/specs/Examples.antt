@@ -33,9 +33,11 @@ pairs (c ∷ d ∷ rest) = (digit c * 16 + digit d) ∷ pairs rest
 abbrev hex : String → Octets
 hex text = pairs (codes text)
 
+-- the apex example.
 abbrev example : Name
 example = codes "example" ∷ []
 
+-- a record with a TTL of an hour
 abbrev rr : Name → Kind → Octets → Record
 rr owner kind rdata = record { owner = owner; kind = kind; ttl = 3600; rdata = rdata }
 
@@ -58,6 +60,7 @@ asked = record {
   edns = None;
 }
 
+-- the octets of that request
 abbrev octets : Octets
 octets = hex "009000000001000000000000076578616d706c650000fc0001"
 

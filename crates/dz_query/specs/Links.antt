@@ -20,6 +20,7 @@ pub record Visit : Type 0 where
   pub ending : StreamEnd
   pub served : List Served
 
+-- the links that came back, in their order
 abbrev pub links_of : List Visit → List Dialled
 links_of visits = map (λ (v : Visit). v.link) visits
 
@@ -27,25 +28,26 @@ links_of visits = map (λ (v : Visit). v.link) visits
 abbrev pub all_served : List Visit → List Served
 all_served visits = flat_map (λ (v : Visit). v.served) visits
 
--- where it is told, it is this; after a fault or want of memory a prefix of it
+-- where it is told, it is this; after a fault, or where memory ran out, a prefix of it
 abbrev pub IsWritten : StreamEnd → Octets → Option Octets → Type 0
 IsWritten Ended octets told = Tells octets told
 IsWritten Failed octets told = IfSome told (λ written. IsPrefix written octets)
 IsWritten OutOfMemory octets told = IfSome told (λ written. IsPrefix written octets)
 
--- the requests are the whole messages that were read, and their replies were written; and nothing was left, or the link's
--- count rose, or it was starved of memory
+-- the requests are the whole messages that were read, and their replies were written; and nothing was left, or the
+-- link's count rose, or it ran out of memory
 pub record IsVisit (downstream : List Octets) (list : List Entry) (visit : Visit) : Type 0 where
   pub read : IfSome visit.link.read (λ octets. requests visit.served ≡ requests_in visit.link.peer octets)
   pub written : IsWritten visit.ending (framed downstream list visit.served) visit.link.written
   pub ends : EndsBy visit.ending visit.link.left 0 visit.link.faults
 
--- a session was starved of memory
+-- a session ran out of memory
 abbrev pub has_starved : StreamEnd → Bool
 has_starved Ended = false
 has_starved Failed = false
 has_starved OutOfMemory = true
 
+-- one of these sessions ran out of memory
 abbrev pub some_starved : List Visit → Bool
 some_starved visits = list_any (λ (v : Visit). has_starved v.ending) visits
 
@@ -55,11 +57,12 @@ pub record LinksTold : Type 0 where
   pub sights : ℕ
   pub moments : Option (List ℕ)
 
+-- these three as one record
 abbrev pub links_told : Option (List Dialled) → ℕ → Option (List ℕ) → LinksTold
 links_told links sights moments = record { links = links; sights = sights; moments = moments }
 
 -- these links came back. The requests of all of them are one list, over which the beginnings never shrink. It is known
--- whether one of them was starved of memory
+-- whether one of them ran out of memory
 pub record AreVisits (starved : Bool) (downstream : List Octets) (may_fail : Type 0) (may_give : ℕ → Bool) (from : ℕ) (list : List Entry) (before now : LinksTold) : Type 0 where
   pub visits : List Visit
   pub links : Gains (links_of visits) before.links now.links
@@ -69,7 +72,7 @@ pub record AreVisits (starved : Bool) (downstream : List Octets) (may_fail : Typ
   pub sights : HasRisenBy (length (all_served visits)) before.sights now.sights
   pub starving : starved ≡ some_starved visits
 
--- what the end tells of that
+-- whether a session ran out of memory, as the end tells it
 abbrev pub starved_at : LinksEnd → Bool
 starved_at (links_end.Closed starved) = starved
 starved_at (links_end.Failed starved) = starved

@@ -27,7 +27,7 @@ use Rattle.dz_history.specs.After.{after}
 abbrev pub is_for_zone : Asked → Bool
 is_for_zone asked = opcode_of asked.header.flags == OPCODE_QUERY && (asked.question.class == CLASS_IN && asked.question.kind == TYPE_AXFR)
 
--- such a question can be read, and is answered as a type that isn't built
+-- the question of a request, where it is for a whole zone, which otherwise has NOTIMP
 abbrev pub zone_asked : Request → Option Asked
 zone_asked Silent = None
 zone_asked (Curt header code) = None
@@ -44,6 +44,7 @@ is_listed downstream peer = list_any (λ address. bytes_eq address peer.address)
 abbrev pub transfer_in : List Octets → Packet → Option Asked
 transfer_in downstream request = if is_listed downstream request.peer then zone_asked (read request.octets) else None
 
+-- whether it is such a request
 abbrev pub asks_for_zone : List Octets → Packet → Bool
 asks_for_zone downstream request = is_some (transfer_in downstream request)
 
@@ -70,6 +71,7 @@ sent_of_name octets asked (Some version) = sent_of_member octets asked version
 abbrev pub held_at : List SlotOf → Name → ℕ → Option (Option Zone)
 held_at slots zone moment = option_map (live_version moment) (slot_of zone slots)
 
+-- the messages that answer a request, by the list; none where it isn't for a whole zone
 abbrev pub sent_to : List Entry → Octets → ℕ → Option Asked → List Octets
 sent_to list octets moment None = []
 sent_to list octets moment (Some asked) = sent_of_name octets asked (held_at (after list).table asked.question.name moment)

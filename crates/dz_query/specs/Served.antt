@@ -11,16 +11,19 @@ use Rattle.dz_query.specs.Sent.{asks_for_zone, sent}
 use Rattle.dz_query.specs.declared.fate.Fate.{Fate}
 use Rattle.dz_query.specs.declared.fate.Fate.TheVariants.{Sent, Lost, Unheard}
 
--- a request and its peer, how many entries the list had by which it was answered, the moment, and what became of the reply
+-- a request and its peer, how many entries the list had by which it was answered, the moment, and what became of the
+-- reply
 pub record Served : Type 0 where
   pub request : Packet
   pub upto : ℕ
   pub moment : ℕ
   pub fate : Fate
 
+-- the requests, in their order
 abbrev pub requests : List Served → List Packet
 requests served = map (λ (s : Served). s.request) served
 
+-- the moments at which they were answered
 abbrev pub moments : List Served → List ℕ
 moments served = map (λ (s : Served). s.moment) served
 
@@ -31,7 +34,7 @@ sent_of Sent (Some text) = text ∷ []
 sent_of Lost reply = []
 sent_of Unheard reply = []
 
--- the same of a request: the reply is due by the beginning of the list, at the moment
+-- what went out to a request: the reply is due by the beginning of the list, at the moment
 abbrev pub sent_for : List Entry → Bool → Served → List Octets
 sent_for list tcp s = sent_of s.fate (due (take s.upto list) tcp s.request s.moment)
 
@@ -39,15 +42,17 @@ sent_for list tcp s = sent_of s.fate (due (take s.upto list) tcp s.request s.mom
 abbrev pub packets_to : Packet → List Octets → List Packet
 packets_to request texts = map (λ text. packet text request.peer) texts
 
+-- the replies that were sent over UDP, in their order
 abbrev pub replies : List Entry → List Served → List Packet
 replies list served = flat_map (λ (s : Served). packets_to s.request (sent_for list false s)) served
 
--- over TCP a listed address that asks for a whole zone gets it (RFC 5936 section 4.1), and all other requests what is due
+-- over TCP a listed address that asks for a whole zone gets it (RFC 5936 section 4.1), and all other requests what is
+-- due
 abbrev pub owed : List Octets → List Entry → Served → List Octets
 owed downstream list s =
     if asks_for_zone downstream s.request then sent (take s.upto list) s.request s.moment else sent_for list true s
 
--- there each message stands after its length (RFC 1035 section 4.2.2)
+-- the replies of a session over TCP, each message preceded by its length (RFC 1035 section 4.2.2)
 abbrev pub framed : List Octets → List Entry → List Served → Octets
 framed downstream list served = stream (flat_map (owed downstream list) served)
 
@@ -64,6 +69,7 @@ AreInTurn may_fail may_give tcp from list (s ∷ more) =
     (from ≤ s.upto) × (may_give s.moment ≡ true) × IsExcused may_fail tcp s.fate s.request
     × AreInTurn may_fail may_give tcp s.upto list more
 
+-- one where a reply is missing since its send failed
 abbrev pub loss : Fate → ℕ
 loss Sent = 0
 loss Lost = 1

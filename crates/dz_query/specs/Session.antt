@@ -17,6 +17,7 @@ pub record Told : Type 0 where
   pub sights : ℕ
   pub moments : Option (List ℕ)
 
+-- these five as one record
 abbrev pub told : Option (List Packet) → Option (List Packet) → ℕ → ℕ → Option (List ℕ) → Told
 told received sent faults sights moments =
     record { received = received; sent = sent; faults = faults; sights = sights; moments = moments }
@@ -43,6 +44,7 @@ pub record HasFailed (may_fail : Type 0) (may_give : ℕ → Bool) (from : ℕ) 
   pub answers : AreAnswered may_fail may_give from list before now served
   pub covered : HasRisenBy (losses served + 1) before.faults now.faults
 
+-- a session by its end: closed or failed
 abbrev pub IsSession : SessionEnd → Type 0 → (ℕ → Bool) → ℕ → List Entry → Told → Told → Type 0
 IsSession (Closed lost) may_fail may_give from list before now = HasAnswered lost may_fail may_give from list before now
 IsSession Failed may_fail may_give from list before now = HasFailed may_fail may_give from list before now

@@ -19,6 +19,7 @@ pub record Flow : Type 0 where
   pub sights : ℕ
   pub moments : Option (List ℕ)
 
+-- these four as one record
 abbrev pub flow : Option Octets → Option Octets → ℕ → Option (List ℕ) → Flow
 flow read written sights moments = record { read = read; written = written; sights = sights; moments = moments }
 
@@ -26,7 +27,8 @@ flow read written sights moments = record { read = read; written = written; sigh
 abbrev pub requests_in : Peer → Octets → List Packet
 requests_in peer octets = map (λ message. packet message peer) (messages_in octets)
 
--- octets were read, and the whole messages in them were answered, each at the moment in its place; each had a look of its own
+-- octets were read, and the whole messages in them were answered, each at the moment in its place; each had a look of
+-- its own
 pub record AreRead (may_fail : Type 0) (may_give : ℕ → Bool) (from : ℕ) (list : List Entry) (peer : Peer) (before now : Flow) (served : List Served) : Type 0 where
   pub octets : Octets
   pub read : Gains octets before.read now.read
@@ -55,6 +57,7 @@ pub record HasStarved (downstream : List Octets) (may_fail : Type 0) (may_give :
   pub zone : asks_for_zone downstream last.request ≡ true
   pub written : Gains (framed downstream list served) before.written now.written
 
+-- a session over a link by its end: all replies were written, a prefix of them, or those before memory ran out
 abbrev pub IsStream : StreamEnd → List Octets → Type 0 → (ℕ → Bool) → ℕ → List Entry → Peer → Flow → Flow → Type 0
 IsStream Ended downstream may_fail may_give from list peer before now = HasEnded downstream may_fail may_give from list peer before now
 IsStream Failed downstream may_fail may_give from list peer before now = HasBroken downstream may_fail may_give from list peer before now

@@ -11,8 +11,8 @@ ghost use Rattle.dz_desk.specs.Seen.{refused};
 ghost use Rattle.dz_query.specs.Answer.{answered, reply_at};
 
 use dz_desk::Reading;
-use dz_header::{ReplyBuffer, Writer};
-use dz_reply::{Transport, Turn, reply_to};
+use dz_header::{ReplyBuffer, Transport, Writer};
+use dz_reply::{Turn, reply_to};
 
 /// Answers a request at a moment in seconds, from the list that the reading sees now. It takes no memory, and waits for
 /// nobody. None comes only where the reading was refused its look; it may be asked again. The octets of a reply are
@@ -40,7 +40,7 @@ pub fn answer_one(
     answer_to(reading, octets, moment, transport, buffer.writer())
 }
 
-// The same over the writer of a reply alone, so that the request may stand in the other half of the buffer.
+/// The same over the writer of a reply alone, so that the request may be in the other half of the buffer.
 pub(crate) fn answer_to(
     reading: &mut Reading,
     octets: &[u8],

@@ -11,13 +11,12 @@ ghost use Rattle.dz_query.specs.Served.{sent_of, packets_to, IsExcused};
 ghost use Rattle.dz_query.specs.Session.{told, IsSession, HasClosed};
 ghost use Rattle.dz_query.specs.inner.Replying.{has_lost};
 
-use crate::answering::{Answered, answer_incoming};
+use crate::answered::{Answered, answer_incoming};
 use crate::fate::Fate;
 use crate::incoming::Incoming;
 use dz_desk::{Ear, Reading};
-use dz_header::{ReplyBuffer, Writer};
+use dz_header::{ReplyBuffer, Transport, Writer};
 use dz_io::{Clock, Datagrams, Failed, Peer, Received};
-use dz_request::Transport;
 use std::sync::Wait;
 
 /// How a session over datagrams ended.
@@ -29,9 +28,10 @@ pub enum SessionEnd {
     Failed,
 }
 
-/// Answers the packets that come to a device, one after the other, until it closes or a receive fails: each at a moment
-/// of the clock, which is asked once for each, and by the list that the reading sees then. A reply that can't be sent is
-/// left out. An ear hears NOTIFY (RFC 1996). It takes no memory, and may wait for ever. The publisher has to stay open.
+/// Answers the packets that come to a device, one after the other, until it closes or a receive fails. Each is answered
+/// at a moment of the clock, which is asked once for each, and by the list that the reading sees then. A reply that
+/// can't be sent is left out. An ear hears NOTIFY (RFC 1996). It takes no memory, and may wait forever. The publisher
+/// has to stay open.
 #[tactic(auto, using(crate::proofs::SessionLemmas::none_yet, dz_desk::proofs::PrefixLemmas::prefix_self))]
 pub fn serve_datagrams<E: Ear, D: Datagrams, C: Clock, R: Wait>(
     rt: &R,
@@ -78,7 +78,7 @@ pub fn serve_datagrams<E: Ear, D: Datagrams, C: Clock, R: Wait>(
     unreachable!()
 }
 
-// Sends the reply to a packet, if it gets one.
+/// Sends the reply to a packet, if it gets one.
 fn answer_packet<E: Ear, D: Datagrams, R: Wait>(
     rt: &R,
     ear: &E,
@@ -110,6 +110,7 @@ fn answer_packet<E: Ear, D: Datagrams, R: Wait>(
     }
 }
 
+/// Sends a reply to its peer; a send that fails loses it.
 #[tactic(auto, using(crate::proofs::GainLemmas::gains_none))]
 fn send<D: Datagrams>(device: &mut D, peer: &Peer, text: &[u8]) -> Fate
     ensures sent { Gains (packets_to (packet text.now peer.now) (sent_of result (Some text.now)))
@@ -126,6 +127,7 @@ fn send<D: Datagrams>(device: &mut D, peer: &Peer, text: &[u8]) -> Fate
     }
 }
 
+/// Whether a reply is missing since a send failed, after one more.
 fn has_lost(lost: bool, fate: Fate) -> bool
     ensures { result ≡ has_lost lost fate }
 {

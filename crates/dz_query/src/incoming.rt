@@ -1,9 +1,9 @@
 //! Requests that come.
 
+use dz_header::Transport;
 use dz_io::Peer;
-use dz_request::Transport;
 
-// A request, the peer that it came from, the moment in seconds by which it is answered, and the transport.
+/// A request, the peer that it came from, the moment in seconds by which it is answered, and the transport.
 #[derive(Drop)]
 pub(crate) struct Incoming<'a> {
     pub octets: &'a [u8],

@@ -3,8 +3,8 @@
 #![tactic(auto)]
 
 mod answer;
-mod answering;
-mod coming;
+mod answered;
+mod came;
 mod datagrams;
 mod fate;
 mod incoming;
@@ -16,7 +16,8 @@ mod stream;
 
 pub use answer::answer_one;
 pub use datagrams::{SessionEnd, serve_datagrams};
-pub use dz_reply::{Transport, Turn};
+pub use dz_header::Transport;
+pub use dz_reply::Turn;
 pub use fate::Fate;
 pub use laws::sent_zones_come_back;
 pub use links::{LinksEnd, serve_links};

@@ -13,15 +13,15 @@ use std::sync::Wait;
 /// Why no further link is served.
 #[derive(Clone, Copy, Debug, PartialEq, Eq)]
 pub enum LinksEnd {
-    /// The acceptor said that no further link comes; `starved` tells whether a link was starved of memory.
+    /// The acceptor said that no further link comes; `starved` tells whether a link ran out of memory.
     Closed { starved: bool },
     /// The acceptor failed; `starved` tells the same.
     Failed { starved: bool },
 }
 
 /// Serves the links of an acceptor, one after the other, until it closes or fails. Each is served as by
-/// `serve_stream_outward`, and then given back. It takes no other memory, and may wait for ever. The publisher has to stay
-/// open.
+/// `serve_stream_outward`, and then given back. It takes no other memory, and may wait forever. The publisher has to
+/// stay open.
 #[tactic(auto, using(crate::proofs::LinkLemmas::none_yet, dz_desk::proofs::PrefixLemmas::prefix_self))]
 pub fn serve_links<E: Ear, A: Acceptor, C: Clock, R: Wait>(
     rt: &R,
@@ -66,13 +66,14 @@ pub fn serve_links<E: Ear, A: Acceptor, C: Clock, R: Wait>(
     unreachable!()
 }
 
-// Whether this session was starved of memory, or one before it.
+/// Whether this session ran out of memory, or one before it.
 fn some_starved(before: bool, end: StreamEnd) -> bool
     ensures { result ≡ (before || has_starved end) }
 {
     before || has_starved(end)
 }
 
+/// Whether a session ran out of memory.
 fn has_starved(end: StreamEnd) -> bool
     ensures { result ≡ has_starved end }
 {

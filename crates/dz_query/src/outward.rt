@@ -17,34 +17,34 @@ ghost use Rattle.dz_query.specs.Answer.{answered};
 ghost use Rattle.dz_query.specs.Sent.{is_for_zone, zone_asked, is_listed, transfer_in, refusal, live_version, sent_of_name, held_at};
 ghost use Rattle.dz_query.specs.inner.Sending.{held_of, Sends, IsGoing};
 
-use crate::answering::Answered;
+use crate::answered::Answered;
 use crate::incoming::Incoming;
 use crate::sending::Sending;
 use crate::stream::write_framed;
 use dz_desk::Reading;
-use dz_header::{ResponseCode, Writer};
+use dz_header::{ResponseCode, Transport, Writer};
 use dz_io::{Failed, Peer, Sink};
 use dz_name::Name;
 use dz_name::dns::{CLASS_IN, OPCODE_QUERY, TYPE_AXFR};
 use dz_outward::Outgoing;
-use dz_request::{Asked, Frame, Request, Transport, read_request};
+use dz_request::{Asked, Frame, Request, read_request};
 use dz_table::{Slot, Table};
 use dz_zone::Version;
 use std::alloc::AllocError;
 use std::sync::{Arc, Wait};
 
-// What is held of a name that is asked for.
+/// What is held of a name that is asked for.
 #[derive(Drop)]
 pub(crate) enum Held {
-    // The name is no member.
+    /// The name is no member.
     Nothing,
-    // The member isn't live.
+    /// The member isn't live.
     Dead,
-    // The version by which it answers.
+    /// The version by which it answers.
     Version(Arc<Version>),
 }
 
-// A request for a whole zone, where it is one and comes from a listed address.
+/// A request for a whole zone, where it is one and comes from a listed address.
 pub(crate) fn transfer_in(incoming: &Incoming<'_>, downstream: &[[u8; 4]]) -> Option<Asked>
     ensures asked { result ≡ transfer_in downstream.now
         (packet incoming.now.octets.now incoming.now.peer.now) }
@@ -57,12 +57,14 @@ pub(crate) fn transfer_in(incoming: &Incoming<'_>, downstream: &[[u8; 4]]) -> Op
     }
 }
 
+/// Whether a peer has one of the addresses to which zones are sent, whatever its port.
 fn is_listed(peer: &Peer, downstream: &[[u8; 4]]) -> bool
     ensures { result ≡ is_listed downstream.now peer.now }
 {
     downstream.iter().any(|address| *address == peer.address)
 }
 
+/// A question for a whole zone, where these octets hold a request that asks it.
 fn zone_asked(octets: &[u8]) -> Option<Asked>
     ensures asked { result ≡ zone_asked (request octets.now) }
     ensures whole { IfSome result (λ asked. IsWhole octets.now asked.size) }
@@ -77,6 +79,7 @@ fn zone_asked(octets: &[u8]) -> Option<Asked>
     }
 }
 
+/// The question, where it is for a whole zone.
 fn only_for_zone(asked: Asked) -> Option<Asked>
     ensures { result ≡ (if is_for_zone asked then Some asked else None) }
 {
@@ -87,6 +90,7 @@ fn only_for_zone(asked: Asked) -> Option<Asked>
     }
 }
 
+/// Whether a question is for a whole zone: opcode QUERY, class IN, type AXFR (RFC 5936 section 2.1).
 fn is_for_zone(asked: &Asked) -> bool
     ensures { result ≡ is_for_zone asked.now }
 {
@@ -95,8 +99,8 @@ fn is_for_zone(asked: &Asked) -> bool
         && asked.question.kind == TYPE_AXFR
 }
 
-// Looks, again and again until the reading sees, and begins the zone by the version that it sees, or writes an error. The
-// sight is left before anything is written.
+/// Looks, again and again until the reading sees, and begins the zone by the version that it sees, or writes an error.
+/// The sight is left before anything is written.
 #[tactic(auto, using(dz_desk::proofs::PrefixLemmas::prefix_self, dz_desk::proofs::PrefixLemmas::prefix_trans))]
 pub(crate) fn send_surely<R: Wait>(
     rt: &R,
@@ -123,7 +127,7 @@ pub(crate) fn send_surely<R: Wait>(
     unreachable!()
 }
 
-// What the reading sees of a name at a moment; none where it was refused its look.
+/// What the reading sees of a name at a moment; none where it was refused its look.
 fn look(reading: &mut Reading, name: &Name, moment: u64) -> Option<Result<Held, AllocError>>
     requires { reading.old.is_out ≡ false }
     ensures seen { IsPrefix reading.old.list reading.new.list }
@@ -142,6 +146,7 @@ fn look(reading: &mut Reading, name: &Name, moment: u64) -> Option<Result<Held, 
     }
 }
 
+/// What a table holds of a name at a moment in seconds; the error is that one more owner can't be counted.
 fn held_in(table: &Table, name: &Name, moment: u64) -> Result<Held, AllocError>
     ensures { IfOk result (λ held. held_of held ≡ held_at table.now name.now moment) }
 {
@@ -151,7 +156,7 @@ fn held_in(table: &Table, name: &Name, moment: u64) -> Result<Held, AllocError>
     }
 }
 
-// The version by which a member answers, owned once more.
+/// The version by which a member answers, owned once more.
 fn live_version(slot: &Slot, moment: u64) -> Result<Held, AllocError>
     ensures { IfOk result (λ held. held_of held ≡ Some (live_version moment slot.now)) }
 {
@@ -164,7 +169,7 @@ fn live_version(slot: &Slot, moment: u64) -> Result<Held, AllocError>
     }
 }
 
-// Begins the messages of a version, or writes the error where there is none.
+/// Begins the messages of a version, or writes the error where there is none.
 fn begin(held: Held, octets: &[u8], asked: &Asked, writer: &mut Writer) -> Sending
     requires { IsWhole octets.now asked.now.size }
     ensures { Sends result writer.new.writing
@@ -180,7 +185,7 @@ fn begin(held: Held, octets: &[u8], asked: &Asked, writer: &mut Writer) -> Sendi
     }
 }
 
-// Writes an error.
+/// Writes an error.
 fn refuse(octets: &[u8], asked: &Asked, code: ResponseCode, writer: &mut Writer) -> Sending
     requires { IsWhole octets.now asked.now.size }
     ensures { Sends result writer.new.writing (refusal octets.now asked.now code) }
@@ -194,7 +199,7 @@ fn refuse(octets: &[u8], asked: &Asked, code: ResponseCode, writer: &mut Writer)
     Sending::Reply(Answered::Written(writer.written().len()))
 }
 
-// Writes the messages of a zone, each after its length. They are put together in the room for requests.
+/// Writes the messages of a zone, each after its length. They are put together in the room for requests.
 pub(crate) fn send_zone<S: Sink>(
     sink: &mut S,
     outgoing: Outgoing,

@@ -8,7 +8,7 @@ ghost use Rattle.dz_request.specs.Frame.{is_tcp};
 ghost use Rattle.dz_query.specs.Sent.{asks_for_zone};
 ghost use Rattle.dz_query.specs.inner.Sending.{IsSending, owed_by};
 
-use crate::answering::{Answered, answer_incoming};
+use crate::answered::{Answered, answer_incoming};
 use crate::incoming::Incoming;
 use crate::outward::{send_surely, transfer_in};
 use dz_desk::{Ear, Reading};
@@ -17,16 +17,16 @@ use dz_outward::Outgoing;
 use std::alloc::AllocError;
 use std::sync::Wait;
 
-// What goes out.
+/// What goes out.
 #[derive(Drop)]
 pub(crate) enum Sending {
-    // The reply, if one is due.
+    /// The reply, if one is due.
     Reply(Answered),
-    // The messages of a zone.
+    /// The messages of a zone.
     Zone(Outgoing),
 }
 
-// Answers a request over a link: with a whole zone where a listed address asks for it, and else as any other.
+/// Answers a request over a link: with a whole zone where a listed address asks for it, and else as any other.
 pub(crate) fn answer_or_send<E: Ear, R: Wait>(
     rt: &R,
     ear: &E,

@@ -10,17 +10,16 @@ ghost use Rattle.dz_query.specs.inner.Replying.{texts_of, IsShort};
 ghost use Rattle.dz_query.specs.inner.Sending.{texts_in, FitsFrame};
 ghost use Rattle.dz_query.specs.Stream.{flow, IsStream, EndsBy};
 
-use crate::answering::Answered;
-use crate::coming::{Came, read_message};
+use crate::answered::Answered;
+use crate::came::{Came, read_message};
 use crate::incoming::Incoming;
 use crate::outward::send_zone;
 use crate::sending::{Sending, answer_or_send};
 use dz_desk::{Ear, Reading};
-use dz_header::{ReplyBuffer, Writer};
+use dz_header::{ReplyBuffer, Transport, Writer};
 use dz_io::{Clock, Failed, Link, Peer, Sink};
-use dz_message::LENGTH_OCTETS;
+use dz_name::dns::LENGTH_OCTETS;
 use dz_name::numbers::two;
-use dz_request::Transport;
 use std::sync::Wait;
 
 /// How a session over a link ended.
@@ -34,10 +33,10 @@ pub enum StreamEnd {
     OutOfMemory,
 }
 
-/// Answers the messages of a link, each after its length (RFC 1035 section 4.2.2), until it ends or fails: each at a
-/// moment of the clock, which is asked once for each, and by the list that the reading sees then. A part of a message at
-/// the end gets no reply. A reply is one write, with its length in front (RFC 7766 section 8). An ear hears NOTIFY
-/// (RFC 1996). It takes no memory, and may wait for ever. The publisher has to stay open.
+/// Answers the messages of a link, each after its length (RFC 1035 section 4.2.2), until it ends or fails. Each is
+/// answered at a moment of the clock, which is asked once for each, and by the list that the reading sees then. A part
+/// of a message at the end gets no reply. A reply is one write, preceded by its length (RFC 7766 section 8). An ear
+/// hears NOTIFY (RFC 1996). It takes no memory, and may wait forever. The publisher has to stay open.
 pub fn serve_stream<E: Ear, L: Link, C: Clock, R: Wait>(
     rt: &R,
     ear: &E,
@@ -66,9 +65,10 @@ pub fn serve_stream<E: Ear, L: Link, C: Clock, R: Wait>(
     serve_stream_outward(rt, ear, reading, link, clock, peer, &[], buffer)
 }
 
-/// The same as [`serve_stream`], but for a listed address that asks for a whole zone (RFC 5936): it gets the messages of
-/// the version, each in one write, or an error. The version is kept by one owner more, and the sight is left before the
-/// first octet. Where that owner can't be counted it ends, before the first octet of that reply. It takes no other memory.
+/// The same as [`serve_stream`], but for a listed address that asks for a whole zone (RFC 5936): it gets the messages
+/// of the version, each in one write, or an error. The version is kept by one owner more, and the sight is left before
+/// the first octet. Where that owner can't be counted, the session ends before the first octet of that reply. It takes
+/// no other memory.
 #[tactic(auto, using(crate::proofs::StreamLemmas::none_yet, dz_desk::proofs::PrefixLemmas::prefix_self))]
 pub fn serve_stream_outward<E: Ear, L: Link, C: Clock, R: Wait>(
     rt: &R,
@@ -121,7 +121,7 @@ pub fn serve_stream_outward<E: Ear, L: Link, C: Clock, R: Wait>(
     unreachable!()
 }
 
-// Writes what goes out, each message after its length. They are put together in the room for requests.
+/// Writes what goes out, each message after its length. They are put together in the room for requests.
 fn write_sending<S: Sink>(
     sink: &mut S,
     sending: Sending,
@@ -146,7 +146,7 @@ fn write_sending<S: Sink>(
     }
 }
 
-// Writes the reply, if there is one, after its length. It is put together in the room for requests.
+/// Writes the reply, if there is one, after its length. It is put together in the room for requests.
 fn write_answer<S: Sink>(
     sink: &mut S,
     answered: Answered,
@@ -171,7 +171,7 @@ fn write_answer<S: Sink>(
     }
 }
 
-// Writes a message after its length, in one call (RFC 7766 section 8).
+/// Writes a message after its length, in one call (RFC 7766 section 8).
 pub(crate) fn write_framed<S: Sink>(
     sink: &mut S,
     message: &[u8],
@@ -192,7 +192,7 @@ pub(crate) fn write_framed<S: Sink>(
     sink.write(&room[..end])
 }
 
-// Puts octets to a place of the room.
+/// Puts octets in a place of the room.
 fn put_at(room: &mut Vec<u8>, at: usize, octets: &[u8])
     requires { at + length octets.now ≤ length room.old.items }
     ensures octets { room.new.items ≡

@@ -12,7 +12,7 @@ use Rattle.dz_record.specs.Record.{Record, IsRecord, record_octets, octets_behin
 use Rattle.dz_record.specs.Fields.{is_rdata}
 use Rattle.dz_record.specs.inner.Kept.{record_in, IsKept, octets_of}
 
--- what stands behind the owner
+-- what follows the owner
 abbrev behind : Record → List ℕ
 behind r = octets_behind_owner r
 

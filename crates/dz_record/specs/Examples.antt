@@ -15,6 +15,7 @@ use Rattle.dz_record.specs.Records.{distinct}
 abbrev www : Name
 www = codes "www" ∷ codes "example" ∷ []
 
+-- an A record of www.example with the address 192.0.2.1
 abbrev address : Record
 address = record { owner = www; kind = TYPE_A; ttl = 60; rdata = 192 ∷ 0 ∷ 2 ∷ 1 ∷ [] }
 
@@ -22,7 +23,7 @@ pub fields_of_srv : fields_of TYPE_SRV ≡ FixedLength 6 ∷ DomainName ∷ []
 unfolding fields_of
 fields_of_srv = refl
 
--- a type without a row has what is there (RFC 3597 section 5)
+-- a type without a row is one remainder (RFC 3597 section 5)
 pub fields_of_txt : fields_of TYPE_TXT ≡ Remainder ∷ []
 unfolding fields_of
 fields_of_txt = refl
@@ -35,11 +36,11 @@ pub octets_of_address : record_octets address
 unfolding wire_of two four
 octets_of_address = refl
 
--- the TTL isn't looked at (RFC 2181 section 5)
+-- the TTL is ignored (RFC 2181 section 5)
 pub same_but_for_the_ttl : same_record address (record address { ttl = 3600 }) ≡ true
 same_but_for_the_ttl = refl
 
--- by type before RDATA
+-- the type is compared before the RDATA
 pub address_before_text : record_order address (record { owner = www; kind = TYPE_TXT; ttl = 0; rdata = [] }) ≡ Less
 address_before_text = refl
 

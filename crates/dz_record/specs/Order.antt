@@ -47,7 +47,7 @@ and_regroup : (a b c : Bool) → (a && (b && c)) ≡ ((a && b) && c)
 and_regroup true b c = refl
 and_regroup false b c = refl
 
--- the order ties exactly the records that are the same
+-- exactly the records that are the same compare as equal
 pub same_ties : (a b : Record) → same_record a b ≡ eq_by_cmp record_order a b
 same_ties a b =
     let x = canonical_order a.owner b.owner in

@@ -15,19 +15,19 @@ use Rattle.dz_record.specs.declared.rr.RrError.TheVariants as errors
 use Rattle.dz_name.specs.Words.{Name, Octets, Kind}
 use Rattle.dz_name.specs.declared.dns.TheConstants.{TYPE_NS, TYPE_CNAME, TYPE_SOA, TYPE_PTR, TYPE_SIG, TYPE_NXT, TYPE_A6, TYPE_DNAME, TYPE_OPT, TYPE_TKEY, TYPE_ANY, CLASS_IN}
 
--- owner, type number, TTL in seconds, and RDATA
+-- a record: owner name, type number, TTL in seconds, and RDATA (RFC 1035 section 3.2.1)
 pub record Record : Type 0 where
   pub owner : Name
   pub kind : Kind
   pub ttl : ℕ
   pub rdata : Octets
 
--- types that no zone holds: SIG, NXT, A6, OPT, and those of questions and of transactions (RFC 6895 section 3.1)
+-- types that no zone holds: SIG, NXT, A6, OPT, and the QTYPEs and Meta-TYPEs from 249 to 255 (RFC 6895 section 3.1)
 abbrev pub is_bad_type : Kind → Bool
 is_bad_type kind = kind == TYPE_SIG || (kind == TYPE_NXT || (kind == TYPE_A6 || (kind == TYPE_OPT || (nat_le TYPE_TKEY kind && nat_le kind TYPE_ANY))))
 
--- a record that a zone may hold: its owner is a name, its type a number of two octets, its TTL below 2^31 (RFC 2181
--- section 8), its RDATA in canonical form
+-- a record that a zone may hold: its owner is a name, its type a 16-bit number, its TTL below 2^31 (RFC 2181 section
+-- 8), its RDATA in canonical form
 pub record IsRecord (r : Record) : Type 0 where
   pub owner : IsName r.owner
   pub number : r.kind < 2 ^ 16
@@ -35,24 +35,24 @@ pub record IsRecord (r : Record) : Type 0 where
   pub ttl : r.ttl < 2 ^ 31
   pub rdata : is_rdata r.kind r.rdata ≡ true
 
--- a TTL whose top bit is set counts as 0 (RFC 2181 section 8)
+-- the effective TTL: one whose top bit is set counts as 0 (RFC 2181 section 8)
 abbrev pub ttl_of : ℕ → ℕ
 ttl_of ttl = if nat_lt ttl (2 ^ 31) then ttl else 0
 
--- the record of these parts, or why there is none
+-- the record with these fields, or why there is none
 abbrev pub record_of : Name → Kind → ℕ → Octets → Result Record RrFault
 record_of owner kind ttl rdata =
     if is_bad_type kind then Err BadType
     else if is_rdata kind rdata then Ok (record { owner = owner; kind = kind; ttl = ttl_of ttl; rdata = rdata })
     else Err BadRdata
 
--- what a call made: this record, or why there is none; want of memory tells nothing
+-- what a call made: this record, or why there is none; nothing is known when it runs out of memory
 abbrev pub Makes : Result Record RrError → Result Record RrFault → Type 0
 Makes (Ok r) record_is = record_is ≡ Ok r
 Makes (Err (errors.Fault fault)) record_is = record_is ≡ Err fault
 Makes (Err errors.OutOfMemory) record_is = ⊤
 
--- two records are the same where owner, type and RDATA agree; the TTL isn't looked at (RFC 2181 section 5)
+-- two records are the same where owner, type and RDATA agree; the TTL is ignored (RFC 2181 section 5)
 abbrev pub same_record : Record → Record → Bool
 same_record a b = same_name a.owner b.owner && (a.kind == b.kind && bytes_eq a.rdata b.rdata)
 
@@ -60,11 +60,11 @@ same_record a b = same_name a.owner b.owner && (a.kind == b.kind && bytes_eq a.r
 abbrev pub record_order : Record → Record → Ordering
 record_order = then_cmp (then_cmp (on (λ r. r.owner) canonical_order) (on (λ r. r.kind) nat_cmp)) (on (λ r. r.rdata) (slice_cmp nat_cmp))
 
--- the same, and then the TTL
+-- the order of owner, type, RDATA, and then TTL
 abbrev pub full_order : Record → Record → Ordering
 full_order = then_cmp record_order (on (λ r. r.ttl) nat_cmp)
 
--- what stands behind an owner: type, class IN, TTL, length of RDATA, RDATA (RFC 1035 section 4.1.3)
+-- what follows an owner name: type, class IN, TTL, length of RDATA, RDATA (RFC 1035 section 4.1.3)
 abbrev pub octets_behind_owner : Record → Octets
 octets_behind_owner r = two r.kind ++ (two CLASS_IN ++ (four r.ttl ++ (two (length r.rdata) ++ r.rdata)))
 
@@ -72,7 +72,7 @@ octets_behind_owner r = two r.kind ++ (two CLASS_IN ++ (four r.ttl ++ (two (leng
 abbrev pub record_octets : Record → Octets
 record_octets r = wire_of r.owner ++ octets_behind_owner r
 
--- the numbers of an SOA, its last 20 octets (RFC 1035 section 3.3.13)
+-- the numbers of an SOA, given the last 20 octets of its RDATA (RFC 1035 section 3.3.13)
 abbrev pub soa_numbers : Octets → Soa
 soa_numbers octets = record {
   serial = number_of_four octets;
@@ -82,12 +82,14 @@ soa_numbers octets = record {
   minimum = number_of_four (drop 16 octets);
 }
 
+-- the numbers of an SOA record; none for every other type
 abbrev pub soa_of : Record → Option Soa
 soa_of r = if r.kind == TYPE_SOA then Some (soa_numbers (drop (length r.rdata - 20) r.rdata)) else None
 
--- NS, CNAME, PTR and DNAME lead to a name, which is their whole RDATA
+-- the types whose RDATA is a single name that they lead to: NS, CNAME, PTR and DNAME
 abbrev pub has_target : Kind → Bool
 has_target kind = kind == TYPE_NS || (kind == TYPE_CNAME || (kind == TYPE_PTR || kind == TYPE_DNAME))
 
+-- the name that such a record leads to; none for every other type
 abbrev pub target_of : Record → Option Name
 target_of r = if has_target r.kind then Some (labels_of r.rdata) else None

@@ -13,17 +13,17 @@ use dz_name::dns::{
 /// A field of RDATA (RFC 1035 section 3.3).
 #[derive(Clone, Copy, Debug, PartialEq, Eq)]
 pub enum Field {
-    /// So many octets.
+    /// This many octets.
     FixedLength(u8),
     /// A domain name.
     DomainName,
-    /// A length octet and so many octets.
+    /// A length octet and the number of octets that it gives.
     CharacterString,
-    /// What is left.
+    /// All remaining octets.
     Remainder,
 }
 
-/// The fields that the RDATA of a type is made of, in order. A type without a row is one remainder.
+/// The fields that make up the RDATA of a type, in order. A type without a row has one remainder.
 #[tactic(auto, unfolding(crate::specs::Fields::fields_of))]
 pub fn fields_of(kind: u16) -> &'static [Field]
     ensures { result.now ≡ fields_of kind }
@@ -57,7 +57,7 @@ pub fn fields_of(kind: u16) -> &'static [Field]
     }
 }
 
-/// The offset behind the field that begins at an offset, if it is there whole.
+/// The offset after the field that begins at an offset, if it is complete.
 #[tactic(auto, unfolding(crate::specs::Fields::field_end))]
 fn field_end(field: Field, rdata: &[u8], at: usize) -> Option<usize>
     requires { at ≤ length rdata.now }
@@ -74,7 +74,7 @@ fn field_end(field: Field, rdata: &[u8], at: usize) -> Option<usize>
     }
 }
 
-/// The offset behind a character string, if it is there whole.
+/// The offset after a character string, if it is complete.
 fn string_end(rdata: &[u8], at: usize) -> Option<usize>
     requires { at ≤ length rdata.now }
     ensures within { IfSome result (λ end. end ≤ length rdata.now) }
@@ -92,15 +92,15 @@ fn string_end(rdata: &[u8], at: usize) -> Option<usize>
     }
 }
 
-/// Whether RDATA is in the canonical form of its type: its fields stand one behind the other, names in lower case and
-/// without pointers, nothing is behind them, and it has at most 65,535 octets (RFC 4034 section 6.2).
+/// Whether RDATA is in the canonical form of its type: its fields follow one another, with names in lower case and
+/// without pointers, nothing follows the last, and it has at most 65,535 octets (RFC 4034 section 6.2).
 pub fn is_rdata(kind: u16, rdata: &[u8]) -> bool
     ensures { result ≡ is_rdata kind rdata.now }
 {
     rdata.len() <= MESSAGE_OCTETS && fit(fields_of(kind), rdata)
 }
 
-/// Whether RDATA is these fields one behind the other.
+/// Whether RDATA consists of these fields, one after the other.
 fn fit(fields: &[Field], rdata: &[u8]) -> bool
     ensures { result ≡ fits fields.now rdata.now 0 }
 {

@@ -8,12 +8,13 @@ ghost use Rattle.dz_record.specs.Record.{record_order, same_record};
 use crate::rr::Rr;
 use std::cmp::Ordering;
 
-/// Records are equal where owner, type and RDATA agree; the TTL isn't looked at (RFC 2181 section 5).
+/// Records are equal where owner, type and RDATA agree; the TTL is ignored (RFC 2181 section 5).
 impl PartialEq for Rr {
     ghost eq = { same_record };
 
     ghost laws = { records_partly_equal };
 
+    /// Whether owner, type and RDATA agree.
     fn eq(&self, other: &Rr) -> bool {
         self.same(other)
     }
@@ -28,12 +29,13 @@ impl PartialOrd for Rr {
 
     ghost laws = { records_ordered };
 
+    /// The order of owner, type and RDATA, which is total.
     fn partial_cmp(&self, other: &Rr) -> Option<Ordering> {
         Some(self.record_cmp(other))
     }
 }
 
-/// Owner, type and RDATA (RFC 4034 sections 6.1 and 6.3).
+/// The order of owner, type and RDATA (RFC 4034 sections 6.1 and 6.3).
 impl Ord for Rr {
     ghost cmp = { record_order };
 
@@ -43,6 +45,7 @@ impl Ord for Rr {
 
     ghost matches_eq = { same_ties };
 
+    /// The order of owner, type and RDATA.
     fn cmp(&self, other: &Rr) -> Ordering {
         self.record_cmp(other)
     }

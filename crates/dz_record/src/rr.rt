@@ -21,12 +21,12 @@ use std::cmp::Ordering;
 use std::marker::Model;
 use std::sync::Arc;
 
-/// What is wrong with the parts of a record.
+/// What is wrong with the fields of a record.
 #[derive(Clone, Copy, Debug, PartialEq, Eq)]
 pub enum RrFault {
     /// The RDATA isn't the canonical form of its type, or has more than 65,535 octets.
     BadRdata,
-    /// No zone holds records of this type: SIG, NXT, A6, OPT, and the types of questions and of transactions.
+    /// No zone holds records of this type: SIG, NXT, A6, OPT, and the QTYPEs and Meta-TYPEs from 249 to 255.
     BadType,
 }
 
@@ -48,7 +48,7 @@ pub struct Soa {
     pub minimum: u32,
 }
 
-/// Records of so many octets stand in the shared allocation itself.
+/// Records of at most this many octets are kept in the shared allocation itself.
 const INLINE: usize = 48;
 
 /// A resource record of class IN whose RDATA is in the canonical form of its type (RFC 1035 section 3.2.1, RFC 4034
@@ -72,11 +72,11 @@ impl Model for Rr {
 }
 
 impl Rr {
-    /// A record of these parts. A TTL whose top bit is set is kept as 0.
+    /// A record with these fields. A TTL whose top bit is set is kept as 0.
     ///
     /// # Errors
     ///
-    /// A fault where there is no such record: its type is judged before its RDATA; or want of memory.
+    /// A fault where there is no such record, the type being checked before the RDATA; or out of memory.
     pub fn make(
         alloc: Global,
         owner: Name,
@@ -98,7 +98,7 @@ impl Rr {
         }
     }
 
-    /// The record of parts that are known to be one's. A TTL whose top bit is set is kept as 0.
+    /// The record with fields that are known to be valid. A TTL whose top bit is set is kept as 0.
     ///
     /// # Errors
     ///
@@ -125,11 +125,11 @@ impl Rr {
         })
     }
 
-    /// The same record once more: it shares the octets.
+    /// The same record once more, sharing its octets.
     ///
     /// # Errors
     ///
-    /// `AllocError` where one owner more of the octets can't be counted.
+    /// `AllocError` where another owner of the octets can't be counted.
     pub fn share(&self) -> Result<Rr, AllocError>
         ensures { IfOk result (λ r. r ≡ self.now) }
     {
@@ -148,7 +148,7 @@ impl Rr {
         self.octets.as_slice()
     }
 
-    /// How many octets the owner has.
+    /// How many octets the wire form of the owner name has.
     fn owner_size(&self) -> usize
         ensures size { result ≡ length (wire_of self.now.owner) }
         ensures small { result < 256 }
@@ -156,41 +156,42 @@ impl Rr {
         self.owner_len as usize
     }
 
-    /// The owner, where it stands.
+    /// The owner name, as a reference into the octets of the record.
     pub fn owner_ref(&self) -> NameRef<'_>
         ensures { result ≡ self.now.owner }
     {
         NameRef::of_wire(self.octets().split_at(self.owner_size()).0)
     }
 
+    /// A copy of the owner name.
     pub fn owner(&self) -> Name
         ensures { result ≡ self.now.owner }
     {
         self.owner_ref().to_name()
     }
 
-    /// Whether the owner is this name.
+    /// Whether the owner name is this name.
     pub fn is_owned_by(&self, name: &Name) -> bool
         ensures { result ≡ same_name self.now.owner name.now }
     {
         self.owner_ref().same(&name.as_ref())
     }
 
-    /// Whether the owner is this name or stands below it.
+    /// Whether the owner name is this name or below it.
     pub fn is_within(&self, above: &Name) -> bool
         ensures { result ≡ is_within self.now.owner above.now }
     {
         self.owner_ref().is_within(&above.as_ref())
     }
 
-    /// The owner before, at or behind a name in canonical order (RFC 4034 section 6.1).
+    /// Whether the owner name is before, at or after a name in canonical order (RFC 4034 section 6.1).
     pub fn owner_cmp(&self, name: &Name) -> Ordering
         ensures { result ≡ canonical_order self.now.owner name.now }
     {
         self.owner_ref().canonical_cmp(&name.as_ref())
     }
 
-    /// The type's number.
+    /// The number of the type.
     pub fn kind(&self) -> u16
         ensures { result ≡ self.now.kind }
     {
@@ -212,21 +213,21 @@ impl Rr {
         self.octets().split_at(self.owner_size() + 10).1
     }
 
-    /// Type and class, as they stand behind the owner: four octets.
+    /// Type and class, as they follow the owner name: four octets.
     pub fn kind_and_class(&self) -> &[u8]
         ensures { result.now ≡ two self.now.kind ++ two CLASS_IN }
     {
         self.octets().split_at(self.owner_size()).1.split_at(4).0
     }
 
-    /// The RDATA behind its length in two octets, as it stands behind the TTL.
+    /// The RDATA preceded by its length in two octets, as it follows the TTL.
     pub fn sized_rdata(&self) -> &[u8]
         ensures { result.now ≡ two (length self.now.rdata) ++ self.now.rdata }
     {
         self.octets().split_at(self.owner_size() + 8).1
     }
 
-    /// What is known of every record. It does nothing.
+    /// States for proofs what holds of every record. It does nothing.
     pub fn look(&self)
         ensures { IsRecord self.now }
     {
@@ -242,7 +243,7 @@ impl Rr {
             && self.rdata() == other.rdata()
     }
 
-    /// The order of a zone's records: owner, type, RDATA. It ties the records that are the same.
+    /// The order of a zone's records: owner, type, RDATA. Records that are the same compare as equal.
     pub fn record_cmp(&self, other: &Rr) -> Ordering
         ensures { result ≡ record_order self.now other.now }
     {
@@ -283,7 +284,7 @@ impl Rr {
         }
     }
 
-    /// Appends the record without pointers (RFC 1035 section 4.1.3), or nothing where memory is wanting.
+    /// Appends the record without pointers (RFC 1035 section 4.1.3), or nothing and `AllocError` where memory runs out.
     pub fn encode(&self, out: &mut Vec<u8>) -> Result<(), AllocError>
         ensures octets { out.new.items
             ≡ (if is_ok result then out.old.items ++ record_octets self.now else out.old.items) }
@@ -293,7 +294,7 @@ impl Rr {
     }
 }
 
-/// What is known of every record, of all of some. It does nothing.
+/// States for proofs what holds of every record, for all of some. It does nothing.
 pub fn look_at_all(records: &[Rr])
     ensures { All IsRecord records.now }
 {
@@ -302,7 +303,7 @@ pub fn look_at_all(records: &[Rr])
     }
 }
 
-/// Appends the octets of a record.
+/// Appends the octets of a record with these fields. `AllocError` where memory runs out.
 fn put_record(
     out: &mut SmallVec<u8, INLINE>,
     owner: &[u8],
@@ -339,14 +340,14 @@ fn has_target(kind: u16) -> bool
     matches!(kind, TYPE_NS | TYPE_CNAME | TYPE_PTR | TYPE_DNAME)
 }
 
-/// A TTL whose top bit is set counts as 0 (RFC 2181 section 8).
+/// The effective TTL in seconds: one whose top bit is set counts as 0 (RFC 2181 section 8).
 fn ttl_of(ttl: u32) -> u32
     ensures { result ≡ ttl_of ttl }
 {
     if ttl < 0x8000_0000 { ttl } else { 0 }
 }
 
-/// The numbers in the last 20 octets of an SOA's RDATA.
+/// The numbers of an SOA, given the last 20 octets of its RDATA.
 fn soa_numbers(octets: &[u8]) -> Soa
     requires { 20 ≤ length octets.now }
     ensures { result ≡ soa_numbers octets.now }

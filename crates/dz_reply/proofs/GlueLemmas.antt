@@ -1,4 +1,4 @@
--- Glue: what was found of each server, counted and written one behind the other.
+-- Glue: what was found of each server, counted and written one after the other.
 use Rattle.std.proofs.Common.{◌≡◌, ℕ, ◌+◌, ◌%◌, ◌<◌, ◌≤◌, List, [], ◌∷◌, ◌++◌, length, take, drop, get_or, refl, sym, ◌∙◌, ap, arith, length-append, append_assoc, Some, None}
 use Rattle.std.specs.List.{flat_map, AllByRecursion}
 use Rattle.std.proofs.lemmas.Grind.{flat_map-append}
@@ -13,7 +13,7 @@ use Rattle.dz_reply.specs.Answer.{own_entries, inner_target, addresses_of, glue_
 use Rattle.dz_reply.specs.inner.Glue.{shown}
 use Rattle.dz_reply.proofs.AnswerLemmas.{both_written, none_written, length-own_entries}
 
--- records of one owner stand under it
+-- records of one owner are written under it
 own_is : (name : List (List ℕ)) (rs : List Record) → AllByRecursion (λ r. r.owner ≡ name) rs → own_entries rs ≡ entries name rs
 unfolding own_entries entries
 own_is name [] h = refl

@@ -1,4 +1,4 @@
--- The pieces of a reply, one behind another.
+-- The pieces of a reply, one after another.
 use Rattle.std.proofs.Common.{◌≡◌, ℕ, zero, suc, ◌+◌, ◌-◌, ◌<◌, ◌≤◌, List, [], ◌∷◌, ◌++◌, length, take, drop, refl, sym, ◌∙◌, ap, arith, length-append, append_assoc, Option, Some, None, get_or}
 use Rattle.std.specs.Option.{option_map_or}
 use Rattle.std.specs.Prelude.{true, false, ◌==◌, ◌≢◌, not, is_some}

@@ -14,7 +14,7 @@ use Rattle.dz_header.proofs.PlaceLemmas.{length_there, drop_there, index_there, 
 use Rattle.dz_reply.specs.Layout.{owner_octets}
 use Rattle.dz_header.proofs.QuestionLemmas.{IsRaw, reads_raw, length_wire_lower}
 
--- the wire form of what stands behind some labels is the end of the wire form
+-- the wire form of what follows some labels is the end of the wire form
 pub suffix_there : (m : List ℕ) (k : ℕ) (raws : List (List ℕ)) (more : List ℕ) (at : ℕ) → drop at m ≡ wire_of raws ++ more
     → drop (at + (length (wire_of raws) - length (wire_of (drop k raws)))) m ≡ wire_of (drop k raws) ++ more
 unfolding wire_of
@@ -29,13 +29,13 @@ suffix_there m (suc k) (label ∷ labels) more at is =
     omega (arith, length-append label (wire_of labels), le) in
     rw e at rest
 
--- each label behind the first ones is one of the request
+-- each label after the first ones is one of the request
 each_raw_drop : (k : ℕ) (raws : List (List ℕ)) → AllByRecursion IsRaw raws → AllByRecursion IsRaw (drop k raws)
 each_raw_drop zero raws each = each
 each_raw_drop (suc k) [] each = tt
 each_raw_drop (suc k) (raw ∷ raws) each = each_raw_drop k raws each.1
 
--- a question's name stands behind the header of a message, in the letters of its request
+-- a question's name follows the header of a message, in the letters of its request
 pub record StandsAsked (m : List ℕ) (name : List (List ℕ)) (end : ℕ) : Type 0 where
   pub raws : List (List ℕ)
   pub more : List ℕ
@@ -68,7 +68,7 @@ pointer_parts n more h =
     let low : (49152 + n) % 256 ≡ n % 256 = omega arith in
     cc
 
--- an owner behind the question reads as the owner
+-- an owner after the question reads as the owner
 pub owner_reads : (m : List ℕ) (name : List (List ℕ)) (end : ℕ) → StandsAsked m name end → (labels : List (List ℕ)) (more : List ℕ) (piece used at : ℕ) → AllByRecursion IsLabel labels
     → used + length (wire_of labels) ≤ 255 → end ≤ piece → drop at m ≡ owner_octets name labels ++ more → Reads m piece used at (Ok (labels, at + length (owner_octets name labels)))
 unfolding owner_octets wire_of

@@ -1,4 +1,4 @@
--- Records of a reply read back, one behind the other.
+-- Records of a reply read back, one after the other.
 use Rattle.std.proofs.Common.{◌≡◌, ℕ, ◌+◌, ◌≤◌, List, [], ◌∷◌, ◌++◌, length, drop, ◌∙◌, arith, append_assoc, length-append}
 use Rattle.std.specs.List.{AllByRecursion}
 use Rattle.dz_name.specs.Numbers.{two, four}
@@ -18,7 +18,7 @@ entry_there m name end stands r more at held behind is =
     let split : drop at m ≡ owner ++ (fixed_octets r ++ more) = is ∙ append_assoc owner (fixed_octets r) more in
     record_there m owner r more at held.number held (owner_reads m name end stands r.owner (fixed_octets r ++ more) at 0 at held.owner.each (omega (arith, held.owner.short)) behind split) is
 
--- records that are written one behind the other read as the records
+-- records that are written one after the other read as the records
 pub all_there : (m : List ℕ) (name : List (List ℕ)) (end : ℕ) → StandsAsked m name end → (rs : List Record) (more : List ℕ) (at : ℕ) → AllByRecursion IsRecord rs → end ≤ at
     → drop at m ≡ entries_octets name rs ++ more → Each (IsRecordAt m) at rs (at + length (entries_octets name rs))
 unfolding entries_octets

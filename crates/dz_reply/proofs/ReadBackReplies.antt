@@ -1,4 +1,4 @@
--- Whole replies read back: header, question, and the sections one behind the other.
+-- Whole replies read back: header, question, and the sections one after the other.
 use Rattle.std.proofs.Common.{inl, inr, ◌≡◌, ℕ, ◌+◌, ◌<◌, ◌≤◌, ◌^◌, Bool, true, false, List, [], ◌∷◌, ◌++◌, length, drop, refl, sym, ◌∙◌, ap, subst, arith, append_assoc, length-append, length-drop, Option, Some, None}
 use Rattle.std.specs.List.{AllByRecursion}
 use Rattle.std.proofs.lemmas.List.{append-nil, drop-drop}
@@ -62,7 +62,7 @@ stands m echo rest q is there =
       },
     )
 
--- the header of a reply, and what stands behind it
+-- the header of a reply, and what follows it
 record HeadThere (m : List ℕ) (query : Query) (flags a b c : ℕ) (rest : List ℕ) : Type 0 where
   id : (header_in m).id ≡ query.id
   flags_are : (header_in m).flags ≡ flags
@@ -74,7 +74,7 @@ record HeadThere (m : List ℕ) (query : Query) (flags a b c : ℕ) (rest : List
 flags_small : (asked code : ℕ) (authoritative truncated : Bool) → reply_flags asked code authoritative truncated < 2 ^ 16
 flags_small asked code authoritative truncated = (read_back _).small
 
--- the header that is written is the header that is read, and the question stands behind it
+-- the header that is written is the header that is read, and the question follows it
 head_there : (m : List ℕ) (query : Query) (code : ℕ) (aa tc : Bool) (a b c : ℕ) (rest : List ℕ) → query.id < 2 ^ 16 → a < 2 ^ 16 → b < 2 ^ 16 → c < 2 ^ 16
     → m ≡ head_octets query code aa tc a b c ++ rest → HeadThere m query (reply_flags query.flags code aa tc) a b c rest
 unfolding head_octets

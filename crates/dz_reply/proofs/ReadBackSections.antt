@@ -225,7 +225,7 @@ onward_held : (next : Trail → List (List ℕ) → Chased) (trail : Trail) (nam
 onward_held next trail None a step = record { trail = a; ending = tt }
 onward_held next trail (Some name) a step = step name refl
 
--- a chain behind a DNAME
+-- a chain after a DNAME
 renamed_held : (next : Trail → List (List ℕ) → Chased) (apex : List (List ℕ)) (kind : ℕ) (trail : Trail) (name : List (List ℕ)) (r : Record) (new : Option (List (List ℕ))) → AllByRecursion IsAliasHeld trail → IsName name → IsRecord r
     → ((n : List (List ℕ)) → new ≡ Some n → IsName n)
     → ((more : Trail) (n : List (List ℕ)) → AllByRecursion IsAliasHeld more → IsName n → HoldsChase (next more n)) → HoldsChase (from_renamed next apex kind trail name r new)

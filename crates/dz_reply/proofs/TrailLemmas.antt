@@ -16,7 +16,7 @@ use Rattle.dz_reply.specs.Layout.{owner_octets, entry_octets, entries_octets, en
 use Rattle.dz_reply.specs.Answer.{dname_entries, step_entries, entries_behind, trail_entries}
 use Rattle.dz_reply.proofs.AnswerLemmas.{both_written, none_written, one_written}
 
--- what a chain shows from a step on is what the step shows, and what the steps behind it show
+-- what a chain shows from a step on is what the step shows, and what the steps after it show
 step_on : (trail : Trail) (k : ℕ) (d : Name × Record) → k < length trail
     → entries_behind (take k trail) (drop k trail) ≡ step_entries (take k trail) (get_or trail k d) ++ entries_behind (take (k + 1) trail) (drop (k + 1) trail)
 unfolding entries_behind
@@ -64,7 +64,7 @@ pub renamer_step : (before : Trail) (a : Name × Record) → (a.1.kind == 39) �
 unfolding step_entries
 renamer_step before a is = rw is refl
 
--- a DNAME that stands there already, or doesn't
+-- a DNAME that is there already, or isn't
 pub there : (before : Trail) (r : Record) → list_any (λ a. same_record a.1 r) before ≡ true → dname_entries before r ≡ []
 there before r h = rw h refl
 

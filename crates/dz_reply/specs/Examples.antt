@@ -1,5 +1,5 @@
 -- Judge: whole exchanges. The checker computes the reply to each request from one table of five zones, octet for octet.
--- The program's stored run has the same exchanges in the same order, behind the transfers of these zones
+-- The program's stored run has the same exchanges in the same order, after the transfers of these zones
 -- (`crates/catzd/stdin` and `stdout`); `tests/stored/compare.py` compares both.
 use Rattle.std.specs.Prelude.{◌≡◌, ℕ, ◌+◌, ◌-◌, ◌*◌, ◌==◌, nat_le, Bool, true, false, List, [], ◌∷◌, ◌++◌, map, flat_map, Some, None, if◌then◌else◌, refl, codes}
 use Prim.Native.String.{String}
@@ -41,12 +41,12 @@ pairs (c ∷ d ∷ rest) = (digit c * 16 + digit d) ∷ pairs rest
 abbrev hex : String → Octets
 hex text = pairs (codes text)
 
--- a character in front of the first label
+-- a character before the first label
 abbrev begin : ℕ → Name → Name
 begin c [] = (c ∷ []) ∷ []
 begin c (label ∷ labels) = (c ∷ label) ∷ labels
 
--- the labels of characters, each with a dot behind it
+-- the labels of characters, each followed by a dot
 abbrev split : List ℕ → Name
 split [] = []
 split (c ∷ rest) = if c == 46 then [] ∷ split rest else begin c (split rest)
@@ -55,22 +55,27 @@ split (c ∷ rest) = if c == 46 then [] ∷ split rest else begin c (split rest)
 abbrev name : String → Name
 name text = split (codes text)
 
--- records by owner, TTL and what they hold; addresses are in hex
+-- a record of a type, by its owner, TTL and RDATA
 abbrev rr : Kind → String → ℕ → Octets → Record
 rr kind owner ttl rdata = record { owner = name owner; kind = kind; ttl = ttl; rdata = rdata }
 
+-- an NS record, by its owner, TTL and target
 abbrev ns : String → ℕ → String → Record
 ns owner ttl target = rr TYPE_NS owner ttl (wire_of (name target))
 
+-- a CNAME record, by its owner, TTL and target
 abbrev cname : String → ℕ → String → Record
 cname owner ttl target = rr TYPE_CNAME owner ttl (wire_of (name target))
 
+-- an SOA record, by its owner, TTL, MNAME, RNAME and its five numbers
 abbrev soa : String → ℕ → String → String → List ℕ → Record
 soa owner ttl mname rname numbers = rr TYPE_SOA owner ttl (wire_of (name mname) ++ (wire_of (name rname) ++ flat_map four numbers))
 
+-- an A record, by its owner, TTL and address in hex
 abbrev a : String → ℕ → String → Record
 a owner ttl address = rr TYPE_A owner ttl (hex address)
 
+-- an AAAA record, by its owner, TTL and address in hex
 abbrev aaaa : String → ℕ → String → Record
 aaaa owner ttl address = rr TYPE_AAAA owner ttl (hex address)
 
@@ -122,10 +127,11 @@ cut = ordinary "cut.example."
     ∷ a "ns.sub.cut.example." 3600 "c0000235"
     ∷ []))
 
--- a zone that was refreshed at moment 1000, and one that was never held
+-- the slot of a zone that was refreshed at moment 1000
 abbrev holding : String → List Record → SlotOf
 holding apex records = record { zone = name apex; refreshed = 1000; version = Some (record { apex = name apex; records = records }) }
 
+-- the slot of a zone of which no version was ever held
 abbrev fresh : String → SlotOf
 fresh apex = record { zone = name apex; refreshed = 1000; version = None }
 
@@ -139,22 +145,25 @@ served =
     ∷ holding "wild.example." wild
     ∷ []
 
--- the reply at a moment, and under this one name all that computes it: whoever unfolds `computed` unfolds its whole list
+-- the reply at a moment, and under this one name all that computes it: whoever unfolds `computed` unfolds its whole
+-- list
 computed : Octets → ℕ → Bool → Reply
 unfolding reply_of reply_for sections_for closest_for request with_header asked_for asked_in question_in question_at name_at name_from element_at wire_of labels_in opt_in add_shape edns_of header_in behind_records shape_of behind_owner behind_head head_in number_of_two number_of_four two four closest first_held upward sections_of of_chain of_ending at_end step_entries entries_behind trail_entries own_entries soa_entries addresses_of glue_of glue entries entry chain_of chain_from found topmost in_order insertion owner_octets entry_octets entries_octets opt_octets head_octets header_octets flags_number curt_octets whole_octets cut_octets octets_of within_limit
 computed octets moment transport = reply_of served octets moment transport
 
--- the transports, as a script names them
+-- the transport UDP, as a script names it
 abbrev udp : Bool
 udp = false
 
+-- the transport TCP, as a script names it
 abbrev tcp : Bool
 tcp = true
 
--- at a moment, over a transport, a request gets a reply, or none
+-- at a moment, over a transport, a request gets this reply
 abbrev Replied : ℕ → Bool → String → String → Type 0
 Replied moment transport asked reply = reply_of served (hex asked) moment transport ≡ written (hex reply)
 
+-- at a moment, over a transport, a request gets no reply
 abbrev Silent : ℕ → Bool → String → Type 0
 Silent moment transport asked = reply_of served (hex asked) moment transport ≡ nothing
 
@@ -230,7 +239,7 @@ pub an_alias_to_no_name : Replied 1000 udp "000c00000001000000000000017101770561
 unfolding computed
 an_alias_to_no_name = refl
 
--- a.alias.example. and b.alias.example. are aliases of each other: each stands once, and nothing more
+-- a.alias.example. and b.alias.example. are aliases of each other: each comes once, and nothing more
 pub a_circle_of_aliases : Replied 1000 udp "000d00000001000000000000016105616c696173076578616d706c650000010001"
     "000d84000001000200000000016105616c696173076578616d706c650000010001c00c0005000100000e100011016205616c696173076578616d706c65000162c00e0005000100000e100011016105616c696173076578616d706c6500"
 unfolding computed
@@ -331,7 +340,7 @@ pub renamed_address : reply_of renaming (hex "0080000000010000000000000177016407
 unfolding computed_there
 renamed_address = refl
 
--- a chain comes by the DNAME of d.example. again: it is shown once
+-- a zone in which a chain meets the DNAME of d.example. again: it is shown once
 abbrev renaming_again : List SlotOf
 renaming_again =
     holding "example." (ordinary "example."

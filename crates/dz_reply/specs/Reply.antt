@@ -24,7 +24,7 @@ pub data Reply : Type 0 where
   written : Octets → Reply
   notify : Name → Reply
 
--- the answer of a version: SERVFAIL where none is held
+-- the answer of a slot's version: SERVFAIL where none is held
 abbrev pub at_version : Bool → Option Zone → Name → Kind → Sections
 at_version dnssec None name kind = bare (number_of ServFail)
 at_version dnssec (Some zone) name kind = sections_for dnssec zone name kind
@@ -35,6 +35,7 @@ at_slot dnssec None moment name kind = bare (number_of Refused)
 at_slot dnssec (Some slot) moment name kind =
     if is_live slot moment then at_version dnssec slot.version name kind else bare (number_of ServFail)
 
+-- the reply to a request as it was read
 unfoldable pub reply_for : List SlotOf → Octets → ℕ → Bool → Request → Reply
 reply_for slots octets moment tcp Silent = nothing
 reply_for slots octets moment tcp (Curt header code) = written (curt_octets header (number_of code))
@@ -60,7 +61,8 @@ FitsBuffer turns.Silent = ⊤
 FitsBuffer (turns.Written count) = count ≤ BUFFER_OCTETS
 FitsBuffer (turns.Notify name) = ⊤
 
--- whether a request is answered as a NOTIFY, and for which name, hangs neither on the slots nor on moment and transport
+-- whether a request is answered as a NOTIFY, and for which name, depends neither on the slots nor on moment and
+-- transport
 abbrev pub IsNotifyAnyhow : Turn → Octets → Type 0
 IsNotifyAnyhow turns.Silent octets = ⊤
 IsNotifyAnyhow (turns.Written count) octets = ⊤

@@ -15,60 +15,69 @@ use Rattle.dz_header.specs.declared.edns.Edns.{Edns}
 use Rattle.dz_header.specs.declared.code.ResponseCode.TheVariants.{NoError}
 use Rattle.dz_reply.specs.Answer.{Sections, own_entries, soa_entries, cname_to, glue, sections_of}
 
--- an RRset is followed by the RRSIG records of its owner that cover its type, under the owner shown
--- questions for RRSIG and for all types gain none in the answer section
+-- questions for RRSIG and for ANY, to whose RRsets the answer section adds no RRSIG records
 abbrev pub is_bare : Kind → Bool
 is_bare kind = kind == TYPE_RRSIG || kind == TYPE_ANY
 
--- what stands behind an RRset of the answer section, by one of its records
+-- the RRSIG records that follow an RRset of the answer section, by one of its records: those of its owner that cover
+-- its type, under the owner shown
 abbrev pub beside : List Record → Bool → Name → Record → List Record
 beside zone bare owner r = if bare then [] else entries owner (signatures zone r.owner r.kind)
 
+-- an RRset of the answer section under an owner, and its RRSIG records
 unfoldable pub answer_set : List Record → Bool → Name → List Record → List Record
 answer_set zone bare owner [] = []
 answer_set zone bare owner (r ∷ rs) = entries owner (r ∷ rs) ++ beside zone bare owner r
 
--- a step of a chain: a CNAME and its signatures; a DNAME with its signatures, once, and the CNAME that is made of it
+-- a DNAME with its signatures, unless the chain has it already
 abbrev pub renamer_set : List Record → Bool → Trail → Record → List Record
 renamer_set zone bare before r =
     if list_any (λ a. same_record a.1 r) before then [] else entry r.owner r.ttl r ∷ beside zone bare r.owner r
 
+-- a step of a chain: a CNAME and its signatures; a DNAME with its signatures, once, and the CNAME that is made of it
 unfoldable pub secure_step : List Record → Bool → Trail → Name × Record → List Record
 secure_step zone bare before a =
     if a.1.kind == TYPE_DNAME then renamer_set zone bare before a.1 ++ cname_to a.0 a.1.ttl (led_to a.0 a.1) ∷ []
     else entry a.0 a.1.ttl a.1 ∷ beside zone bare a.0 a.1
 
+-- the steps of a chain with their signatures, after those before them
 unfoldable pub secure_trail : List Record → Bool → Trail → Trail → List Record
 secure_trail zone bare before [] = []
 secure_trail zone bare before (a ∷ rest) = secure_step zone bare before a ++ secure_trail zone bare (before ++ a ∷ []) rest
 
--- RRsets one behind the other: those without records and those that stand there already add nothing
+-- the RRset begins with this record
 abbrev pub begins_with : Record → List Record → Bool
 begins_with r [] = false
 begins_with r (s ∷ ss) = same_record s r
 
+-- one of the RRsets begins with this record
 abbrev pub stands : List (List Record) → Record → Bool
 stands sets r = list_any (begins_with r) sets
 
+-- RRsets and one more: one without records, or one that is there already, adds nothing
 unfoldable pub gain : List (List Record) → List Record → List (List Record)
 gain sets [] = sets
 gain sets (r ∷ rs) = if stands sets r then sets else sets ++ (r ∷ rs) ∷ []
 
+-- RRsets and more of them, one after the other
 unfoldable pub gain_all : List (List Record) → List (List Record) → List (List Record)
 gain_all sets [] = sets
 gain_all sets (rs ∷ more) = gain_all (gain sets rs) more
 
--- the names whose records came from a wildcard: each is proved not to be there (RFC 4035 section 3.1.3.3)
+-- the proof that a name of a chain isn't there, where its CNAME came from a wildcard (RFC 4035 section 3.1.3.3)
 abbrev pub wildcard_set : List Record → Name × Record → List Record
 wildcard_set zone a = if a.1.kind == TYPE_DNAME || same_name a.1.owner a.0 then [] else covering zone a.0
 
+-- such proofs for the names of a chain
 abbrev pub wildcard_proofs : List Record → Trail → List (List Record)
 wildcard_proofs zone trail = map (wildcard_set zone) trail
 
+-- such a proof for a name, by the records that answer
 abbrev pub first_wildcard : List Record → Name → List Record → List Record
 first_wildcard zone name [] = []
 first_wildcard zone name (r ∷ rs) = if same_name r.owner name then [] else covering zone name
 
+-- such a proof for the last name of a chain
 abbrev pub last_wildcard : List Record → Found → Name → List Record
 last_wildcard zone (here rs) name = first_wildcard zone name rs
 last_wildcard zone (alias r) name = []
@@ -77,7 +86,7 @@ last_wildcard zone no_name name = []
 last_wildcard zone (referral rs) name = []
 last_wildcard zone (rename r) name = []
 
--- what stands in the authority section before the proofs
+-- the NS records of a referral, which come before the proofs in the authority section
 abbrev pub servers_of : Found → List Record
 servers_of (referral rs) = rs
 servers_of (here rs) = []
@@ -86,9 +95,11 @@ servers_of no_data = []
 servers_of no_name = []
 servers_of (rename r) = []
 
+-- the SOA of a negative answer, and its RRSIG records
 abbrev pub signed_soa : Zone → List Record
 signed_soa zone = soa_entries zone ++ own_entries (signatures zone.records zone.apex TYPE_SOA)
 
+-- the signed SOA where the last name has a negative answer
 abbrev pub soa_of_found : Zone → Found → List Record
 soa_of_found zone no_data = signed_soa zone
 soa_of_found zone no_name = signed_soa zone
@@ -97,16 +108,20 @@ soa_of_found zone (alias r) = []
 soa_of_found zone (referral rs) = []
 soa_of_found zone (rename r) = []
 
+-- the proofs for the last name: that it came from a wildcard, and what proves the last case
 abbrev pub last_sets : List Record → Found → Name → List (List Record)
 last_sets zone found name = last_wildcard zone found name ∷ (proof zone name found).0 ∷ (proof zone name found).1 ∷ []
 
+-- the RRsets of the authority section but for the SOA, each once
 abbrev pub authority_sets : List Record → Trail → Found → Name → List (List Record)
 authority_sets zone trail found name = gain_all (gain_all (gain [] (servers_of found)) (wildcard_proofs zone trail)) (last_sets zone found name)
 
+-- an RRset of the authority section under its owner, and its RRSIG records
 unfoldable pub own_signed : List Record → List Record → List Record
 own_signed zone [] = []
 own_signed zone (r ∷ rs) = entries r.owner (r ∷ rs) ++ entries r.owner (signatures zone r.owner r.kind)
 
+-- the records that answer, if there are any
 abbrev pub records_here : Found → List Record
 records_here (here rs) = rs
 records_here (alias r) = []
@@ -115,10 +130,11 @@ records_here no_name = []
 records_here (referral rs) = []
 records_here (rename r) = []
 
--- the same with the RRsets of the authority section at hand
+-- the RRsets of the authority section, each with its RRSIG records
 abbrev pub sets_of : Zone → List (List Record) → List Record
 sets_of zone sets = flat_map (own_signed zone.records) sets
 
+-- a chain and the records that answer, where the RRsets of the authority section are at hand
 abbrev pub here_with : Zone → Kind → Trail → Name → List Record → List (List Record) → Sections
 here_with zone kind trail name rs sets = record {
   code = number_of NoError;
@@ -128,6 +144,7 @@ here_with zone kind trail name rs sets = record {
   additional = [];
 }
 
+-- a chain and a negative answer, where the RRsets of the authority section are at hand
 abbrev pub soa_with : Zone → Kind → Trail → ℕ → List (List Record) → Sections
 soa_with zone kind trail code sets = record {
   code = code;
@@ -137,6 +154,7 @@ soa_with zone kind trail code sets = record {
   additional = [];
 }
 
+-- a chain and a referral, where the RRsets of the authority section are at hand
 abbrev pub servers_with : Zone → Kind → Trail → List Record → List (List Record) → Sections
 servers_with zone kind trail servers sets = record {
   code = number_of NoError;
@@ -146,7 +164,8 @@ servers_with zone kind trail servers sets = record {
   additional = glue zone servers;
 }
 
--- code, AA and additional section are those of the reply without DO
+-- the sections with records of DNSSEC, by how a chain ends; code, AA and additional section are those of the reply
+-- without DO
 unfoldable pub secure_of_ending : Zone → Kind → Trail → Ending → Sections → Sections
 secure_of_ending zone kind trail (ended found name) plain = record plain {
   answer = secure_trail zone.records (is_bare kind) [] trail ++ answer_set zone.records (is_bare kind) name (records_here found);
@@ -161,6 +180,7 @@ secure_of_ending zone kind trail (too_long r) plain = record plain {
   authority = flat_map (own_signed zone.records) (gain_all [] (wildcard_proofs zone.records trail));
 }
 
+-- the sections with records of DNSSEC by the chain of a question
 abbrev pub secure_of_chain : Zone → Kind → Chased → Sections → Sections
 secure_of_chain zone kind chased plain = secure_of_ending zone kind chased.trail chased.ending plain
 

@@ -14,19 +14,23 @@ use Rattle.dz_reply.specs.Layout.{entries, entry}
 use Rattle.dz_reply.specs.Answer.{Sections, step_entries, entries_behind, trail_entries, own_entries, soa_entries, addresses_of, glue_of, glue, at_end, of_ending, of_chain, sections_of}
 use Rattle.dz_reply.specs.Secure.{own_signed, answer_set, gain, secure_step, secure_trail, gain_all, secure_of_ending, sections_for}
 
+-- `example.`
 abbrev pub example : Name
 example = codes "example" ∷ []
 
+-- a name one label below `example.`
 abbrev pub below : Octets → Name
 below label = label ∷ example
 
+-- a record by its owner, type and RDATA
 abbrev pub rr : Name → Kind → Octets → Record
 rr owner kind rdata = record { owner = owner; kind = kind; ttl = 3600; rdata = rdata }
 
--- an RRSIG, of which only the type that it covers is of account
+-- an RRSIG, of which only the type that it covers matters
 abbrev pub sig : Name → Kind → Record
 sig owner kind = rr owner TYPE_RRSIG (two kind)
 
+-- a signed zone
 abbrev pub zone : Zone
 zone = record {
   apex = example;
@@ -45,6 +49,7 @@ zone = record {
       ∷ [];
 }
 
+-- owners and types of records
 abbrev pub shown : List Record → List (Name × Kind)
 shown rs = map (λ r. (r.owner, r.kind)) rs
 

@@ -32,8 +32,8 @@ pub struct Answer<'a> {
     pub version: &'a Version,
 }
 
-/// Writes the reply of a zone to a question for a name within its apex and a type: the records that lead on, and
-/// what their end adds.
+/// Writes the reply of a zone to a question for a name within its apex and a type: the records that lead on, and what
+/// their end adds.
 pub fn reply_zone(frame: &Frame<'_>, version: &Version, writer: &mut Writer)
     requires whole { IsWhole frame.now.request.now frame.now.asked.now.size }
     requires within { is_within frame.now.asked.now.question.name version.now.apex ≡ true }
@@ -60,8 +60,8 @@ pub fn reply_zone(frame: &Frame<'_>, version: &Version, writer: &mut Writer)
     }
 }
 
-/// Whether the reply may have records of DNSSEC: the request has the DO bit (RFC 3225), and the zone has such records. Without
-/// them the sections are the same with DO and without it.
+/// Whether the reply may have records of DNSSEC: the request has the DO bit (RFC 3225), and the zone has such records.
+/// Without them the sections are the same with DO and without it.
 fn shows_dnssec(frame: &Frame<'_>, version: &Version) -> bool
     ensures asked { result ≡ true → asks_dnssec frame.now.asked.now.edns ≡ true }
     ensures plain { result ≡ false → (name : Name) (kind : Kind) → sections_of version.now name kind
@@ -84,6 +84,7 @@ fn asks_for_dnssec(frame: &Frame<'_>) -> bool
     }
 }
 
+/// The reply of a chain by what is found for its last name.
 #[tactic(auto, unfolding(crate::specs::Answer::at_end))]
 fn reply_end(
     answer: &Answer<'_>,
@@ -159,7 +160,7 @@ fn reply_records(
     answer.frame.finish(writer, ResponseCode::NoError, true);
 }
 
-/// The chain's records, and the SOA: the last name has no such records, or doesn't exist (RFC 2308 section 2).
+/// The chain's records, and the SOA: the last name has no records of the type, or doesn't exist (RFC 2308 section 2).
 fn reply_soa(answer: &Answer<'_>, chain: &Chain<'_>, code: ResponseCode, writer: &mut Writer)
     requires { IsWhole answer.now.frame.now.request.now answer.now.frame.now.asked.now.size }
     ensures { Replies answer.now.frame.now
@@ -228,7 +229,7 @@ fn count_step(chain: &Chain<'_>, number: usize) -> usize
     }
 }
 
-/// How many records show a DNAME behind the first ones of a chain: none where it stands among them.
+/// How many records show a DNAME after the first ones of a chain: none where it is among them.
 pub fn count_renamer(chain: &Chain<'_>, upto: usize, renamer: &Rr) -> usize
     requires { upto ≤ length chain.now }
     ensures value { result ≡ length (dname_entries (take upto chain.now) renamer.now) }
@@ -279,7 +280,7 @@ fn put_step(writer: &mut Writer, question: &Name, chain: &Chain<'_>, number: usi
     }
 }
 
-/// Writes a DNAME behind the first records of a chain, unless it stands among them.
+/// Writes a DNAME after the first records of a chain, unless it is among them.
 fn put_renamer(writer: &mut Writer, question: &Name, chain: &Chain<'_>, upto: usize, renamer: &Rr)
     requires { upto ≤ length chain.now }
     ensures { writer.new.writing

@@ -20,11 +20,11 @@ use std::marker::Model;
 /// A header counts records in two octets (RFC 1035 section 4.1.1).
 const COUNTS: usize = 65_536;
 
-/// A proof for each name of a chain and for the last one, two of the last case, and what stands before them.
+/// A proof for each name of a chain and for the last one, two of the last case, and what comes before them.
 pub const RRSETS: usize = ALIASES + 4;
 
-/// RRsets, none of them twice. Contracts see the list of them. Beside them stands a number in the index near which their owners
-/// are looked for.
+/// RRsets, none of them twice. Contracts see the list of them. With them goes a number in the index near which their
+/// owners are looked for.
 #[derive(Drop)]
 pub struct Authority<'a> {
     rrsets: ArrayVec<&'a [Rr], RRSETS>,
@@ -54,7 +54,7 @@ impl<'a> Authority<'a> {
         }
     }
 
-    /// Puts an RRset behind the others, unless it stands there or has no records.
+    /// Puts an RRset after the others, unless it is there already or has no records.
     pub fn put(&mut self, records: &'a [Rr])
         requires { length self.old < RRSETS }
         ensures gain { self.new ≡ gain self.old records.now }
@@ -77,7 +77,7 @@ impl<'a> Authority<'a> {
         has_first(self.rrsets.as_slice(), first)
     }
 
-    /// The same with what signs each.
+    /// The same RRsets, each with its RRSIG records.
     pub fn signed(&self, version: &'a Version) -> Signed<'a>
         ensures { result ≡ flat_map (own_signed version.now.records) self.now }
     {
@@ -87,14 +87,14 @@ impl<'a> Authority<'a> {
     }
 }
 
-/// An RRset and what signs it.
+/// An RRset and its RRSIG records.
 #[derive(Clone, Copy, Default)]
 pub struct SignedSet<'a> {
     pub records: &'a [Rr],
     pub signed: &'a [Rr],
 }
 
-/// RRsets, each with what signs it. Contracts see the records as the reply has them.
+/// RRsets, each with its RRSIG records. Contracts see the records as the reply has them.
 #[derive(Drop)]
 pub struct Signed<'a> {
     sets: ArrayVec<SignedSet<'a>, RRSETS>,
@@ -151,7 +151,7 @@ fn begins_with(first: &Rr, records: &[Rr]) -> bool
     }
 }
 
-/// RRsets, each with what signs it.
+/// RRsets, each with its RRSIG records.
 fn signed_all<'a>(
     version: &'a Version,
     rrsets: &[&'a [Rr]],
@@ -168,7 +168,7 @@ fn signed_all<'a>(
     sets
 }
 
-/// An RRset and what signs it.
+/// An RRset and its RRSIG records.
 fn signed_set<'a>(version: &'a Version, records: &'a [Rr], near: usize) -> SignedSet<'a>
     ensures { set_shown result ≡ own_signed version.now.records records.now }
 {
@@ -184,6 +184,7 @@ fn signed_set<'a>(version: &'a Version, records: &'a [Rr], near: usize) -> Signe
     }
 }
 
+/// How many records RRsets are together with their RRSIG records, modulo 65,536.
 fn count_all(sets: &[SignedSet<'_>]) -> usize
     ensures value { result ≡ length (flat_map set_shown sets.now) % COUNTS }
     ensures small { result < COUNTS }
@@ -195,6 +196,7 @@ fn count_all(sets: &[SignedSet<'_>]) -> usize
     count
 }
 
+/// Writes RRsets, each with its RRSIG records.
 fn put_all(writer: &mut Writer, question: &Name, sets: &[SignedSet<'_>])
     ensures { writer.new.writing
         ≡ also writer.old.writing (entries_octets question.now (flat_map set_shown sets.now)) }
@@ -204,7 +206,7 @@ fn put_all(writer: &mut Writer, question: &Name, sets: &[SignedSet<'_>])
     }
 }
 
-/// How many records an RRset has with what signs it, modulo 65,536.
+/// How many records an RRset is together with its RRSIG records, modulo 65,536.
 fn count_signed(set: &SignedSet<'_>) -> usize
     ensures value { result ≡ length (set_shown set.now) % COUNTS }
     ensures small { result < COUNTS }
@@ -215,7 +217,7 @@ fn count_signed(set: &SignedSet<'_>) -> usize
     }
 }
 
-/// Writes an RRset and what signs it, under the name of its owner.
+/// Writes an RRset and its RRSIG records, under the name of its owner.
 fn put_signed(writer: &mut Writer, question: &Name, set: &SignedSet<'_>)
     ensures { writer.new.writing
         ≡ also writer.old.writing (entries_octets question.now (set_shown set.now)) }

@@ -20,6 +20,7 @@ pub fn signatures<'a>(version: &'a Version, owner: &NameRef, kind: u16, near: us
     count_signatures::<Brand>(Blank::new(1), version, owner, kind, near)
 }
 
+/// The same, counted in a ledger that is still blank.
 fn count_signatures<'a, L: Ledger>(
     blank: Blank,
     version: &'a Version,
@@ -43,6 +44,7 @@ pub fn covering<'a>(version: &'a Version, name: &Name, near: usize) -> &'a [Rr]
     count_covering::<Brand>(Blank::new(1), version, name, near)
 }
 
+/// The same, counted in a ledger that is still blank.
 fn count_covering<'a, L: Ledger>(
     blank: Blank,
     version: &'a Version,
@@ -76,6 +78,7 @@ pub fn proof<'a>(
     count_proof::<Brand>(Blank::new(1), version, name, kind, last, near)
 }
 
+/// The same, counted in a ledger that is still blank.
 fn count_proof<'a, L: Ledger>(
     blank: Blank,
     version: &'a Version,

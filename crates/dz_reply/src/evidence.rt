@@ -38,8 +38,8 @@ pub fn authority_of<'a>(
     authority
 }
 
-/// The records that are found for the last name, where the authority section has none beside them: no chain leads to the name,
-/// and the records are its own.
+/// The records that are found for the last name, where the authority section has none beside them: no chain leads to
+/// the name, and it owns the records itself.
 pub fn alone<'a>(chain: &Chain<'_>, last: &Found<'a>, name: &Name) -> Option<&'a [Rr]>
     ensures { IfSome result (λ rs. IsAlone chain.now (meaning last.now) name.now rs.now) }
 {
@@ -58,7 +58,7 @@ pub fn alone<'a>(chain: &Chain<'_>, last: &Found<'a>, name: &Name) -> Option<&'a
     }
 }
 
-/// Whether records are the own ones of a name.
+/// Whether records are owned by a name itself.
 fn is_own(records: &[Rr], name: &Name) -> bool
     ensures { result ≡ true → (zone : List Record) → [] ≡ first_wildcard zone name.now records.now }
 {
@@ -77,7 +77,7 @@ pub fn authority_stopped<'a>(version: &'a Version, chain: &Chain<'_>) -> Authori
     authority
 }
 
-/// The servers of a zone cut.
+/// The NS records of a zone cut, where the last name is at or below one.
 fn servers_in<'a>(last: &Found<'a>) -> &'a [Rr]
     ensures { result.now ≡ servers_of (meaning last.now) }
 {
@@ -120,7 +120,7 @@ fn wildcard_set<'a>(version: &'a Version, rr: &Rr, name: &Name, near: usize) -> 
     }
 }
 
-/// The same of the last name.
+/// The proof that the last name isn't there, where its records came from a wildcard.
 fn last_wildcard<'a>(version: &'a Version, last: &Found<'a>, name: &Name, near: usize) -> &'a [Rr]
     ensures { result.now ≡ last_wildcard version.now.records (meaning last.now) name.now }
 {
@@ -134,6 +134,7 @@ fn last_wildcard<'a>(version: &'a Version, last: &Found<'a>, name: &Name, near: 
     }
 }
 
+/// The same by the records that answer for the last name.
 fn first_wildcard<'a>(version: &'a Version, records: &[Rr], name: &Name, near: usize) -> &'a [Rr]
     ensures { result.now ≡ first_wildcard version.now.records name.now records.now }
 {

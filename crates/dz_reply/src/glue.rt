@@ -19,12 +19,12 @@ use std::marker::Model;
 /// A header counts records in two octets (RFC 1035 section 4.1.1).
 const COUNTS: usize = 65_536;
 
-/// The most name servers whose addresses are looked up once; those of further ones are looked up to be counted and again
-/// to be written.
+/// The most name servers whose addresses are looked up once; those of further ones are looked up to be counted and
+/// again to be written.
 const SERVERS: usize = 16;
 
-/// The glue of a referral: the addresses of each name server within the zone (RFC 1034 section 4.3.2). Contracts see the
-/// records as the reply has them.
+/// The glue of a referral: the addresses of each name server within the zone (RFC 1034 section 4.3.2). Contracts see
+/// the records as the reply has them.
 #[derive(Drop)]
 pub struct Glue<'a> {
     version: &'a Version,
@@ -64,7 +64,7 @@ impl<'a> Glue<'a> {
         (count_found(self.found.as_slice()) + count_further(self.version, self.further)) % COUNTS
     }
 
-    /// Writes the records, those of each server behind one another: A records and then AAAA records.
+    /// Writes the records, those of each server one after another: A records and then AAAA records.
     pub fn put(&self, writer: &mut Writer, question: &Name)
         ensures { writer.new.writing
             ≡ also writer.old.writing (entries_octets question.now self.now) }
@@ -117,7 +117,7 @@ fn server_addresses<'a>(version: &'a Version, server: &Rr) -> Addresses<'a>
     }
 }
 
-/// The name that a name server record leads to, where that is within the zone.
+/// The name server that an NS record names, where it is within the zone.
 fn address_owner(version: &Version, server: &Rr) -> Option<Name>
     ensures { result ≡ inner_target version.now server.now }
 {
@@ -140,6 +140,7 @@ fn count_one(addresses: &Addresses) -> usize
     (addresses.four.len() % COUNTS + addresses.six.len() % COUNTS) % COUNTS
 }
 
+/// How many records the addresses that were found are, modulo 65,536.
 fn count_found(found: &[Addresses]) -> usize
     ensures value { result ≡ length (flat_map shown found.now) % COUNTS }
     ensures small { result < COUNTS }
@@ -151,6 +152,7 @@ fn count_found(found: &[Addresses]) -> usize
     count
 }
 
+/// How many addresses further name servers have, modulo 65,536.
 fn count_further(version: &Version, servers: &[Rr]) -> usize
     ensures value { result ≡ length (glue version.now servers.now) % COUNTS }
     ensures small { result < COUNTS }
@@ -171,6 +173,7 @@ fn put_one(writer: &mut Writer, question: &Name, addresses: &Addresses)
     put_own(writer, question, addresses.six);
 }
 
+/// Writes the addresses that were found, those of each server one after another.
 fn put_found(writer: &mut Writer, question: &Name, found: &[Addresses])
     ensures { writer.new.writing
         ≡ also writer.old.writing (entries_octets question.now (flat_map shown found.now)) }
@@ -180,6 +183,7 @@ fn put_found(writer: &mut Writer, question: &Name, found: &[Addresses])
     }
 }
 
+/// Writes the addresses of further name servers.
 fn put_further(writer: &mut Writer, question: &Name, version: &Version, servers: &[Rr])
     ensures { writer.new.writing
         ≡ also writer.old.writing (entries_octets question.now (glue version.now servers.now)) }

@@ -1,4 +1,4 @@
-//! The records of a reply, one behind the other.
+//! The records of a reply, one after the other.
 
 ghost use Rattle.std.specs.Prelude.{◌≡◌, ◌≢◌, ◌≤◌, ◌∷◌, ◌++◌, [], length, drop};
 ghost use Rattle.dz_header.specs.Writing.{also};
@@ -21,15 +21,15 @@ pub(crate) const POINTER: u16 = 0xc000;
 /// The longest TTL in seconds (RFC 2181 section 8).
 pub(crate) const LONGEST_TTL: u32 = 0x7fff_ffff;
 
-/// An owner as a reply has it: octets of its wire form, and the pointer behind them, unless they are all of it.
+/// An owner as a reply has it: octets of its wire form, and the pointer after them, unless they are all of it.
 #[derive(Clone, Copy)]
 pub struct Shown<'a> {
     pub front: &'a [u8],
     pub pointer: Option<u16>,
 }
 
-/// How a reply has an owner: its labels up to the longest suffix that it shares with the question's name, other than the
-/// root, and then a pointer to that suffix, which stands in the question (RFC 1035 section 4.1.4).
+/// How a reply has an owner: its labels up to the longest suffix that it shares with the question's name, other than
+/// the root, and then a pointer to that suffix, which is in the question (RFC 1035 section 4.1.4).
 pub fn shown_owner<'a>(question: &Name, owner: &NameRef<'a>) -> Shown<'a>
     ensures { owner_shown result ≡ owner_octets question.now owner.now }
 {
@@ -52,7 +52,7 @@ pub fn shown_owner<'a>(question: &Name, owner: &NameRef<'a>) -> Shown<'a>
     }
 }
 
-/// The pointer to what stands behind the first labels of an owner, which ends the question's name.
+/// The pointer to what follows the first labels of an owner, which ends the question's name.
 fn pointer_to(question: &Name, owner: &NameRef, skip: usize) -> u16
     requires { skip ≤ length owner.now }
     ensures { two result ≡ pointer_to question.now (drop skip owner.now) }
@@ -74,7 +74,7 @@ fn put_front(writer: &mut Writer, front: &[u8])
     writer.put(front);
 }
 
-/// Writes an owner that is at hand.
+/// Writes an owner whose form in the reply is known.
 fn put_shown(writer: &mut Writer, shown: &Shown<'_>)
     ensures { writer.new.writing ≡ also writer.old.writing (owner_shown shown.now) }
 {
@@ -92,8 +92,8 @@ pub fn put_owner(writer: &mut Writer, question: &Name, owner: &NameRef)
     put_shown(writer, &shown_owner(question, owner));
 }
 
-/// Writes a record of class IN under an owner and with a TTL in seconds that may differ from its own. The RDATA
-/// stands without pointers (RFC 1035 section 4.1.3, RFC 3597 section 4).
+/// Writes a record of class IN under an owner and with a TTL in seconds that may differ from its own. The RDATA has no
+/// pointers (RFC 1035 section 4.1.3, RFC 3597 section 4).
 pub fn put_entry(writer: &mut Writer, question: &Name, owner: &NameRef, ttl: u32, rr: &Rr)
     ensures { writer.new.writing
         ≡ also writer.old.writing (entry_octets question.now (entry owner.now ttl rr.now)) }
@@ -101,7 +101,7 @@ pub fn put_entry(writer: &mut Writer, question: &Name, owner: &NameRef, ttl: u32
     put_entry_under(writer, &shown_owner(question, owner), ttl, rr);
 }
 
-/// Writes a record of class IN under an owner that is at hand and with a TTL in seconds.
+/// Writes a record of class IN under an owner whose form in the reply is known, and with a TTL in seconds.
 fn put_entry_under(writer: &mut Writer, shown: &Shown<'_>, ttl: u32, rr: &Rr)
     ensures { (question owner : Name) → owner_shown shown.now ≡ owner_octets question owner
         → writer.new.writing
@@ -131,8 +131,8 @@ pub fn put_cname(writer: &mut Writer, question: &Name, owner: &NameRef, ttl: u32
     writer.put(target.wire());
 }
 
-/// Writes records under one owner. Those of a type have their least TTL, and an RRSIG has its own (RFC 2181
-/// section 5.2, RFC 4035 section 2.2). Records of a type that stand side by side cost one pass more over all of them.
+/// Writes records under one owner. Those of a type have their least TTL, and an RRSIG has its own (RFC 2181 section
+/// 5.2, RFC 4035 section 2.2). Records of a type that are side by side cost one pass more over all of them.
 pub fn put_entries(writer: &mut Writer, question: &Name, owner: &NameRef, records: &[Rr])
     ensures { writer.new.writing
         ≡ also writer.old.writing (entries_octets question.now (entries owner.now records.now)) }
@@ -140,7 +140,7 @@ pub fn put_entries(writer: &mut Writer, question: &Name, owner: &NameRef, record
     put_entries_under(writer, &shown_owner(question, owner), records);
 }
 
-/// Writes records and what signs them under one owner.
+/// Writes records and their RRSIG records under one owner.
 pub fn put_both(
     writer: &mut Writer,
     question: &Name,
@@ -157,7 +157,7 @@ pub fn put_both(
     put_entries_under(writer, &shown, signed);
 }
 
-/// Writes records under an owner that is at hand.
+/// Writes records under an owner whose form in the reply is known.
 fn put_entries_under(writer: &mut Writer, shown: &Shown<'_>, records: &[Rr])
     ensures { (question owner : Name) → owner_shown shown.now ≡ owner_octets question owner
         → writer.new.writing
@@ -186,7 +186,7 @@ pub fn put_own(writer: &mut Writer, question: &Name, records: &[Rr])
     }
 }
 
-/// The TTL that a record of the list shows, where that of the records of another type is known.
+/// The TTL in seconds that a record of the list shows, where the least TTL of the records of one type is known.
 fn ttl_of(records: &[Rr], kind: u16, ttl: u32, rr: &Rr) -> u32
     requires { kind ≢ TYPE_RRSIG → ttl ≡ least_ttl kind records.now }
     ensures { result ≡ entry_ttl records.now rr.now }

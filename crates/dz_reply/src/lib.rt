@@ -12,5 +12,5 @@ mod reply;
 mod secure;
 mod signed;
 
-pub use dz_request::Transport;
+pub use dz_header::Transport;
 pub use reply::{Turn, reply_into, reply_to};

@@ -1,4 +1,4 @@
-//! The reply to a request: who answers it.
+//! The reply to a request.
 
 ghost use Rattle.std.specs.Prelude.{◌≡◌, IsSome, Some, length};
 ghost use Rattle.dz_name.specs.Name.{IsWithin};
@@ -14,9 +14,9 @@ ghost use Rattle.dz_reply.specs.ReadsBack.{ReadsBack};
 ghost use Rattle.dz_reply.specs.inner.AnswersHeld.{AnswersHeld, AnswersHeldFor};
 
 use crate::answer::reply_zone;
-use dz_header::{Header, ReplyBuffer, ResponseCode, Writer};
+use dz_header::{Header, ReplyBuffer, ResponseCode, Transport, Writer};
 use dz_name::Name;
-use dz_request::{Asked, Frame, Request, Transport, read_request, reply_curt};
+use dz_request::{Asked, Frame, Request, read_request, reply_curt};
 use dz_table::{Slot, Table};
 
 /// What a request leads to.
@@ -24,14 +24,14 @@ use dz_table::{Slot, Table};
 pub enum Turn {
     /// There is no reply.
     Silent,
-    /// The reply was written, so many octets.
+    /// The reply was written: its length in octets.
     Written(usize),
     /// A NOTIFY for this name (RFC 1996): who sent it decides on its reply.
     Notify(Name),
 }
 
-/// Writes the reply to a request at a moment in seconds, from the closest enclosing zone of the table. It takes no memory.
-/// The octets of a reply are `buffer.reply(count)` where the answer is `Turn::Written(count)`.
+/// Writes the reply to a request at a moment in seconds, from the closest enclosing zone of the table. It takes no
+/// memory. The octets of a reply are `buffer.reply(count)` where the answer is `Turn::Written(count)`.
 pub fn reply_into(
     table: &Table,
     octets: &[u8],
@@ -51,7 +51,7 @@ pub fn reply_into(
     reply_to(table, octets, moment, transport, buffer.writer())
 }
 
-/// The same over the writer of a reply alone, so that the request may stand in the other half of the buffer.
+/// The same over the writer of a reply alone, so that the request may be in the other half of the buffer.
 #[tactic(auto, unfolding(crate::specs::Reply::reply_of))]
 pub fn reply_to(
     table: &Table,
@@ -86,6 +86,7 @@ struct Exchange<'a> {
     transport: Transport,
 }
 
+/// The reply to a request as it was read.
 #[tactic(auto, unfolding(crate::specs::Reply::reply_for))]
 fn reply_request(exchange: &Exchange<'_>, request: &Request, writer: &mut Writer) -> Turn
     requires { FitsIn exchange.now.octets.now request.now }
@@ -105,7 +106,7 @@ fn reply_request(exchange: &Exchange<'_>, request: &Request, writer: &mut Writer
     }
 }
 
-/// REFUSED without an enclosing zone.
+/// The reply to a question: REFUSED without an enclosing zone.
 fn reply_question(exchange: &Exchange<'_>, asked: &Asked, writer: &mut Writer) -> Turn
     requires { IsWhole exchange.now.octets.now asked.now.size }
     ensures reply { IsReply result writer.new.writing
@@ -128,7 +129,7 @@ fn reply_question(exchange: &Exchange<'_>, asked: &Asked, writer: &mut Writer) -
     }
 }
 
-/// SERVFAIL where the zone isn't live.
+/// The reply from the slot of the closest enclosing zone: SERVFAIL where the zone isn't live.
 fn reply_slot(exchange: &Exchange<'_>, slot: &Slot, asked: &Asked, writer: &mut Writer) -> Turn
     requires whole { IsWhole exchange.now.octets.now asked.now.size }
     requires within { IsWithin asked.now.question.name slot.now.zone }

@@ -201,7 +201,7 @@ fn secure_alone(
     answer.frame.finish(writer, ResponseCode::NoError, true);
 }
 
-/// The chain's records, and the SOA with what signs it.
+/// The chain's records, and the SOA with its RRSIG records.
 fn secure_soa(
     answer: &Answer<'_>,
     chain: &Chain<'_>,
@@ -282,7 +282,7 @@ fn is_bare(kind: u16) -> bool
     kind == TYPE_RRSIG || kind == TYPE_ANY
 }
 
-/// What signs the records of the last name, which are of one type; nothing where the answer section gains none.
+/// The RRSIG records of the records of the last name, which are of one type; none where the answer section gains none.
 fn answer_signatures<'a>(signing: &Signing<'a>, records: &[Rr]) -> &'a [Rr]
     ensures { result.now
         ≡ answer_signatures signing.now.version.now.records signing.now.bare records.now }
@@ -304,7 +304,7 @@ fn answer_signatures<'a>(signing: &Signing<'a>, records: &[Rr]) -> &'a [Rr]
     }
 }
 
-/// Writes the records of the last name and what signs them, under that name.
+/// Writes the records of the last name and their RRSIG records, under that name.
 fn put_answer_set(writer: &mut Writer, question: &Name, name: &Name, records: &[Rr], signed: &[Rr])
     ensures { writer.new.writing
         ≡ also writer.old.writing (entries_octets question.now
@@ -313,7 +313,7 @@ fn put_answer_set(writer: &mut Writer, question: &Name, name: &Name, records: &[
     put_both(writer, question, &name.as_ref(), records, signed);
 }
 
-/// Writes the SOA of a negative answer and what signs it.
+/// Writes the SOA of a negative answer and its RRSIG records.
 fn put_signed_soa(writer: &mut Writer, question: &Name, version: &Version, signed: &[Rr])
     requires { signed.now ≡ signatures version.now.records version.now.apex TYPE_SOA }
     ensures { writer.new.writing
@@ -323,7 +323,7 @@ fn put_signed_soa(writer: &mut Writer, question: &Name, version: &Version, signe
     put_own(writer, question, signed);
 }
 
-/// How many records that are, modulo 65,536.
+/// How many records the signed SOA is, modulo 65,536.
 fn count_signed_soa(version: &Version, signed: &[Rr]) -> usize
     requires { signed.now ≡ signatures version.now.records version.now.apex TYPE_SOA }
     ensures value { result ≡ length (signed_soa version.now) % COUNTS }
@@ -332,6 +332,7 @@ fn count_signed_soa(version: &Version, signed: &[Rr]) -> usize
     (count_soa(version) + signed.len() % COUNTS) % COUNTS
 }
 
+/// How many SOA records a version has at its apex: one.
 fn count_soa(version: &Version) -> usize
     ensures value { result ≡ length (soa_entries version.now) }
     ensures one { result ≡ 1 }

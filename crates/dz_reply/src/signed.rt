@@ -1,4 +1,4 @@
-//! The records of a chain, each with what signs it (RFC 4035 section 3.1.1).
+//! The records of a chain, each with its RRSIG records (RFC 4035 section 3.1.1).
 
 ghost use Rattle.std.specs.Prelude.{◌≡◌, ◌+◌, ◌%◌, ◌<◌, ◌≤◌, [], length, take, slice_index_or};
 ghost use Rattle.dz_name.specs.Words.{Name};
@@ -19,8 +19,8 @@ use dz_zone::Version;
 /// A header counts records in two octets (RFC 1035 section 4.1.1).
 const COUNTS: usize = 65_536;
 
-/// What an answer section with records of DNSSEC is written from: the name of the question, the version that is asked, whether
-/// the section gains no signatures, and the number in the version's index near which owners are looked for.
+/// What an answer section with records of DNSSEC is written from: the name of the question, the version that is asked,
+/// whether the section gains no signatures, and the number in the version's index near which owners are looked for.
 #[derive(Clone, Copy)]
 pub struct Signing<'a> {
     pub question: &'a Name,
@@ -29,7 +29,7 @@ pub struct Signing<'a> {
     pub near: usize,
 }
 
-/// What signs an RRset of the answer section, by one of its records; nothing where the section gains none.
+/// The RRSIG records of an RRset of the answer section, by one of its records; none where the section gains none.
 fn beside<'a>(signing: &Signing<'a>, rr: &Rr) -> &'a [Rr]
     ensures { (owner : Name) → entries owner result.now
         ≡ beside signing.now.version.now.records signing.now.bare owner rr.now }
@@ -41,7 +41,7 @@ fn beside<'a>(signing: &Signing<'a>, rr: &Rr) -> &'a [Rr]
     }
 }
 
-/// Writes what signs an RRset, under the owner shown.
+/// Writes the RRSIG records of an RRset, under the owner shown.
 fn put_beside(writer: &mut Writer, signing: &Signing<'_>, owner: &NameRef, rr: &Rr)
     ensures { writer.new.writing
         ≡ also writer.old.writing (entries_octets signing.now.question.now
@@ -50,7 +50,7 @@ fn put_beside(writer: &mut Writer, signing: &Signing<'_>, owner: &NameRef, rr: &
     put_entries(writer, signing.question, owner, beside(signing, rr));
 }
 
-/// How many records sign an RRset, modulo 65,536.
+/// How many RRSIG records an RRset gains, modulo 65,536.
 fn count_beside(signing: &Signing<'_>, rr: &Rr) -> usize
     ensures value { (owner : Name) → result
         ≡ length (beside signing.now.version.now.records signing.now.bare owner rr.now) % COUNTS }
@@ -59,7 +59,7 @@ fn count_beside(signing: &Signing<'_>, rr: &Rr) -> usize
     beside(signing, rr).len() % COUNTS
 }
 
-/// Writes a DNAME after the first records of a chain with what signs it, unless it is among them.
+/// Writes a DNAME with its RRSIG records after the first records of a chain, unless it is among them.
 pub fn put_secure_renamer(
     writer: &mut Writer,
     signing: &Signing<'_>,
@@ -80,7 +80,7 @@ pub fn put_secure_renamer(
     }
 }
 
-/// How many records that are, modulo 65,536.
+/// How many records such a DNAME and its RRSIG records are, modulo 65,536.
 pub fn count_secure_renamer(signing: &Signing<'_>, chain: &Chain<'_>, upto: usize, rr: &Rr) -> usize
     requires { upto ≤ length chain.now }
     ensures value { result
@@ -144,7 +144,7 @@ fn count_secure_step(signing: &Signing<'_>, chain: &Chain<'_>, number: usize) ->
     }
 }
 
-/// Writes the records of a chain, each with what signs it.
+/// Writes the records of a chain, each with its RRSIG records.
 pub fn put_secure_trail(writer: &mut Writer, signing: &Signing<'_>, chain: &Chain<'_>)
     ensures { writer.new.writing
         ≡ also writer.old.writing (entries_octets signing.now.question.now
@@ -162,7 +162,7 @@ pub fn put_secure_trail(writer: &mut Writer, signing: &Signing<'_>, chain: &Chai
     }
 }
 
-/// How many records that are, modulo 65,536.
+/// How many records a chain and its RRSIG records are, modulo 65,536.
 pub fn count_secure_trail(signing: &Signing<'_>, chain: &Chain<'_>) -> usize
     ensures value { result
         ≡ length (secure_trail signing.now.version.now.records signing.now.bare [] chain.now)

@@ -2,14 +2,15 @@
 use Rattle.std.specs.Prelude.{◌++◌, ℕ, codes, decimal}
 use Rattle.dz_name.specs.Words.{Octets}
 use Rattle.dz_message.specs.Fault.{fault_number}
-use Rattle.dz_form.specs.declared.fault.ShapeFault.{ShapeFault}
-use Rattle.dz_form.specs.declared.fault.ShapeFault.TheVariants.{NotSoaFirst, AfterEnd, SerialGap, DeleteMissing, AddPresent}
+use Rattle.dz_xfr.specs.declared.fault.ShapeFault.{ShapeFault}
+use Rattle.dz_xfr.specs.declared.fault.ShapeFault.TheVariants.{NotSoaFirst, AfterEnd, SerialGap, DeleteMissing, AddPresent}
 use Rattle.dz_zone.specs.declared.fault.ZoneFault.{ZoneFault}
 use Rattle.dz_zone.specs.declared.fault.ZoneFault.TheVariants.{NoSoa, SoaTwice, SoaBelow, NoNs, OutOfZone, CnameBeside, CnameTwice, DnameTwice, TooMany}
 use Rattle.dz_tsig.specs.Fault.{number_of}
 use Rattle.dz_take.specs.declared.outcome.TakeFault.{TakeFault}
 use Rattle.dz_take.specs.declared.outcome.TakeFault.TheVariants.{Incomplete, Message, WrongId, WrongQuestion, Rcode, Shape, Zone, OldSerial, TooLong, Tsig}
 
+-- the word for what is wrong with the records' form
 abbrev pub shape_word : ShapeFault → Octets
 shape_word NotSoaFirst = codes "not-soa-first"
 shape_word AfterEnd = codes "after-end"
@@ -17,6 +18,7 @@ shape_word SerialGap = codes "serial-gap"
 shape_word DeleteMissing = codes "delete-missing"
 shape_word AddPresent = codes "add-present"
 
+-- the word for what is wrong with the zone
 abbrev pub zone_word : ZoneFault → Octets
 zone_word NoSoa = codes "no-soa"
 zone_word SoaTwice = codes "soa-twice"
@@ -28,10 +30,11 @@ zone_word CnameTwice = codes "cname-twice"
 zone_word DnameTwice = codes "dname-twice"
 zone_word TooMany = codes "too-many"
 
--- a word, and what stands behind it: a number in decimal, or a further word
+-- a word, and a number in decimal right after it
 abbrev pub numbered : Octets → ℕ → Octets
 numbered word number = word ++ decimal number
 
+-- the words of a refusal's reason, and the number after them where it has one
 abbrev pub reason_of : TakeFault → Octets
 reason_of Incomplete = codes "incomplete"
 reason_of (Message fault) = numbered (codes "message ") (fault_number fault)

@@ -10,7 +10,7 @@ use dz_name::Name;
 use itoa::Buffer;
 use std::marker::Model;
 
-/// How many octets a line has at most that names one zone.
+/// How many octets a line that names one zone has at most.
 pub const LINE: usize = 1100;
 
 /// A line of the log, of at most 1,100 octets with its newline.
@@ -47,7 +47,7 @@ impl LogLine {
         self.text.as_slice()
     }
 
-    /// Puts octets behind the others.
+    /// Puts octets after the others.
     fn put(&mut self, piece: &[u8])
         requires { length self.old + length piece.now ≤ LINE }
         ensures { self.new ≡ self.old ++ piece.now }
@@ -58,7 +58,7 @@ impl LogLine {
         }
     }
 
-    /// Puts a further word behind a space.
+    /// Puts a space and a further word.
     pub(crate) fn also(&mut self, word: &[u8])
         requires { length self.old + length word.now < LINE }
         ensures line { self.new ≡ also self.old word.now }
@@ -68,7 +68,7 @@ impl LogLine {
         self.put(word);
     }
 
-    /// Puts an octet in decimal behind a dot.
+    /// Puts a dot and an octet in decimal.
     pub(crate) fn octet(&mut self, octet: u8)
         requires { length self.old + 4 ≤ LINE }
         ensures line { self.new ≡ behind self.old 46 octet }
@@ -79,7 +79,7 @@ impl LogLine {
         self.put(digits.format(octet).as_bytes());
     }
 
-    /// Puts a number in decimal behind a mark.
+    /// Puts a mark and a number in decimal.
     pub(crate) fn behind(&mut self, mark: u8, number: u16)
         requires { length self.old + 6 ≤ LINE }
         ensures line { self.new ≡ behind self.old mark number }
@@ -90,7 +90,7 @@ impl LogLine {
         self.put(digits.format(number).as_bytes());
     }
 
-    /// Puts a number in decimal behind a space.
+    /// Puts a space and a number in decimal.
     pub(crate) fn also_number(&mut self, number: u64)
         requires { length self.old + 20 < LINE }
         ensures line { self.new ≡ also self.old (decimal number) }
@@ -100,7 +100,7 @@ impl LogLine {
         self.also(digits.format(number).as_bytes());
     }
 
-    /// Puts a name behind a space.
+    /// Puts a space and a name.
     pub(crate) fn also_name(&mut self, name: &Name)
         requires { length self.old + 1024 < LINE }
         ensures line { self.new ≡ also self.old (text_of name.now) }

@@ -57,6 +57,7 @@ pub fn notify_line(zone: &Name, heard: &Heard) -> LogLine
     line
 }
 
+/// The word for how a NOTIFY is heard.
 fn heard_word(heard: Heard) -> &'static [u8]
     ensures word { result.now ≡ heard_word heard }
     ensures short { length result.now ≤ 8 }
@@ -101,6 +102,7 @@ fn serial_of(held: Option<&Arc<Version>>) -> u32
     }
 }
 
+/// Puts the ID of a query.
 fn put_id(line: &mut LogLine, id: u16)
     requires { length line.old ≤ 1068 }
     ensures line { line.new ≡ also line.old (decimal id) }

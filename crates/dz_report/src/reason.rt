@@ -7,7 +7,7 @@ use dz_take::{ShapeFault, TakeFault, ZoneFault};
 use itoa::Buffer;
 use std::alloc::{AllocError, Global};
 
-/// The words of a refusal's reason, and the number behind them where it has one.
+/// The words of a refusal's reason, and the number after them where it has one. `AllocError` where memory runs out.
 pub fn reason_of(alloc: Global, fault: &TakeFault) -> Result<Vec<u8>, AllocError>
     ensures { IfOk result (λ text. text.items ≡ reason_of fault.now) }
 {
@@ -25,7 +25,7 @@ pub fn reason_of(alloc: Global, fault: &TakeFault) -> Result<Vec<u8>, AllocError
     }
 }
 
-/// What is wrong with the records' form.
+/// The word for what is wrong with the records' form.
 fn shape_word(fault: ShapeFault) -> &'static [u8]
     ensures { result.now ≡ shape_word fault }
 {
@@ -38,7 +38,7 @@ fn shape_word(fault: ShapeFault) -> &'static [u8]
     }
 }
 
-/// What is wrong with the zone.
+/// The word for what is wrong with the zone.
 fn zone_word(fault: ZoneFault) -> &'static [u8]
     ensures { result.now ≡ zone_word fault }
 {
@@ -55,7 +55,7 @@ fn zone_word(fault: ZoneFault) -> &'static [u8]
     }
 }
 
-/// A word, and a number in decimal.
+/// A word, and a number in decimal. `AllocError` where memory runs out.
 pub fn numbered(alloc: Global, word: &[u8], number: u64) -> Result<Vec<u8>, AllocError>
     ensures { IfOk result (λ text. text.items ≡ numbered word.now number) }
 {
@@ -63,7 +63,7 @@ pub fn numbered(alloc: Global, word: &[u8], number: u64) -> Result<Vec<u8>, Allo
     joined(alloc, word, digits.format(number).as_bytes())
 }
 
-/// A word, and another behind it.
+/// A word, and another right after it. `AllocError` where memory runs out.
 pub fn joined(alloc: Global, word: &[u8], behind: &[u8]) -> Result<Vec<u8>, AllocError>
     ensures { IfOk result (λ text. text.items ≡ word.now ++ behind.now) }
 {

@@ -18,7 +18,7 @@ use std::alloc::{AllocError, Global};
 ///
 /// # Errors
 ///
-/// `AllocError` where memory is wanting; what was there is then left with some octets more.
+/// `AllocError` where memory runs out; some octets may then follow what was there.
 pub fn verdict_lines(
     alloc: Global,
     zone: &Name,
@@ -31,7 +31,7 @@ pub fn verdict_lines(
     out.extend_from_slice(text.as_slice())
 }
 
-/// The lines of a verdict.
+/// The lines of a verdict. `AllocError` where memory runs out.
 #[tactic(auto, unfolding(crate::specs::Lines::verdict_lines))]
 fn verdict_text(alloc: Global, zone: &Name, verdict: &Verdict) -> Result<Vec<u8>, AllocError>
     ensures { IfOk result (λ text. text.items ≡ verdict_lines zone.now verdict.now) }
@@ -60,7 +60,7 @@ fn verdict_text(alloc: Global, zone: &Name, verdict: &Verdict) -> Result<Vec<u8>
     }
 }
 
-/// `<word> <position> <zone> <serial>`.
+/// `<word> <position> <zone> <serial>`. `AllocError` where memory runs out.
 fn taken_line(
     alloc: Global,
     word: &[u8],
@@ -81,7 +81,7 @@ fn taken_line(
     Ok(text)
 }
 
-/// `<word> <zone> <text>`.
+/// `<word> <zone> <text>`. `AllocError` where memory runs out.
 fn zone_line(alloc: Global, word: &[u8], zone: &Name, behind: &[u8]) -> Result<Vec<u8>, AllocError>
     ensures { IfOk result (λ text. text.items
         ≡ end (also (also word.now (text_of zone.now)) behind.now)) }
@@ -93,6 +93,7 @@ fn zone_line(alloc: Global, word: &[u8], zone: &Name, behind: &[u8]) -> Result<V
     Ok(text)
 }
 
+/// `stale <zone> <position>`. `AllocError` where memory runs out.
 fn stale_line(alloc: Global, zone: &Name, position: u64) -> Result<Vec<u8>, AllocError>
     ensures { IfOk result (λ text. text.items
         ≡ end (also (also (codes "stale") (text_of zone.now)) (decimal position))) }
@@ -101,6 +102,7 @@ fn stale_line(alloc: Global, zone: &Name, position: u64) -> Result<Vec<u8>, Allo
     zone_line(alloc, b"stale", zone, digits.format(position).as_bytes())
 }
 
+/// `nomemory <zone>`. `AllocError` where memory runs out.
 fn memory_line(alloc: Global, zone: &Name) -> Result<Vec<u8>, AllocError>
     ensures { IfOk result (λ text. text.items ≡ end (also (codes "nomemory") (text_of zone.now))) }
 {
@@ -110,7 +112,7 @@ fn memory_line(alloc: Global, zone: &Name) -> Result<Vec<u8>, AllocError>
     Ok(text)
 }
 
-/// Puts a further word behind a space.
+/// Puts a space and a further word. `AllocError` where memory runs out.
 fn put(text: &mut Vec<u8>, word: &[u8]) -> Result<(), AllocError>
     ensures { OnOk result (text.new.items ≡ also text.old.items word.now) }
 {
@@ -118,7 +120,7 @@ fn put(text: &mut Vec<u8>, word: &[u8]) -> Result<(), AllocError>
     text.extend_from_slice(word)
 }
 
-/// What a new version changes beside itself.
+/// The lines of what a new version changes beyond its own zone. `AllocError` where memory runs out.
 #[tactic(auto, unfolding(crate::specs::Lines::aftermath_lines))]
 fn aftermath_lines(alloc: Global, zone: &Name, aftermath: &Aftermath) -> Result<Vec<u8>, AllocError>
     ensures { IfOk result (λ text. text.items ≡ aftermath_lines zone.now aftermath.now) }
@@ -130,6 +132,7 @@ fn aftermath_lines(alloc: Global, zone: &Name, aftermath: &Aftermath) -> Result<
     }
 }
 
+/// The lines of changes, one after the other. `AllocError` where memory runs out.
 fn change_lines(alloc: Global, changes: &[Change]) -> Result<Vec<u8>, AllocError>
     ensures { IfOk result (λ text. text.items ≡ flat_map change_line changes.now) }
 {
@@ -140,7 +143,7 @@ fn change_lines(alloc: Global, changes: &[Change]) -> Result<Vec<u8>, AllocError
     Ok(text)
 }
 
-/// Appends the line of a change.
+/// Appends the line of a change. `AllocError` where memory runs out.
 fn put_change(alloc: Global, change: &Change, text: &mut Vec<u8>) -> Result<(), AllocError>
     ensures { OnOk result (text.new.items ≡ text.old.items ++ change_line change.now) }
 {
@@ -149,7 +152,7 @@ fn put_change(alloc: Global, change: &Change, text: &mut Vec<u8>) -> Result<(), 
     Ok(())
 }
 
-/// A change, without the end of its line.
+/// A change, without the end of its line. `AllocError` where memory runs out.
 fn change_text(alloc: Global, zone: &Name, what: &What) -> Result<Vec<u8>, AllocError>
     ensures { IfOk result (λ text. text.items ≡ change_text zone.now what.now) }
 {
@@ -164,7 +167,7 @@ fn change_text(alloc: Global, zone: &Name, what: &What) -> Result<Vec<u8>, Alloc
     }
 }
 
-/// `<word> <zone> <catalog>`.
+/// `<word> <zone> <catalog>`. `AllocError` where memory runs out.
 fn named(alloc: Global, word: &[u8], zone: &Name, catalog: &Name) -> Result<Vec<u8>, AllocError>
     ensures { IfOk result (λ text. text.items
         ≡ also (also word.now (text_of zone.now)) (text_of catalog.now)) }
@@ -175,7 +178,7 @@ fn named(alloc: Global, word: &[u8], zone: &Name, catalog: &Name) -> Result<Vec<
     Ok(text)
 }
 
-/// `<word> <zone> <old> <new>`.
+/// `<word> <zone> <old> <new>`. `AllocError` where memory runs out.
 fn moved(
     alloc: Global,
     word: &[u8],
@@ -191,7 +194,7 @@ fn moved(
     Ok(text)
 }
 
-/// `clash <zone>`, and the holder or `configured`.
+/// `clash <zone>`, and the holder or `configured`. `AllocError` where memory runs out.
 fn clash(alloc: Global, zone: &Name, holder: &Option<Name>) -> Result<Vec<u8>, AllocError>
     ensures { IfOk result (λ text. text.items
         ≡ also (also (codes "clash") (text_of zone.now)) (holder_text holder.now)) }
@@ -207,6 +210,7 @@ fn clash(alloc: Global, zone: &Name, holder: &Option<Name>) -> Result<Vec<u8>, A
     }
 }
 
+/// The word for what the ZONEMD records of a version say.
 fn standing_word(standing: Standing) -> &'static [u8]
     ensures { result.now ≡ standing_word standing }
 {
@@ -218,6 +222,7 @@ fn standing_word(standing: Standing) -> &'static [u8]
     }
 }
 
+/// The word for why a catalog's version has no listing.
 fn broken_word(reason: &Broken) -> &'static [u8]
     ensures { result.now ≡ broken_word reason.now }
 {

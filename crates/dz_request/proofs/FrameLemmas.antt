@@ -1,4 +1,4 @@
--- The frame of a reply, one piece behind another.
+-- The frame of a reply, one piece after another.
 use Rattle.std.proofs.Common.{inl, inr, ◌≡◌, ℕ, ◌+◌, ◌-◌, ◌≤◌, ◌%◌, ◌/◌, Bool, true, false, List, [], ◌∷◌, ◌++◌, length, refl, sym, ◌∙◌, ap, arith, length-append, Option, Some, None, if◌then◌else◌}
 use Rattle.std.specs.Prelude.{nat_le, not, is_some}
 use Rattle.std.proofs.lemmas.Bool.Decides.{nat_tests, leb_tells}

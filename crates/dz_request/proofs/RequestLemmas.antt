@@ -6,7 +6,7 @@ use Rattle.std.proofs.lemmas.Bool.Decides.{nat_tests}
 use Rattle.std.proofs.lemmas.Option.{option_and_then_some}
 use Rattle.std.proofs.Common.{inl, inr}
 use Rattle.dz_name.specs.Name.{wire_of}
-use Rattle.dz_name.specs.declared.reading.WireFault.{WireFault}
+use Rattle.dz_name.specs.declared.wire_fault.WireFault.{WireFault}
 use Rattle.dz_header.specs.Flags.{is_response, opcode_of}
 use Rattle.dz_header.specs.Header.{header_in}
 use Rattle.dz_header.specs.Question.{question_at}

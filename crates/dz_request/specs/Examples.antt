@@ -19,6 +19,7 @@ use Rattle.dz_name.specs.Words.{Octets}
 abbrev query : Octets
 query = 0 ∷ 19 ∷ 1 ∷ 0 ∷ 0 ∷ 1 ∷ 0 ∷ 0 ∷ 0 ∷ 0 ∷ 0 ∷ 0 ∷ 3 ∷ 111 ∷ 82 ∷ 103 ∷ 0 ∷ 0 ∷ 1 ∷ 0 ∷ 1 ∷ []
 
+-- what this query asks for
 abbrev asked : Asked
 asked = record {
   header = record { id = 19; flags = 256; counts = 1 ∷ 0 ∷ 0 ∷ 0 ∷ [] };
@@ -27,12 +28,12 @@ asked = record {
   edns = None;
 }
 
--- it asks, for the name in lower case
+-- the query is read, with the name in lower case
 pub a_query : request query ≡ Asks asked
 unfolding request with_header asked_for asked_in question_in question_at name_at name_from element_at wire_of opt_in behind_records header_in number_of_two
 a_query = refl
 
--- REFUSED, with the question in the letters of the request
+-- REFUSED, with the question spelled as in the request
 pub refused : within_limit false (query_of query asked) 5 false (bare_octets (query_of query asked) 5) ≡ 0 ∷ 19 ∷ 129 ∷ 5 ∷ 0 ∷ 1 ∷ 0 ∷ 0 ∷ 0 ∷ 0 ∷ 0 ∷ 0 ∷ 3 ∷ 111 ∷ 82 ∷ 103 ∷ 0 ∷ 0 ∷ 1 ∷ 0 ∷ 1 ∷ []
 unfolding within_limit bare_octets head_octets header_octets flags_number opt_octets two
 refused = refl

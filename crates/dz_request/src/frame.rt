@@ -1,4 +1,4 @@
-//! What stands round the records of a reply: header, question and OPT record, and the limit of the whole.
+//! What surrounds the records of a reply: header, question and OPT record, and the limit of the whole.
 
 ghost use Rattle.std.specs.Prelude.{◌≡◌, ◌+◌, ◌≤◌, ◌++◌, ◌∷◌, [], true, false, length, take, drop};
 ghost use Rattle.dz_header.specs.Code.{number_of};
@@ -11,18 +11,13 @@ ghost use Rattle.dz_request.specs.Frame.{is_tcp, query_of, reply_flags, opening,
 ghost use Rattle.dz_request.specs.Request.{IsWhole};
 
 use crate::request::Asked;
-use dz_header::{Edns, Flags, Header, ResponseCode, Writer, opt_count, put_opt, write_header};
+use dz_header::{
+    Edns, Flags, Header, ResponseCode, Transport, Writer, opt_count, put_opt, write_header,
+};
 use dz_name::dns::{EDNS_OCTETS, HEADER_OCTETS, MESSAGE_OCTETS, UDP_OCTETS};
 
-/// How a request came, and how its reply goes back.
-#[derive(Clone, Copy, Debug, PartialEq, Eq)]
-pub enum Transport {
-    Udp,
-    Tcp,
-}
-
-/// What the header of a reply says: response code, AA, TC, and how many records each section has, the OPT record not
-/// counted (RFC 1035 section 4.1.1).
+/// What the header of a reply says: response code, AA, TC, and how many records each section has, not counting the OPT
+/// record (RFC 1035 section 4.1.1).
 #[derive(Clone, Copy, Debug, PartialEq, Eq)]
 pub struct Heading {
     pub code: ResponseCode,
@@ -56,8 +51,8 @@ impl Heading {
     }
 }
 
-/// What a reply is made for: the octets of a request, what they ask for, and the transport. The question's octets lie
-/// within those of the request.
+/// What a reply is made from: the octets of a request, what they ask for, and the transport. The octets of the question
+/// are within those of the request.
 #[derive(Clone, Copy)]
 pub struct Frame<'a> {
     pub request: &'a [u8],
@@ -66,8 +61,8 @@ pub struct Frame<'a> {
 }
 
 impl Frame<'_> {
-    /// Begins a reply: empties the writer, sets the limit of the transport, and writes the header, and the question as it
-    /// stands in the request.
+    /// Begins a reply: empties the writer, sets the limit of the transport, and writes the header, and the question
+    /// exactly as in the request.
     pub fn begin(&self, writer: &mut Writer, heading: &Heading)
         requires { IsWhole self.now.request.now self.now.asked.now.size }
         ensures { writer.new.writing ≡ opening (is_tcp self.now.transport)
@@ -79,8 +74,8 @@ impl Frame<'_> {
         writer.put(question_in(self.request, self.asked.size));
     }
 
-    /// Ends a reply: writes the OPT record, where the request has one. A reply that is past its limit becomes header,
-    /// question and OPT record with TC set, response code and AA as they were (RFC 2181 section 9).
+    /// Ends a reply: writes the OPT record, where the request has one. A reply that exceeds its limit is cut to header,
+    /// question and OPT record with TC set, keeping the response code and AA (RFC 2181 section 9).
     pub fn finish(&self, writer: &mut Writer, code: ResponseCode, authoritative: bool)
         requires { IsWhole self.now.request.now self.now.asked.now.size }
         ensures { IsEnd (is_tcp self.now.transport)
@@ -94,7 +89,7 @@ impl Frame<'_> {
         }
     }
 
-    /// Writes the reply that has no records and isn't authoritative.
+    /// Writes a reply without records that isn't authoritative.
     pub fn reply_bare(&self, writer: &mut Writer, code: ResponseCode)
         requires { IsWhole self.now.request.now self.now.asked.now.size }
         ensures { let query = query_of self.now.request.now self.now.asked.now in
@@ -107,7 +102,7 @@ impl Frame<'_> {
     }
 }
 
-/// Writes a reply of twelve octets, where nothing behind the header can be read: ID, opcode and RD of the request, and a
+/// Writes a reply of twelve octets, where nothing after the header can be read: ID, opcode and RD of the request, and a
 /// code.
 pub fn reply_curt(writer: &mut Writer, request: &Header, code: ResponseCode)
     ensures { writer.new.writing
@@ -135,7 +130,7 @@ fn limit_of(transport: Transport, edns: Option<Edns>) -> usize
     }
 }
 
-/// The header of a reply to a request with this header.
+/// The header of a reply to a request with this header; `opts` counts the OPT record.
 fn reply_header(request: &Header, heading: &Heading, opts: usize) -> Header
     requires { opts ≤ 1 }
     ensures { let said = heading.now in
@@ -178,7 +173,7 @@ fn reply_flags(request: &Header, code: ResponseCode, authoritative: bool, trunca
     flags.number()
 }
 
-/// A number of records as a header has it; past 65,535 its last two octets.
+/// A count of records as it is written to a header: past 65,535 its lower 16 bits.
 #[tactic(auto, using(crate::proofs::FrameLemmas::two_low))]
 fn low(count: usize, more: usize) -> u16
     requires { more ≤ 1 }
@@ -187,6 +182,7 @@ fn low(count: usize, more: usize) -> u16
     ((count % 65_536 + more) % 65_536) as u16
 }
 
+/// Writes the twelve octets of a header.
 fn put_header(writer: &mut Writer, header: &Header)
     ensures { writer.new.writing ≡ also writer.old.writing (header_octets header.now) }
 {
@@ -195,7 +191,7 @@ fn put_header(writer: &mut Writer, header: &Header)
     writer.put(&octets);
 }
 
-/// The octets of the question.
+/// The octets of the question in a request.
 fn question_in(request: &[u8], size: usize) -> &[u8]
     requires { IsWhole request.now size }
     ensures { result.now ≡ take size (drop HEADER_OCTETS request.now) }

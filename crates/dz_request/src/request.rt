@@ -15,12 +15,13 @@ use dz_name::dns::{
     TYPE_SOA, TYPE_TKEY,
 };
 
-/// A request that can be read: its header, its question, how many octets the question has, and what its OPT record says.
+/// A request that can be read: its header, its question, how many octets the question has, and what its OPT record
+/// says.
 #[derive(Clone, Copy, Debug)]
 pub struct Asked {
     pub header: Header,
     pub question: Question,
-    /// The octets of name, type and class of the question, which stand behind the header: at most 259.
+    /// How many octets name, type and class of the question have, which follow the header: at most 259.
     pub size: usize,
     pub edns: Option<Edns>,
 }
@@ -30,12 +31,12 @@ pub struct Asked {
 pub enum Request {
     /// Fewer than twelve octets, or a response: there is no reply.
     Silent,
-    /// A request with this header gets a reply of twelve octets with this code: NOTIMP for an opcode, FORMERR for what
-    /// can't be read.
+    /// A request with this header gets a reply of twelve octets with this code: NOTIMP for another opcode, FORMERR for
+    /// what can't be read.
     Curt(Header, ResponseCode),
-    /// Another version of EDNS than 0 (RFC 6891 section 6.1.3).
+    /// A version of EDNS other than 0 (RFC 6891 section 6.1.3).
     NewerEdns(Asked),
-    /// Another class than IN, or a type that isn't answered.
+    /// A class other than IN, or a type that isn't answered.
     NotImp(Asked),
     /// A NOTIFY (RFC 1996).
     Notify(Asked),
@@ -55,6 +56,7 @@ pub fn read_request(octets: &[u8]) -> Request
     }
 }
 
+/// Reads what follows the header of at least twelve octets.
 #[tactic(auto, unfolding(crate::specs::Request::with_header))]
 fn read_body(octets: &[u8], header: Header) -> Request
     requires { HEADER_OCTETS ≤ length octets.now }
@@ -101,6 +103,7 @@ fn asked_for(opcode: u16, asked: Asked) -> Request
     }
 }
 
+/// Whether a version of EDNS other than 0 is used.
 fn is_newer(edns: Option<Edns>) -> bool
     ensures { result ≡ is_newer edns }
 {
@@ -110,14 +113,14 @@ fn is_newer(edns: Option<Edns>) -> bool
     }
 }
 
-/// Whether questions of the type aren't answered (RFC 6895 section 3.1).
+/// Whether queries for the type aren't answered (RFC 6895 section 3.1).
 fn is_unasked(kind: u16) -> bool
     ensures { result ≡ is_unasked kind }
 {
     matches!(kind, TYPE_OPT | TYPE_TKEY..=TYPE_MAILA)
 }
 
-/// The question and the OPT record behind the header.
+/// The question and the OPT record after the header; none where there isn't exactly one question or they can't be read.
 fn read_asked(octets: &[u8], header: Header) -> Option<Asked>
     requires { HEADER_OCTETS ≤ length octets.now }
     ensures reads { result ≡ asked_of octets.now header (question_in octets.now) }
@@ -130,6 +133,7 @@ fn read_asked(octets: &[u8], header: Header) -> Option<Asked>
     }
 }
 
+/// The question and the OPT record, where the header counts one question; none where they can't be read.
 #[tactic(auto, unfolding(crate::specs::Request::asked_in))]
 fn read_sections(octets: &[u8], header: Header) -> Option<Asked>
     requires { HEADER_OCTETS ≤ length octets.now }
@@ -151,7 +155,8 @@ fn read_sections(octets: &[u8], header: Header) -> Option<Asked>
     })
 }
 
-/// The question behind the header, whose name has no pointer, and the offset behind it.
+/// The question after the header, whose name has no pointer, and the offset after it; none where there is no such
+/// question.
 #[tactic(auto, unfolding(crate::specs::Request::question_in))]
 fn read_question_in(octets: &[u8]) -> Option<(Question, usize)>
     ensures reads { result ≡ question_in octets.now }
@@ -172,7 +177,7 @@ fn read_question_in(octets: &[u8]) -> Option<(Question, usize)>
     }
 }
 
-/// The OPT among so many additional records.
+/// The OPT record among the given number of additional records; none where they can't be read or it isn't allowed.
 #[tactic(auto, using(crate::proofs::RequestLemmas::opt_step, crate::proofs::RequestLemmas::opt_done))]
 fn read_opt(octets: &[u8], count: u16) -> Option<Option<Edns>>
     ensures { result ≡ opt_in count octets.now None }
@@ -187,7 +192,8 @@ fn read_opt(octets: &[u8], count: u16) -> Option<Option<Edns>>
     Some(found)
 }
 
-/// One OPT record at most, and its owner is the root.
+/// Adds what one more record says. None for a second OPT record, or one whose owner name isn't the root (RFC 6891
+/// sections 6.1.1 and 6.1.2).
 #[tactic(auto, unfolding(crate::specs::Request::add_shape))]
 fn add_shape(shape: Shape, found: Option<Edns>) -> Option<Option<Edns>>
     ensures { result ≡ add_shape shape found }
@@ -201,7 +207,7 @@ fn add_shape(shape: Shape, found: Option<Edns>) -> Option<Option<Edns>>
     }
 }
 
-/// What stands behind so many octets.
+/// What follows the given number of octets.
 fn behind(octets: &[u8], count: usize) -> &[u8]
     requires { count ≤ length octets.now }
     ensures { result.now ≡ drop count octets.now }

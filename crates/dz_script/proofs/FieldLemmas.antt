@@ -1,11 +1,11 @@
--- Fields, one behind another.
+-- Fields, one after another.
 use Rattle.std.proofs.Common.{inl, inr, ◌≡◌, ℕ, ◌≤◌, Bool, true, false, List, [], ◌∷◌, length, refl, ◌∙◌, ap, arith, Option, Some, None}
 use Rattle.std.specs.Prelude.{◌==◌, nat_lt, option_map, is_some, not, IsTrue}
 use Rattle.std.specs.List.{slice_split, onto_first, position_or_len, before_first, after_first}
 use Rattle.std.proofs.lemmas.Bool.{cases_Bool, cases_lt}
 use Rattle.std.proofs.lemmas.Bool.Decides.{nat_tests}
 use Rattle.std.proofs.lemmas.List.Splits.{slice_split_first, slice_split-cons_no, length-slice_split}
-use Rattle.dz_member.specs.Peer.{cut}
+use Rattle.dz_settings.specs.Peer.{cut}
 use Rattle.dz_script.specs.Fields.{parts_of}
 use Rattle.dz_script.specs.inner.Left.{parts_left}
 

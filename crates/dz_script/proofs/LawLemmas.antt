@@ -6,7 +6,7 @@ use Rattle.std.proofs.lemmas.Bool.{cases_Bool}
 use Rattle.std.proofs.lemmas.List.Splits.{slice_split-cons_yes, slice_split-cons_no, join_with_byte-slice_split}
 use Rattle.dz_script.specs.Laws.{IsCut}
 
--- an element in front of the first part
+-- an element before the first part
 front_fails : (p : ℕ → Bool) (x : ℕ) (parts : List (List ℕ)) → p x ≡ false → list_all (λ part. list_all (λ y. not (p y)) part) parts ≡ true
     → list_all (λ part. list_all (λ y. not (p y)) part) (onto_first x parts) ≡ true
 front_fails p x [] f all = rw f refl

@@ -1,3 +1,8 @@
 pub mod FieldLemmas
 pub mod LawLemmas
 pub mod PrimaryLemmas
+pub mod WindowLemmas
+pub mod LineLemmas
+pub mod SplitLemmas
+pub mod ScriptLemmas
+pub mod RunLemmas

@@ -4,7 +4,7 @@ use Rattle.std.specs.Prelude.{nat_le}
 use Rattle.std.proofs.lemmas.Bool.Decides.{nat_tests}
 use Rattle.std.proofs.lemmas.List.{append-nil}
 use Rattle.dz_io.specs.declared.peer.Peer.{Peer}
-use Rattle.dz_member.specs.Peer.{peer_of}
+use Rattle.dz_settings.specs.Peer.{peer_of}
 use Rattle.dz_script.specs.Fields.{parts_of}
 use Rattle.dz_script.specs.Settings.{in_front, peers_of, primaries_of}
 use Rattle.dz_script.specs.inner.Left.{with_peers}

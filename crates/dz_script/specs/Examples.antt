@@ -2,20 +2,22 @@
 use Rattle.std.specs.Prelude.{◌≡◌, refl, ℕ, List, [], ◌∷◌, Some, None, codes}
 use Rattle.hex.specs.Hex.{decode_pairs}
 use Rattle.dz_io.specs.declared.peer.Peer.{Peer}
-use Rattle.dz_member.specs.declared.config.Policy.TheVariants.{Present, Require}
+use Rattle.dz_settings.specs.declared.config.Policy.TheVariants.{Present, Require}
 use Rattle.dz_name.specs.Name.{wire_of}
 use Rattle.dz_name.specs.Text.{items, labels_from, with_label, name_of_text}
 use Rattle.dz_name.specs.Words.{Name}
-use Rattle.dz_request.specs.declared.frame.Transport.TheVariants.{Udp, Tcp}
+use Rattle.dz_header.specs.declared.transport.Transport.TheVariants.{Udp, Tcp}
 use Rattle.dz_script.specs.Hex.{octets_in, taken_octets}
 use Rattle.dz_script.specs.Line.{line_of}
 use Rattle.dz_script.specs.Settings.{peers_of, primaries_of}
 use Rattle.dz_script.specs.declared.line.Event.TheVariants.{Job, Take, Fail, Ask}
 use Rattle.dz_script.specs.declared.line.Line.TheVariants.{Skip, Catalog, Group, Event}
 
+-- the name catalog.example.
 abbrev catalog_example : Name
 catalog_example = codes "catalog" ∷ codes "example" ∷ []
 
+-- an IPv4 address and a port
 abbrev host : List ℕ → ℕ → Peer
 host address port = record { address = address; port = port }
 

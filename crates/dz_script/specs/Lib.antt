@@ -6,3 +6,7 @@ pub mod Laws
 pub mod Line
 pub mod Settings
 pub mod inner
+pub mod Lines
+pub mod LineExamples
+pub mod Run
+pub mod Script

@@ -2,7 +2,7 @@
 use Rattle.std.specs.Prelude.{◌≡◌, ⊤, ℕ, ◌-◌, ◌^◌, ◌==◌, ◌||◌, Bool, nat_eq, List, [], ◌∷◌, length, codes, Option, Some, None, option_map, Result, Ok, Err, if◌then◌else◌}
 use Rattle.std.specs.List.{starts_with}
 use Rattle.std.specs.Str.{bytes_eq}
-use Rattle.dz_member.specs.Number.{number_of}
+use Rattle.dz_name.specs.Decimal.{number_of}
 use Rattle.dz_name.specs.Words.{Octets}
 use Rattle.dz_script.specs.Event.{event_of}
 use Rattle.dz_script.specs.Fields.{fields_of}
@@ -21,14 +21,16 @@ is_skipped line = length line == 0 || starts_with nat_eq line (codes "#")
 abbrev pub moment_of : Octets → Option ℕ
 moment_of text = number_of (2 ^ 40 - 1) text
 
+-- an event at its moment, where both were read
 abbrev pub event_at : Option ℕ → Option Event → Option Line
 event_at (Some moment) (Some event) = Some (lines.Event moment event)
 event_at _ _ = None
 
+-- `<moment> <event>`
 abbrev pub event_line : Octets → List Octets → Option Line
 event_line moment fields = event_at (moment_of moment) (event_of fields)
 
--- by its first field, which is a word or a moment
+-- a line that isn't skipped, by its first field, which is a word or a moment
 abbrev pub line_in : List Octets → Option Line
 line_in [] = None
 line_in (word ∷ fields) =
@@ -40,7 +42,7 @@ line_in (word ∷ fields) =
 unfoldable pub line_of : Octets → Option Line
 line_of line = if is_skipped line then Some lines.Skip else line_in (fields_of line)
 
--- just that is read of it
+-- the answer of a reader is what the line says
 abbrev pub Reads : Octets → Result Line LineError → Type 0
 Reads text (Ok line) = line_of text ≡ Some line
 Reads text (Err BadLine) = line_of text ≡ None

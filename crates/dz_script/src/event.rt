@@ -6,9 +6,9 @@ ghost use Rattle.dz_script.specs.Event.{job_of, take_of, fail_of, ask_of, event_
 use crate::fields::Fields;
 use crate::hex_text::{read_octets, read_taken};
 use crate::line::Event;
-use dz_member::{read_host, read_number};
-use dz_name::Octets;
-use dz_request::Transport;
+use dz_header::Transport;
+use dz_name::{Octets, read_number};
+use dz_settings::read_host;
 use std::alloc::{AllocError, Global};
 
 /// An event by its first field.
@@ -33,6 +33,7 @@ pub(crate) fn read_event(alloc: Global, fields: Fields<'_>) -> Result<Option<Eve
     }
 }
 
+/// `job`, with no field after it.
 fn read_job(fields: Fields<'_>) -> Option<Event>
     ensures { result ≡ job_of fields.entry }
 {
@@ -43,6 +44,7 @@ fn read_job(fields: Fields<'_>) -> Option<Event>
     }
 }
 
+/// `<ticket> <hex>`
 fn read_take(alloc: Global, fields: Fields<'_>) -> Result<Option<Event>, AllocError>
     ensures { IfOk result (λ event. event ≡ take_of fields.entry) }
 {
@@ -61,6 +63,7 @@ fn read_take(alloc: Global, fields: Fields<'_>) -> Result<Option<Event>, AllocEr
     }
 }
 
+/// `<ticket>`
 fn read_fail(fields: Fields<'_>) -> Option<Event>
     ensures { result ≡ fail_of fields.entry }
 {
@@ -73,6 +76,7 @@ fn read_fail(fields: Fields<'_>) -> Option<Event>
     }
 }
 
+/// `<address> <hex>`
 fn read_ask(
     alloc: Global,
     transport: Transport,

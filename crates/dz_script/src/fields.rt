@@ -4,7 +4,7 @@ ghost use Rattle.std.specs.Prelude.{◌≡◌, ◌∷◌, [], IsTrue, ◌↔◌,
 ghost use Rattle.dz_name.specs.Words.{Octets};
 ghost use Rattle.dz_script.specs.Fields.{parts_of, one, two, three};
 
-use dz_member::cut;
+use dz_settings::cut;
 use std::marker::Model;
 
 /// The fields that are left of a text. Contracts see the list of them.
@@ -35,13 +35,14 @@ impl<'a> Fields<'a> {
         }
     }
 
+    /// Whether no field is left.
     pub fn is_empty(&self) -> bool
         ensures { IsTrue result ↔ (self.now ≡ []) }
     {
         self.rest.is_none()
     }
 
-    /// The first field, and those behind it.
+    /// The first field, and those after it.
     pub fn split_first(self) -> Option<(&'a [u8], Fields<'a>)>
         ensures { MatchOption result (self.entry ≡ [])
             (λ parts. self.entry ≡ parts.0.now ∷ parts.1) }
@@ -60,7 +61,7 @@ impl<'a> Fields<'a> {
         }
     }
 
-    /// The one field that there is.
+    /// The one field, where there is just one.
     pub fn one(self) -> Option<&'a [u8]>
         ensures { option_map (λ field. field.now) result ≡ one self.entry }
     {
@@ -68,7 +69,7 @@ impl<'a> Fields<'a> {
         if fields.is_empty() { Some(field) } else { None }
     }
 
-    /// Two fields, where there are just as many.
+    /// Two fields, where there are just two.
     pub fn two(self) -> Option<(&'a [u8], &'a [u8])>
         ensures { option_map (λ f. (f.0.now, f.1.now)) result ≡ two self.entry }
     {
@@ -77,7 +78,7 @@ impl<'a> Fields<'a> {
         Some((first, second))
     }
 
-    /// Three fields, where there are just as many.
+    /// Three fields, where there are just three.
     pub fn three(self) -> Option<(&'a [u8], &'a [u8], &'a [u8])>
         ensures { option_map (λ f. (f.0.now, f.1.now, f.2.now)) result ≡ three self.entry }
     {

@@ -9,7 +9,7 @@ use dz_name::dns::MESSAGE_OCTETS;
 use hex::FromHexError;
 use std::alloc::{AllocError, Global};
 
-/// The octets of a message in hex, at least one and no more than a message has; none where the text is no such.
+/// The octets of a message in hex, at least one and no more than a message has; none where the text is of another form.
 #[tactic(auto, unfolding(crate::specs::Hex::octets_in))]
 pub fn read_octets(alloc: Global, text: &[u8]) -> Result<Option<Vec<u8>>, AllocError>
     ensures octets { IfOk result (λ r. option_map (λ x. x.items) r ≡ octets_in text.now) }
@@ -22,6 +22,7 @@ pub fn read_octets(alloc: Global, text: &[u8]) -> Result<Option<Vec<u8>>, AllocE
     }
 }
 
+/// The octets, where there is at least one and they are no more than a message has.
 fn within_limit(octets: Vec<u8>) -> Option<Vec<u8>>
     ensures octets { option_map (λ x. x.items) result ≡ message_octets (Ok octets.items) }
     ensures short { IfSome result (λ x. length x.items ≤ MESSAGE_OCTETS) }
@@ -48,6 +49,7 @@ pub(crate) fn read_taken(alloc: Global, text: &[u8]) -> Result<Option<Vec<u8>>, 
     }
 }
 
+/// The octets, where there is at least one.
 fn unless_empty(octets: Vec<u8>) -> Option<Vec<u8>>
     ensures { option_map (λ x. x.items) result ≡ some_octets (Ok octets.items) }
 {

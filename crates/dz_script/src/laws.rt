@@ -2,7 +2,7 @@
 
 ghost use Rattle.dz_script.specs.Laws.{FieldsAreTheLine};
 
-/// The fields of a line are the line where one space stands between each two, and no space stands in a field.
+/// The fields of a line, with one space between each two, are the line, and no field has a space.
 pub fn fields_are_the_line()
     ensures { FieldsAreTheLine }
 {}

@@ -7,10 +7,10 @@ ghost use Rattle.dz_script.specs.Line.{is_skipped, line_in, event_line, Reads};
 use crate::event::read_event;
 use crate::fields::Fields;
 use crate::settings::{read_catalog, read_group};
+use dz_header::Transport;
 use dz_io::Peer;
-use dz_member::{CatalogSettings, GroupSettings, read_number};
-use dz_name::{Name, Octets};
-use dz_request::Transport;
+use dz_name::{Name, Octets, read_number};
+use dz_settings::{CatalogSettings, GroupSettings};
 use std::alloc::{AllocError, Global};
 
 /// Moments are seconds below this: 2^40.
@@ -100,7 +100,7 @@ fn read_fields(alloc: Global, fields: Fields<'_>) -> Result<Option<Line>, AllocE
     }
 }
 
-/// An event behind its moment.
+/// An event after its moment.
 fn read_event_line(
     alloc: Global,
     moment: &[u8],

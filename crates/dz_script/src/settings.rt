@@ -1,14 +1,14 @@
 //! Catalogs and groups.
 
 ghost use Rattle.std.specs.Prelude.{◌≡◌, IfOk};
-ghost use Rattle.dz_member.specs.Peer.{policy_of, word_of};
+ghost use Rattle.dz_settings.specs.Peer.{policy_of, word_of};
 ghost use Rattle.dz_script.specs.Settings.{name_of, primaries_of, catalog_from, catalog_of, group_from, settings_of, group_of};
 
 use crate::fields::Fields;
-use dz_member::{
+use dz_name::Name;
+use dz_settings::{
     CatalogSettings, GroupSettings, Groups, PRIMARIES, Peers, read_peer, read_policy, read_word,
 };
-use dz_name::Name;
 use std::alloc::{AllocError, Global};
 
 /// `<name> <policy> <primaries>`
@@ -24,6 +24,7 @@ pub(crate) fn read_catalog(
     }
 }
 
+/// A catalog of these fields, without groups and without a key; none where a field is of another form.
 fn read_catalog_from(
     alloc: Global,
     name: &[u8],
@@ -83,6 +84,7 @@ fn read_group_settings(
     }
 }
 
+/// A group of these fields; none where a field is of another form.
 fn read_group_from(
     alloc: Global,
     word: &[u8],

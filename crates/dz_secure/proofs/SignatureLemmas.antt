@@ -1,4 +1,4 @@
--- RRSIG records of an owner stand in the order of what they cover.
+-- RRSIG records of an owner are in the order of what they cover.
 use Rattle.std.proofs.Common.{◌≡◌, ℕ, zero, suc, ◌+◌, ◌-◌, ◌<◌, ◌≤◌, Bool, true, false, List, [], ◌∷◌, length, take, drop, get_or, refl, sym, ◌∙◌, ap, arith, inl, inr}
 use Rattle.std.specs.Prelude.{filter, ◌==◌, ◌&&◌}
 use Rattle.std.specs.List.Sorted.{IsStrictlySortedBy, IsSortedBy, IsPartitionPoint}
@@ -26,7 +26,7 @@ use Rattle.dz_lookup.proofs.RunLemmas.{run_is}
 use Rattle.dz_secure.specs.Secure.{covers, signatures}
 use Rattle.dz_secure.specs.inner.Searchable.{AreSearchable}
 
--- where one list comes before another, its first elements don't come behind the other's
+-- where one list comes before another, its first elements don't come after the other's
 front_order : (n : ℕ) (a b : List ℕ) → slice_cmp nat_cmp a b ≡ Less → is_lt (slice_cmp nat_cmp (take n b) (take n a)) ≡ false
 front_order zero a b h = refl
 front_order (suc n) [] [] h = refl
@@ -91,7 +91,7 @@ are_searchable zone name kind up octets =
     (λ k d within. owner_kept (λ r. r.kind == kind) name owned (λ j e l. (same_decides (get_or owned j e).owner name).0 (passes (λ r. same_name r.owner name) zone j e l)) k d within) (λ k d within. eqb-true _ kind (passes (λ r. r.kind == kind) owned k d within)) in
     rw (records_of_is zone name up) (searchable_from_sorted label_total (λ (r : Record). take 2 r.rdata) (of_type kind owned) octets sorted)
 
--- what stands between two searches covers the type
+-- what is between two searches covers the type
 pub covers_run : (rs : List Record) (kind i j : ℕ) → i ≤ length rs → j ≤ length rs
     → IsPartitionPoint (λ r. is_lt (label_order (take 2 r.rdata) (two kind)) ≡ true) (λ r. is_lt (label_order (take 2 r.rdata) (two kind)) ≡ false) rs i
     → IsPartitionPoint (λ r. is_le (label_order (take 2 r.rdata) (two kind)) ≡ true) (λ r. is_le (label_order (take 2 r.rdata) (two kind)) ≡ false) rs j

@@ -1,4 +1,4 @@
--- Judge: pairs of serials (RFC 1982 sections 4.1 and 5), computed by the checker.
+-- Judge: pairs of serial numbers (RFC 1982 sections 4.1 and 5), computed by the checker.
 use Rattle.std.specs.Prelude.{◌≡◌, true, false, refl}
 use Rattle.dz_serial.specs.Serial.{is_newer, sum}
 
@@ -11,7 +11,7 @@ one_back = refl
 round_the_end : is_newer 4294967295 0 ≡ true
 round_the_end = refl
 
--- half the way round is 2147483648
+-- half of the serial number space is 2147483648
 one_less_than_half : is_newer 0 2147483647 ≡ true
 one_less_than_half = refl
 

@@ -1,4 +1,4 @@
-//! Serials of zones (RFC 1982): which of two is the newer, and sums. Nothing here allocates.
+//! Serial numbers of zones (RFC 1982): which of two is newer, and sums. Nothing here allocates.
 #![tactic(auto)]
 
 mod serial;

@@ -1,11 +1,11 @@
-//! Serials, numbers modulo 2^32.
+//! Serial numbers, modulo 2^32.
 ghost use Rattle.std.specs.Prelude.{◌≡◌, ◌<◌, ◌^◌};
 ghost use Rattle.dz_serial.specs.Serial.{is_newer, sum, NeverItself, NeitherHalfWay, NeverBoth, SumsAreNewer};
 
-/// Half the way round.
+/// Half of the serial number space, 2^31.
 const HALF: u32 = 0x8000_0000;
 
-/// Whether `b` is newer than `a` (RFC 1982 section 3.2). Exactly half the way round neither is.
+/// Whether `b` is newer than `a` (RFC 1982 section 3.2). At a distance of exactly 2^31 neither is.
 pub fn newer(a: u32, b: u32) -> bool
     ensures { result ≡ is_newer a b }
 {
@@ -13,7 +13,7 @@ pub fn newer(a: u32, b: u32) -> bool
     0 < ahead && ahead < HALF
 }
 
-/// A serial and so many more, modulo 2^32 (RFC 1982 section 3.1).
+/// A serial number plus `n`, modulo 2^32 (RFC 1982 section 3.1).
 pub fn add(serial: u32, n: u32) -> u32
     requires { n < 2 ^ 31 }
     ensures { result ≡ sum serial n }
@@ -21,22 +21,22 @@ pub fn add(serial: u32, n: u32) -> u32
     serial.wrapping_add(n)
 }
 
-/// Nothing is newer than itself.
+/// No serial number is newer than itself.
 pub fn never_itself()
     ensures { NeverItself }
 {}
 
-/// Exactly half the way round from a serial, neither is newer.
+/// Of two serial numbers at a distance of exactly 2^31 neither is newer.
 pub fn neither_half_way()
     ensures { NeitherHalfWay }
 {}
 
-/// Of two serials only one is newer than the other.
+/// Of two serial numbers only one is newer than the other.
 pub fn never_both()
     ensures { NeverBoth }
 {}
 
-/// What is added to a serial, at least 1 and below half the way round, makes a newer one.
+/// Adding at least 1 and less than 2^31 to a serial number makes a newer one.
 pub fn sums_are_newer()
     ensures { SumsAreNewer }
 {}

@@ -20,10 +20,10 @@ use Rattle.dz_query.specs.Links.{Visit, links_of, all_served, starved_at, AreVis
 use Rattle.dz_query.specs.declared.links.LinksEnd.{LinksEnd}
 use Rattle.dz_query.specs.declared.links.LinksEnd.TheVariants as links_ends
 use Rattle.dz_query.proofs.LinkLemmas.{visits_later}
-use Rattle.dz_work.specs.Serving.{Dial, IsServed, IsTransfers}
-use Rattle.dz_work.specs.Serving as work
-use Rattle.dz_work.proofs.StepLemmas.{served_later, served_sooner}
-use Rattle.dz_work.specs.declared.serving.Transfers.{Transfers}
+use Rattle.dz_transfer.specs.Serving.{Dial, IsServed, IsTransfers}
+use Rattle.dz_transfer.specs.Serving as work
+use Rattle.dz_transfer.proofs.StepLemmas.{served_later, served_sooner}
+use Rattle.dz_transfer.specs.declared.serve.Transfers.{Transfers}
 use Rattle.dz_serve.specs.Workers.{HasListened, HasLinked, HasTransferred}
 use Rattle.dz_serve.specs.Ends.{is_whole, has_closed}
 use Rattle.dz_serve.specs.Runs.{IsExchanged, IsAccepted, IsDialled, IsRun}
@@ -181,14 +181,14 @@ transferred_run done may_stop before after old now first later some begins p fre
     dialled_over done.dialed (length before.list) after.list later old now (seen_one first before.list some begins) p
     fresh.undialled fresh.faultless h.transfers
 
-pub is_run : (how : ServeEnd) (downstream : List Octets) (may_fail : Type 0) (may_give : ℕ → Bool) (list : List Entry) (before after : Rows) (w1 w2 c1 c2 s1 s2 d1 d2 : Bool) (one two : Exchange) (three four : Accepts) (five six : Dials)
+pub is_run : (must_dial : Bool) (how : ServeEnd) (downstream : List Octets) (may_fail : Type 0) (may_give : ℕ → Bool) (list : List Entry) (before after : Rows) (w1 w2 c1 c2 s1 s2 d1 d2 : Bool) (one two : Exchange) (three four : Accepts) (five six : Dials)
     → after.datagrams ≡ both_back one two before.datagrams → after.acceptors ≡ both_back three four before.acceptors → after.dialers ≡ both_back five six before.dialers
     → IsExchanged w1 may_fail may_give list one → IsExchanged w2 may_fail may_give list two
     → IsAccepted c1 s1 downstream may_fail may_give list three → IsAccepted c2 s2 downstream may_fail may_give list four
     → IsDialled d1 list five → IsDialled d2 list six
-    → (how ≡ ends.Done → (w1 ≡ true) × (w2 ≡ true) × (c1 ≡ true) × (c2 ≡ true) × (s1 ≡ false) × (s2 ≡ false) × ((d1 ≡ true) ⊎ (d2 ≡ true)))
-    → IsRun how downstream may_fail may_give list before after
-is_run how downstream may_fail may_give list before after w1 w2 c1 c2 s1 s2 d1 d2 one two three four five six d a l e1 e2 a1 a2 i1 i2 done = record {
+    → (how ≡ ends.Done → (w1 ≡ true) × (w2 ≡ true) × (c1 ≡ true) × (c2 ≡ true) × (s1 ≡ false) × (s2 ≡ false) × (must_dial ≡ true → (d1 ≡ true) ⊎ (d2 ≡ true)))
+    → IsRun must_dial how downstream may_fail may_give list before after
+is_run must_dial how downstream may_fail may_give list before after w1 w2 c1 c2 s1 s2 d1 d2 one two three four five six d a l e1 e2 a1 a2 i1 i2 done = record {
   whole_one = w1;
   whole_two = w2;
   closed_one = c1;

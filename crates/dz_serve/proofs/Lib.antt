@@ -1,3 +1,4 @@
+pub mod CrossLemmas
 pub mod EndLemmas
 pub mod RowLemmas
 pub mod RunLemmas

@@ -1,24 +1,31 @@
 -- What came of the command.
-use Rattle.std.proofs.Common.{◌≡◌, ◌⊎◌, inl, inr, ℕ, ◌+◌, ◌<◌, ◌≤◌, Bool, true, false, List, [], ◌∷◌, ◌++◌, length, take, slice_get, Option, None, Some, Ok, Err, refl, sym, ap, ◌∙◌, arith}
-use Rattle.std.specs.Prelude.{IfSome, MatchBool, ◌≢◌}
+use Rattle.std.proofs.Common.{◌≡◌, ◌⊎◌, inl, inr, ℕ, ◌+◌, ◌<◌, ◌≤◌, Bool, true, false, List, [], ◌∷◌, ◌++◌, length, take, slice_get, Option, None, Some, Result, Ok, Err, ⊎_elim, refl, sym, ap, subst, ◌∙◌, arith}
+use Rattle.std.specs.Prelude.{IfSome, MatchBool, ◌≢◌, is_none, is_some, not}
 use mathlib.Core.List.{IsPrefix}
 use Rattle.dz_name.specs.Words.{Octets}
 use Rattle.dz_io.specs.Counts.{HasRisen}
 use Rattle.dz_io.specs.Device.{Tells}
-use Rattle.dz_io.specs.Ports.{Exchange, Accepts, Dials, IsFreshExchange, IsFreshAccepts, IsFreshDials, place}
+use Rattle.dz_io.specs.declared.ports.Place.{Place}
+use Rattle.dz_io.specs.Ports.{Row, Exchange, Accepts, Dials, IsFreshExchange, IsFreshAccepts, IsFreshDials, place}
 use Rattle.dz_io.specs.declared.peer.Peer.{Peer}
-use Rattle.dz_member.specs.declared.config.CatalogSettings.{CatalogSettings}
+use Rattle.dz_settings.specs.declared.config.CatalogSettings.{CatalogSettings}
 use Rattle.dz_config.specs.declared.fault.ConfigFault.{ConfigFault}
 use Rattle.dz_history.specs.declared.entry.Entry.{Entry}
 use Rattle.dz_history.specs.declared.entry.Entry.TheVariants.{Setup}
 use Rattle.dz_history.specs.Legal.{IsLegal}
+use Rattle.dz_desk.specs.Seen.{Book, Viewed}
+use Rattle.dz_fleet.specs.Core.{Core}
+use Rattle.dz_provision.specs.Held.{Held, IsSaid}
+use Rattle.dz_provision.specs.declared.provisioner.LogFault.{LogFault}
 use Rattle.dz_provision.specs.Log.{IsLog, IsLogged}
 use Rattle.dz_provision.specs.Journal.{journal_from}
 use Rattle.dz_query.proofs.GainLemmas.{tells_gained}
 use Rattle.dz_serve.specs.Command.{bad_config, SaysBad, HasFault, IsIdle, IsServe}
 use Rattle.dz_serve.specs.Ends.{is_write_fault}
-use Rattle.dz_serve.specs.Rows.{Rows, rows, AreUnused, both_at, both_made, both_back}
-use Rattle.dz_serve.specs.Runs.{IsListOf}
+use Rattle.dz_serve.specs.Rows.{Rows, rows, AreUnused, both_at, both_made, both_back, opened_at}
+use Rattle.dz_serve.specs.Runs.{HasRun, IsListOf, IsRun}
+use Rattle.dz_serve.specs.Runs as runs
+use Rattle.dz_serve.specs.Workers.{IsSeated}
 use Rattle.dz_serve.specs.declared.status.ServeEnd.{ServeEnd}
 use Rattle.dz_serve.specs.declared.status.ServeEnd.TheVariants as ends
 use Rattle.dz_serve.proofs.RowLemmas.{unused_none, unused_two}
@@ -56,22 +63,116 @@ both_used listen before after one two three four five six f1 f2 f3 f4 f5 f6 d a 
 }
 
 -- ---- a list that begins with a configuration
-pub begins_with : (config : List CatalogSettings) (first list : List Entry) → IsLegal list → first ≡ Setup config ∷ [] → IsPrefix first list → IsListOf config list
-begins_with config first list legal is p = record {
-  legal = legal;
-  begins = first_of (rw is at p.1);
-}
-  where
-    first_of : Setup config ∷ p.0 ≡ list → slice_get list 0 ≡ Some (Setup config)
-    first_of same = rw (sym same) refl
+pub begins_at : (list later : List Entry) (e : Entry) → slice_get list 0 ≡ Some e → IsPrefix list later → slice_get later 0 ≡ Some e
+begins_at [] later e is p = absurd (cc is)
+begins_at (x ∷ list) later e is p = subst (λ l. slice_get l 0 ≡ Some e) p.1 is
 
-pub some_first : (config : List CatalogSettings) (first : List Entry) → first ≡ Setup config ∷ [] → 0 < length first
-some_first config first is = rw is (omega arith)
+-- what a reading has seen begins with the entry with which the list began
+pub same_first : (old front later new : List Entry) (e : Entry) → IsPrefix old front → IsPrefix front later → IsPrefix new later → 0 < length new → slice_get old 0 ≡ Some e → slice_get new 0 ≡ Some e
+same_first old front later [] e p q s some is = absurd (omega (arith, some))
+same_first old front later (x ∷ new) e p q s some is =
+    subst (λ l. slice_get l 0 ≡ Some e) (sym s.1) (begins_at front later e (begins_at old front e is p) q)
+
+pub first_opened : (config : List CatalogSettings) (first : List Entry) → first ≡ Setup config ∷ [] → slice_get first 0 ≡ Some (Setup config)
+first_opened config first is = rw is refl
+
+pub begun_of : (config : List CatalogSettings) (list : List Entry) → slice_get list 0 ≡ Some (Setup config) → list ≢ []
+begun_of config list first empty = absurd (cc (subst (λ (l : List Entry). slice_get l 0 ≡ Some (Setup config)) empty first))
+
+pub some_begun : (config : List CatalogSettings) (list : List Entry) → slice_get list 0 ≡ Some (Setup config) → 0 < length list
+some_begun config [] first = absurd (cc first)
+some_begun config (x ∷ list) first = omega arith
+
+pub listed_as : (config : List CatalogSettings) (list other : List Entry) → other ≡ list → IsLegal list → slice_get list 0 ≡ Some (Setup config) → IsListOf config other
+listed_as config list other same legal first = record { legal = rw same legal; begins = rw same first }
+
+-- a line that is said leaves the core as it is
+pub said_core : (h : Held) (line : Octets) (result : Result (Unit {0}) LogFault) (k : Held) → IsSaid h line result k → k.core ≡ h.core
+unfolding IsSaid
+said_core h line (Ok done) k said = said.core
+said_core h line (Err fault) k said = ⊎_elim (λ stays. ap (λ (x : Held). x.core) stays.same) (λ breaks. breaks.core) said
+
+pub same_begun : (c d : Core) (e : Entry) → d ≡ c → slice_get c.list 0 ≡ Some e → slice_get d.list 0 ≡ Some e
+same_begun c d e same is = subst (λ (x : Core). slice_get x.list 0 ≡ Some e) (sym same) is
+
+pub same_legal : (c d : Core) → d ≡ c → IsLegal c.list → IsLegal d.list
+same_legal c d same legal = subst (λ (x : Core). IsLegal x.list) (sym same) legal
+
+pub seated_on : (book : Book) (old new : Viewed) → new ≡ record old { list = new.list } → IsSeated book old → IsSeated book new
+seated_on book old new same seated = record {
+  rests = ap (λ (v : Viewed). v.is_out) same ∙ seated.rests;
+  own = ap (λ (v : Viewed). v.book) same ∙ seated.own;
+}
+
+-- ---- a disk, or none
+pub some_is : {T : Type 0} (o : Option T) → (o ≡ None → ⊥) → is_some o ≡ true
+some_is None never = absurd (never refl)
+some_is (Some x) never = refl
+
+pub err_not_ok : {A E : Type 0} (e : E) (a : A) → Err e ≡ Ok a → ⊥
+err_not_ok e a is = cc is
+
+pub ok_same : {A E : Type 0} (a b : A) → ◌≡◌ {A = Result A E} (Ok a) (Ok b) → a ≡ b
+ok_same a b is = cc is
+
+-- what a test of a store says
+pub dials_so : {T : Type 0} (store : Option T) (must : Bool) → is_some store ≡ not must → is_none store ≡ true → must ≡ true
+dials_so None true test none = refl
+dials_so None false test none = absurd (cc test)
+dials_so (Some s) must test none = absurd (cc none)
+
+-- a server that has dialed need not have
+eased : (how : ServeEnd) (downstream : List Octets) (may_fail : Type 0) (may_give : ℕ → Bool) (list : List Entry) (before after : Rows) → IsRun true how downstream may_fail may_give list before after
+    → IsRun false how downstream may_fail may_give list before after
+eased how downstream may_fail may_give list before after run = record {
+  whole_one = run.whole_one;
+  whole_two = run.whole_two;
+  closed_one = run.closed_one;
+  closed_two = run.closed_two;
+  starved_one = run.starved_one;
+  starved_two = run.starved_two;
+  dialed_one = run.dialed_one;
+  dialed_two = run.dialed_two;
+  one = run.one;
+  two = run.two;
+  three = run.three;
+  four = run.four;
+  five = run.five;
+  six = run.six;
+  datagrams = run.datagrams;
+  acceptors = run.acceptors;
+  dialers = run.dialers;
+  exchanged_one = run.exchanged_one;
+  exchanged_two = run.exchanged_two;
+  accepted_one = run.accepted_one;
+  accepted_two = run.accepted_two;
+  dialled_one = run.dialled_one;
+  dialled_two = run.dialled_two;
+  done = λ is. let d = run.done is in (d.0, d.1, d.2, d.3, d.4, d.5, λ must. d.6 refl);
+}
+
+-- a server ran that has to dial where it has no store
+ran_by : {T S : Type 0} (disk : Option T) (store : Option S) (how : ServeEnd) (downstream : List Octets) (may_fail : Type 0) (may_give : ℕ → Bool) (list : List Entry) (listen : Peer) (before after : Rows)
+    → (disk ≡ None → store ≡ None) → IsRun (is_none store) how downstream may_fail may_give list (opened_at listen before) after → HasRun (is_some disk) how downstream may_fail may_give list listen before after
+ran_by None None how downstream may_fail may_give list listen before after none run = runs.ran run
+ran_by None (Some s) how downstream may_fail may_give list listen before after none run = absurd (cc (none refl))
+ran_by (Some d) None how downstream may_fail may_give list listen before after none run = runs.ran (eased how downstream may_fail may_give list (opened_at listen before) after run)
+ran_by (Some d) (Some s) how downstream may_fail may_give list listen before after none run = runs.ran run
+
+pub ran_as : {T S : Type 0} (disk : Option T) (store : Option S) (how : ServeEnd) (downstream : List Octets) (may_fail : Type 0) (may_give : ℕ → Bool) (list : List Entry) (listen : Peer) (before after : Rows)
+    (x : Row Place Exchange) (y : Row Place Accepts) (z : Row ℕ Dials) → (disk ≡ None → store ≡ None)
+    → x ≡ both_at listen before.datagrams → y ≡ both_at listen before.acceptors → z ≡ both_made before.dialers
+    → IsRun (is_none store) how downstream may_fail may_give list (rows x y z) after → HasRun (is_some disk) how downstream may_fail may_give list listen before after
+ran_as disk store how downstream may_fail may_give list listen before after x y z none d a l run =
+    let one = subst (λ v. IsRun (is_none store) how downstream may_fail may_give list (rows v y z) after) d run in
+    let two = subst (λ v. IsRun (is_none store) how downstream may_fail may_give list (rows (both_at listen before.datagrams) v z) after) a one in
+    let three = subst (λ v. IsRun (is_none store) how downstream may_fail may_give list (rows (both_at listen before.datagrams) (both_at listen before.acceptors) v) after) l two in
+    ran_by disk store how downstream may_fail may_give list listen before after none three
 
 -- ---- the command
-pub not_served : (how : ServeEnd) (may_fail : Type 0) (may_give : ℕ → Bool) (may_stop : Bool) (input held : Option Octets) (list : List Entry) (r : Rows)
-    → list ≡ [] → IsIdle how input held → how ≢ ends.Done → IsServe how may_fail may_give may_stop input held list r r
-not_served how may_fail may_give may_stop input held list r empty idle undone = record {
+pub not_served : (keeps : Bool) (how : ServeEnd) (may_fail : Type 0) (may_give : ℕ → Bool) (may_stop : Bool) (input held : Option Octets) (list : List Entry) (r : Rows)
+    → list ≡ [] → IsIdle how input held → how ≢ ends.Done → IsServe keeps how may_fail may_give may_stop input held list r r
+not_served keeps how may_fail may_give may_stop input held list r empty idle undone = record {
   unserved = λ _. (idle, none_used r);
   served = λ some. absurd (some empty);
   done = λ is. absurd (undone is);
@@ -94,10 +195,10 @@ bad_undone ends.ReadFault fault first held said is = cc is
 bad_undone ends.PortFault fault first held said is = cc is
 bad_undone ends.NoMemory fault first held said is = cc is
 
-pub bad_served : (how : ServeEnd) (may_fail : Type 0) (may_give : ℕ → Bool) (may_stop : Bool) (input first held : Option Octets) (fault : ConfigFault) (list : List Entry) (r : Rows)
-    → list ≡ [] → HasFault input fault → IfSome first (λ text. text ≡ []) → SaysBad fault how first held → IsServe how may_fail may_give may_stop input held list r r
-bad_served how may_fail may_give may_stop input first held fault list r empty has none said =
-    not_served how may_fail may_give may_stop input held list r empty (bad_idle how fault input first held has none said) (bad_undone how fault first held said)
+pub bad_served : (keeps : Bool) (how : ServeEnd) (may_fail : Type 0) (may_give : ℕ → Bool) (may_stop : Bool) (input first held : Option Octets) (fault : ConfigFault) (list : List Entry) (r : Rows)
+    → list ≡ [] → HasFault input fault → IfSome first (λ text. text ≡ []) → SaysBad fault how first held → IsServe keeps how may_fail may_give may_stop input held list r r
+bad_served keeps how may_fail may_give may_stop input first held fault list r empty has none said =
+    not_served keeps how may_fail may_give may_stop input held list r empty (bad_idle how fault input first held has none said) (bad_undone how fault first held said)
 
 never_risen : HasRisen 0 0 → ⊥
 never_risen (inl h) = omega (arith, h)

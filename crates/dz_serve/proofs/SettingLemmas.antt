@@ -5,8 +5,8 @@ use Rattle.std.specs.Prelude.{nat_lt, not, if◌then◌else◌}
 use Rattle.std.specs.Option.{option_map}
 use Rattle.toml.specs.Data.{Members}
 use Rattle.dz_io.specs.declared.peer.Peer.{Peer}
-use Rattle.dz_member.specs.declared.config.CatalogSettings.{CatalogSettings}
-use Rattle.dz_member.specs.Config.{is_within_limits, has_each_once, has_secrets, IsAllowed}
+use Rattle.dz_settings.specs.declared.config.CatalogSettings.{CatalogSettings}
+use Rattle.dz_settings.specs.Config.{is_within_limits, has_each_once, has_secrets, IsAllowed}
 use Rattle.dz_name.specs.Words.{Octets}
 use Rattle.dz_io.specs.Device.{Gains, GainsPrefix, IsAtEnd}
 use Rattle.dz_config.specs.declared.fault.ConfigFault.{ConfigFault}

@@ -3,7 +3,7 @@ use Rattle.std.specs.Prelude.{⊤, ◌≡◌, ◌≢◌, ◌≤◌, ◌+◌, ℕ
 use Rattle.dz_name.specs.Words.{Octets}
 use Rattle.dz_io.specs.Device.{Gains, GainsPrefix, Gives, IsAtEnd, Tells}
 use Rattle.dz_io.specs.declared.peer.Peer.{Peer}
-use Rattle.dz_member.specs.declared.config.CatalogSettings.{CatalogSettings}
+use Rattle.dz_settings.specs.declared.config.CatalogSettings.{CatalogSettings}
 use Rattle.dz_history.specs.declared.entry.Entry.{Entry}
 use Rattle.dz_provision.specs.Log.{IsLogged}
 use Rattle.dz_config.specs.Config.{Reads, ReadsDownstream}
@@ -13,11 +13,11 @@ use Rattle.dz_config.specs.declared.fault.ConfigFault.{ConfigFault}
 use Rattle.dz_config.specs.declared.fault.ConfigError.{ConfigError}
 use Rattle.dz_config.specs.declared.fault.ConfigError.TheVariants.{Fault, OutOfMemory}
 use Rattle.dz_serve.specs.Ends.{is_write_fault}
-use Rattle.dz_serve.specs.Rows.{Rows, AreUnused, opened_at}
-use Rattle.dz_serve.specs.Runs.{IsRun, IsListOf}
+use Rattle.dz_serve.specs.Rows.{Rows, AreUnused}
+use Rattle.dz_serve.specs.Runs.{HasRun, IsListOf}
 use Rattle.dz_serve.specs.declared.status.ServeEnd.{ServeEnd}
 use Rattle.dz_serve.specs.declared.status.ServeEnd.TheVariants as ends
-use Rattle.dz_serve.specs.declared.serving.Setting.{Setting}
+use Rattle.dz_serve.specs.declared.served.Setting.{Setting}
 use Rattle.dz_serve.specs.declared.command.Unset.{Unset}
 use Rattle.dz_serve.specs.declared.command.Unset.TheVariants as unset
 
@@ -26,15 +26,15 @@ pub record IsText (text : Octets) (before after : Option Octets) : Type 0 where
   pub gives : Gives text before after
   pub all : length text ≤ TEXT_OCTETS → IsAtEnd after
 
--- what was read of a text: its configuration and the addresses to which zones are sent, or its fault; want of memory tells
--- nothing
+-- what was read from a text: its configuration and the addresses to which zones are sent, or its fault; where memory
+-- runs out, nothing is told
 abbrev pub IsSetting : Octets → Result Setting ConfigError → Type 0
 IsSetting octets (Ok setting) = Reads octets (Ok (setting.listen, setting.config)) × ReadsDownstream octets (Ok setting.downstream)
 IsSetting octets (Err (Fault fault)) = Reads octets (Err (Fault fault))
 IsSetting octets (Err OutOfMemory) = ⊤
 
--- what was read of an input with these octets: its configuration and the addresses to which zones are sent, or its fault; a fault of the source and want of memory
--- tell nothing
+-- what was read from an input with these octets: its configuration and the addresses to which zones are sent, or its
+-- fault; where the source fails or memory runs out, nothing is told
 abbrev pub IsSettingOf : Octets → Result Setting Unset → Type 0
 IsSettingOf octets (Ok setting) = Reads octets (Ok (setting.listen, setting.config)) × ReadsDownstream octets (Ok setting.downstream)
 IsSettingOf octets (Err (unset.Bad fault)) = Reads octets (Err (Fault fault))
@@ -62,21 +62,22 @@ IsIdle ends.BadInput input held = (fault : ConfigFault) × HasFault input fault 
 IsIdle ends.WriteFault input held = (fault : ConfigFault) × HasFault input fault × ((n : ℕ) × Tells (take n (bad_config fault)) held)
 IsIdle how input held = Tells [] held
 
--- a server ran with the configuration of the input and sent zones to the addresses that it has: the list begins with the
--- configuration, and the log of the list is written
-pub record IsServed (how : ServeEnd) (may_fail : Type 0) (may_give : ℕ → Bool) (input held : Option Octets) (list : List Entry) (before after : Rows) : Type 0 where
+-- a server ran with the configuration of the input and sent zones to the addresses that it has: the list begins with
+-- the configuration, and the log of the list is written
+pub record IsServed (keeps : Bool) (how : ServeEnd) (may_fail : Type 0) (may_give : ℕ → Bool) (input held : Option Octets) (list : List Entry) (before after : Rows) : Type 0 where
   pub listen : Peer
   pub config : List CatalogSettings
   pub downstream : List Octets
   pub reads : (octets : Octets) → input ≡ Some octets → Reads octets (Ok (listen, config))
   pub lists : (octets : Octets) → input ≡ Some octets → ReadsDownstream octets (Ok downstream)
   pub begins : IsListOf config list
-  pub run : IsRun how downstream may_fail may_give list (opened_at listen before) after
+  pub run : HasRun keeps how downstream may_fail may_give list listen before after
   pub logged : IsLogged list held (is_write_fault how)
 
--- what came of the command: no worker was started, the list has no entry, and what was opened is closed; or a server ran
-pub record IsServe (how : ServeEnd) (may_fail : Type 0) (may_give : ℕ → Bool) (may_stop : Bool) (input held : Option Octets) (list : List Entry) (before after : Rows) : Type 0 where
+-- what came of the command, of a server that keeps zones or not: no worker was started, the list has no entry, and what
+-- was opened is closed; or the list has begun
+pub record IsServe (keeps : Bool) (how : ServeEnd) (may_fail : Type 0) (may_give : ℕ → Bool) (may_stop : Bool) (input held : Option Octets) (list : List Entry) (before after : Rows) : Type 0 where
   pub unserved : list ≡ [] → IsIdle how input held × AreUnused before after
-  pub served : list ≢ [] → IsServed how may_fail may_give input held list before after
+  pub served : list ≢ [] → IsServed keeps how may_fail may_give input held list before after
   pub done : how ≡ ends.Done → (list ≢ []) × (may_stop ≡ true)
   pub bad : how ≡ ends.BadInput → (list ≡ []) × (after ≡ before)

@@ -18,7 +18,7 @@ abbrev pub has_closed : LinksEnd → Bool
 has_closed (links_ends.Closed starved) = true
 has_closed (links_ends.Failed starved) = false
 
--- a write to the log failed
+-- serving ended since a write to the log failed
 abbrev pub is_write_fault : ServeEnd → Bool
 is_write_fault ends.WriteFault = true
 is_write_fault end = false

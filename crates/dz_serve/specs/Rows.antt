@@ -33,6 +33,7 @@ pub record Rows : Type 0 where
   pub acceptors : Row Place Accepts
   pub dialers : Row ℕ Dials
 
+-- these three as one record
 abbrev pub rows : Row Place Exchange → Row Place Accepts → Row ℕ Dials → Rows
 rows datagrams acceptors dialers = record { datagrams = datagrams; acceptors = acceptors; dialers = dialers }
 

@@ -1,25 +1,26 @@
 -- Meaning: what a run of a server shows: of its list of taken transfers, and of each device that it opened.
-use Rattle.std.specs.Prelude.{◌≡◌, ◌⊎◌, ℕ, Bool, true, false, List, Option, Some, slice_get}
+use Rattle.std.specs.Prelude.{⊤, ◌≡◌, ◌⊎◌, ℕ, Bool, true, false, not, List, Option, Some, slice_get}
 use Rattle.std.specs.List.{AllByRecursion}
 use Rattle.dz_name.specs.Words.{Octets}
 use Rattle.dz_io.specs.Counts.{HasRisen, HasRisenBy}
 use Rattle.dz_io.specs.Device.{Tells}
 use Rattle.dz_io.specs.Ports.{Exchange, Accepts, Dials}
-use Rattle.dz_member.specs.declared.config.CatalogSettings.{CatalogSettings}
+use Rattle.dz_settings.specs.declared.config.CatalogSettings.{CatalogSettings}
 use Rattle.dz_history.specs.declared.entry.Entry.{Entry}
 use Rattle.dz_history.specs.declared.entry.Entry.TheVariants.{Setup}
 use Rattle.dz_history.specs.Legal.{IsLegal}
 use Rattle.dz_query.specs.Served.{Served, requests, replies, losses, AreInTurn}
 use Rattle.dz_query.specs.Links.{Visit, IsVisit, links_of, all_served, some_starved}
-use Rattle.dz_work.specs.Serving.{Dial, IsServed, link_faults, DialsShow, LogFaultIsLast}
-use Rattle.dz_work.specs.Serving as work
-use Rattle.dz_serve.specs.Rows.{Rows, both_back}
+use Rattle.dz_transfer.specs.Serving.{Dial, IsServed, link_faults, DialsShow, LogFaultIsLast}
+use Rattle.dz_transfer.specs.Serving as work
+use Rattle.dz_io.specs.declared.peer.Peer.{Peer}
+use Rattle.dz_serve.specs.Rows.{Rows, AreUnused, both_back, opened_at}
 use Rattle.dz_serve.specs.declared.status.ServeEnd.{ServeEnd}
 use Rattle.dz_serve.specs.declared.status.ServeEnd.TheVariants as ends
 
--- a datagram device: each packet that came was answered, at a moment that the clock may give, by a beginning of the list;
--- the beginnings never shrink, and each has the configuration. It is whole where the device has closed and no reply is
--- missing but to a NOTIFY that the log may have kept from being heard
+-- a datagram device: each packet that came was answered, at a moment that the clock may give, by a beginning of the
+-- list; the beginnings never shrink, and each has the configuration. It is whole where the device has closed and no
+-- reply is missing but to a NOTIFY that the log may have kept from being heard
 pub record IsExchanged (is_whole : Bool) (may_fail : Type 0) (may_give : ℕ → Bool) (list : List Entry) (x : Exchange) : Type 0 where
   pub served : List Served
   pub turns : AreInTurn may_fail may_give false 1 list served
@@ -30,7 +31,7 @@ pub record IsExchanged (is_whole : Bool) (may_fail : Type 0) (may_give : ℕ →
   pub faulty : is_whole ≡ false → HasRisen 0 x.faults
 
 -- an acceptor: the same of the requests over its links, of all links in their order; zones are sent to the addresses of
--- `downstream`. It is starved where one of its links was starved of memory
+-- `downstream`. It is starved where one of its links ran out of memory
 pub record IsAccepted (has_closed starved : Bool) (downstream : List Octets) (may_fail : Type 0) (may_give : ℕ → Bool) (list : List Entry) (y : Accepts) : Type 0 where
   pub visits : List Visit
   pub links : Tells (links_of visits) y.links
@@ -49,8 +50,8 @@ pub record IsDialled (dialed : Bool) (list : List Entry) (z : Dials) : Type 0 wh
   pub shown : DialsShow dialed dials 0 z.faults
   pub last : LogFaultIsLast dials
 
--- two devices of each kind were served and given back
-pub record IsRun (how : ServeEnd) (downstream : List Octets) (may_fail : Type 0) (may_give : ℕ → Bool) (list : List Entry) (before after : Rows) : Type 0 where
+-- two devices of each kind were served and given back; where it must, one of them has dialed
+pub record IsRun (must_dial : Bool) (how : ServeEnd) (downstream : List Octets) (may_fail : Type 0) (may_give : ℕ → Bool) (list : List Entry) (before after : Rows) : Type 0 where
   pub whole_one : Bool
   pub whole_two : Bool
   pub closed_one : Bool
@@ -75,9 +76,23 @@ pub record IsRun (how : ServeEnd) (downstream : List Octets) (may_fail : Type 0)
   pub dialled_one : IsDialled dialed_one list five
   pub dialled_two : IsDialled dialed_two list six
   pub done : how ≡ ends.Done → (whole_one ≡ true) × (whole_two ≡ true) × (closed_one ≡ true) × (closed_two ≡ true)
-      × (starved_one ≡ false) × (starved_two ≡ false) × ((dialed_one ≡ true) ⊎ (dialed_two ≡ true))
+      × (starved_one ≡ false) × (starved_two ≡ false)
+      × (must_dial ≡ true → (dialed_one ≡ true) ⊎ (dialed_two ≡ true))
 
--- the list that a run leaves can come about, and begins with the configuration
+-- an end before a worker started: a line of the log could not be written, or memory ran out
+abbrev pub IsHalt : ServeEnd → Type 0
+IsHalt ends.WriteFault = ⊤
+IsHalt ends.NoMemory = ⊤
+IsHalt how = ⊥
+
+-- what came of a server whose list has begun: its devices were served; or, only where it keeps zones, it ended before a
+-- worker started, and what was opened came back unused. A server that keeps zones need not dial: those that it was
+-- given back may not be due
+pub data HasRun (keeps : Bool) (how : ServeEnd) (downstream : List Octets) (may_fail : Type 0) (may_give : ℕ → Bool) (list : List Entry) (listen : Peer) (before after : Rows) : Type 0 where
+  ran : IsRun (not keeps) how downstream may_fail may_give list (opened_at listen before) after → HasRun keeps how downstream may_fail may_give list listen before after
+  halted : keeps ≡ true → IsHalt how → AreUnused before after → HasRun keeps how downstream may_fail may_give list listen before after
+
+-- the list that a run leaves is legal, and begins with the configuration
 pub record IsListOf (config : List CatalogSettings) (list : List Entry) : Type 0 where
   pub legal : IsLegal list
   pub begins : slice_get list 0 ≡ Some (Setup config)

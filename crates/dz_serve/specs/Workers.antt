@@ -10,9 +10,9 @@ use Rattle.dz_query.specs.Session.{Told, IsSession, HasClosed}
 use Rattle.dz_query.specs.declared.datagrams.SessionEnd.{SessionEnd}
 use Rattle.dz_query.specs.Links.{AreVisits, AcceptsUntil, links_told, starved_at}
 use Rattle.dz_query.specs.declared.links.LinksEnd.{LinksEnd}
-use Rattle.dz_work.specs.Serving.{IsTransfers}
-use Rattle.dz_work.specs.declared.serving.Transfers.{Transfers}
-use Rattle.dz_work.specs.declared.serving.TransferEnd.TheVariants as transfer_ends
+use Rattle.dz_transfer.specs.Serving.{IsTransfers}
+use Rattle.dz_transfer.specs.declared.serve.Transfers.{Transfers}
+use Rattle.dz_transfer.specs.declared.serve.TransferEnd.TheVariants as transfer_ends
 
 -- a reading that has seen more, and is at rest
 pub record HasSeenMore (before after : Viewed) : Type 0 where
@@ -32,7 +32,7 @@ pub record HasLinked (ending : LinksEnd) (downstream : List Octets) (may_fail : 
   pub visits : AreVisits (starved_at ending) downstream may_fail may_give (length before.list) after.list (links_told old.links before.sights given) (links_told now.links after.sights told)
   pub until : AcceptsUntil ending now.is_closed old.faults now.faults
 
--- a transfer worker
+-- a transfer worker: its transfers, by a list that has all that its reading had seen
 pub record HasTransferred (done : Transfers) (may_stop : Bool) (before after : Viewed) (old now : Dials) : Type 0 where
   pub more : HasSeenMore before after
   pub transfers : IsTransfers done.dialed (length before.list) after.list old.links now.links old.faults now.faults
@@ -42,6 +42,15 @@ pub record HasTransferred (done : Transfers) (may_stop : Bool) (before after : V
 pub record IsSeated (book : Book) (reading : Viewed) : Type 0 where
   pub rests : reading.is_out ≡ false
   pub own : reading.book ≡ book
+
+-- six readings of this book, all at rest
+pub record AreSeated (book : Book) (one two three four five six : Viewed) : Type 0 where
+  pub first : IsSeated book one
+  pub second : IsSeated book two
+  pub third : IsSeated book three
+  pub fourth : IsSeated book four
+  pub fifth : IsSeated book five
+  pub sixth : IsSeated book six
 
 -- a worker was given this reading, this device and this clock
 abbrev pub IsMadeOf : {D C : Type 0} → Viewed → D → C → Viewed → D → C → Type 0

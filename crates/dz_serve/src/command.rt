@@ -1,13 +1,13 @@
 //! The command `serve`.
 
-ghost use Rattle.std.specs.Prelude.{◌≡◌, ◌≢◌, ◌≤◌, [], length, None, Some, Ok, Err, IfOk, IfSome, MatchBool, All};
+ghost use Rattle.std.specs.Prelude.{◌≡◌, ◌≢◌, ◌≤◌, [], length, is_some, None, Some, Ok, Err, IfOk, IfSome, MatchBool, All};
 ghost use Rattle.dz_io.specs.Counts.{HasRisen};
 ghost use Rattle.dz_io.specs.Device.{HasCauseOf};
 ghost use Rattle.dz_io.specs.Ports.{IsFreshExchange, IsFreshAccepts, IsFreshDials};
 ghost use Rattle.dz_io.specs.declared.peer.Peer.{Peer};
 ghost use Rattle.dz_name.specs.Words.{Octets};
-ghost use Rattle.dz_member.specs.Config.{IsAllowed};
-ghost use Rattle.dz_member.specs.declared.config.CatalogSettings.{CatalogSettings};
+ghost use Rattle.dz_settings.specs.Config.{IsAllowed};
+ghost use Rattle.dz_settings.specs.declared.config.CatalogSettings.{CatalogSettings};
 ghost use Rattle.dz_config.specs.Config.{Reads};
 ghost use Rattle.dz_config.specs.declared.fault.ConfigFault.{ConfigFault};
 ghost use Rattle.dz_config.specs.declared.fault.ConfigError.TheVariants.{Fault};
@@ -16,11 +16,12 @@ ghost use Rattle.dz_serve.specs.Command.{IsServe, IsSetting, IsSettingOf, SaysBa
 ghost use Rattle.dz_serve.specs.Ends.{is_write_fault};
 ghost use Rattle.dz_serve.specs.Rows.{rows};
 
-use crate::serving::{Served, Setting, serve, unserved};
+use crate::served::{Served, Setting, serve, unserved};
 use crate::status::ServeEnd;
 use crate::text::{TextError, read_text};
 use dz_config::{ConfigError, ConfigFault, read_config, read_downstream};
 use dz_desk::Desk;
+use dz_disk::Disk;
 use dz_io::{Clock, Failed, Ports, Sink, Source};
 use dz_provision::Naming;
 use std::alloc::Global;
@@ -78,14 +79,15 @@ fn setting_of(alloc: Global, text: &[u8]) -> Result<Setting, ConfigError>
     })
 }
 
-/// Reads the configuration from an input and serves it. Where the input is no configuration, the line `bad config <number>`
-/// is written, and nothing is opened.
+/// Reads the configuration from an input and serves it. Where the input is no configuration, the line
+/// `bad config <number>` is written, and nothing is opened. Where there is a disk, zones are kept on it.
 pub fn serve_input<
     S: Source,
     K: Sink + Send,
     J: Naming + Send + Sync,
     P: Ports,
     C: Clock + Send + Drop,
+    D: Disk + Send + Drop,
     R: Threads + Wait + Sync,
 >(
     rt: &R,
@@ -95,6 +97,7 @@ pub fn serve_input<
     desk: Desk,
     ports: &mut P,
     clock: &C,
+    disk: Option<&mut D>,
 ) -> Served<K>
     requires written { IfSome (K.held output) (λ text. text ≡ []) }
     requires faultless { K.faults output ≡ 0 }
@@ -104,7 +107,7 @@ pub fn serve_input<
     requires six { length desk.readings.items ≡ 6 }
     ensures publisher { (result.desk.publisher.staged ≡ None)
         × (result.desk.publisher.book ≡ desk.publisher.book) }
-    ensures serve { IsServe result.end ((k : K) × HasRisen 0 (K.faults k)) (C.may_give clock.now)
+    ensures serve { IsServe (is_some disk.entry) result.end ((k : K) × HasRisen 0 (K.faults k)) (C.may_give clock.now)
         (C.may_stop clock.now) (S.left input.old) (K.held result.output) result.desk.publisher.list
         (rows (P.datagrams ports.old) (P.acceptors ports.old) (P.dialers ports.old))
         (rows (P.datagrams ports.new) (P.acceptors ports.new) (P.dialers ports.new)) }
@@ -122,7 +125,9 @@ pub fn serve_input<
     ensures ports_later { P.faults ports.old ≤ P.faults ports.new }
 {
     match read_setting(alloc, input) {
-        Ok(setting) => serve::<K, J, P, C, R>(rt, alloc, setting, output, desk, ports, clock),
+        Ok(setting) => serve::<K, J, P, C, D, R>(
+            rt, alloc, setting, output, desk, ports, clock, disk,
+        ),
         Err(Unset::Read) => unserved(ServeEnd::ReadFault, output, desk),
         Err(Unset::OutOfMemory) => unserved(ServeEnd::NoMemory, output, desk),
         Err(Unset::Bad(fault)) => say_bad(fault, output, desk),

@@ -1,22 +1,22 @@
 //! A server's workers in threads of their own, over the devices of ports.
 #![tactic(auto)]
 
-mod closing;
+mod begin;
+mod close;
 mod command;
-mod linking;
-mod listening;
-mod opening;
+mod crew;
+mod devices;
 mod pair;
-mod serving;
+mod sending;
+mod served;
 mod status;
-#[cfg(test)]
-mod tests;
+mod tcp_worker;
 mod text;
 mod together;
 mod tools;
-mod transferring;
-mod working;
+mod transfer_worker;
+mod udp_worker;
 
 pub use command::serve_input;
-pub use serving::{Served, Setting, serve};
+pub use served::{Served, Setting, serve};
 pub use status::ServeEnd;

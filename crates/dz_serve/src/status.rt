@@ -6,7 +6,7 @@ ghost use Rattle.dz_serve.specs.Ends.{has_closed, is_whole, is_write_fault};
 
 use crate::pair::Pair;
 use dz_query::{LinksEnd, SessionEnd};
-use dz_work::{TransferEnd, Transfers};
+use dz_transfer::{TransferEnd, Transfers};
 
 /// How serving ended.
 #[derive(Clone, Copy, Debug, PartialEq, Eq)]
@@ -21,7 +21,7 @@ pub enum ServeEnd {
     WriteFault,
     /// An opening, a receive, an accept or a send failed.
     PortFault,
-    /// Want of memory.
+    /// Out of memory.
     NoMemory,
 }
 
@@ -33,10 +33,10 @@ pub(crate) struct Ends {
     pub transfers: Pair<Transfers>,
 }
 
-/// The end after these: a fault of the log stands before one of the devices, and that before a link that was starved of memory.
-/// Where none of them is there and no dial was made, there was no memory for it, since a catalog is due at each moment until
-/// its first job.
-pub(crate) fn judge(log_failed: bool, ends: &Ends) -> ServeEnd
+/// The end after these: a fault of the log comes before one of the devices, and that before a link that ran out of
+/// memory. Where there is none of them and no dial was made though one must be, there was no memory for it: a catalog
+/// of which nothing was kept is due at each moment until its first job.
+pub(crate) fn judge(log_failed: bool, ends: &Ends, must_dial: bool) -> ServeEnd
     ensures log { is_write_fault result ≡ log_failed }
     ensures session_one { result ≡ ServeEnd.Done → is_whole ends.now.sessions.first ≡ true }
     ensures session_two { result ≡ ServeEnd.Done → is_whole ends.now.sessions.second ≡ true }
@@ -48,7 +48,7 @@ pub(crate) fn judge(log_failed: bool, ends: &Ends) -> ServeEnd
         → ends.now.transfers.first.end ≡ TransferEnd.Stopped }
     ensures stopped_two { result ≡ ServeEnd.Done
         → ends.now.transfers.second.end ≡ TransferEnd.Stopped }
-    ensures dialed { result ≡ ServeEnd.Done →
+    ensures dialed { result ≡ ServeEnd.Done → must_dial ≡ true →
         (ends.now.transfers.first.dialed ≡ true) ⊎ (ends.now.transfers.second.dialed ≡ true) }
     ensures input { (result ≢ ServeEnd.BadInput) × (result ≢ ServeEnd.ReadFault) }
     ensures port { result ≡ ServeEnd.PortFault →
@@ -77,13 +77,14 @@ pub(crate) fn judge(log_failed: bool, ends: &Ends) -> ServeEnd
     if has_starved(ends.links.second) {
         return ServeEnd::NoMemory;
     }
-    judge_transfers(&ends.transfers)
+    judge_transfers(&ends.transfers, must_dial)
 }
 
-fn judge_transfers(transfers: &Pair<Transfers>) -> ServeEnd
+/// The end by the transfer workers alone: one ran out of memory, or no dial was made though one must be.
+fn judge_transfers(transfers: &Pair<Transfers>, must_dial: bool) -> ServeEnd
     ensures stopped_one { result ≡ ServeEnd.Done → transfers.now.first.end ≡ TransferEnd.Stopped }
     ensures stopped_two { result ≡ ServeEnd.Done → transfers.now.second.end ≡ TransferEnd.Stopped }
-    ensures dialed { result ≡ ServeEnd.Done →
+    ensures dialed { result ≡ ServeEnd.Done → must_dial ≡ true →
         (transfers.now.first.dialed ≡ true) ⊎ (transfers.now.second.dialed ≡ true) }
     ensures other { (result ≡ ServeEnd.Done) ⊎ (result ≡ ServeEnd.NoMemory) }
 {
@@ -93,13 +94,10 @@ fn judge_transfers(transfers: &Pair<Transfers>) -> ServeEnd
     if transfers.second.end != TransferEnd::Stopped {
         return ServeEnd::NoMemory;
     }
-    if transfers.first.dialed {
-        return ServeEnd::Done;
+    if must_dial && !(transfers.first.dialed || transfers.second.dialed) {
+        return ServeEnd::NoMemory;
     }
-    if transfers.second.dialed {
-        return ServeEnd::Done;
-    }
-    ServeEnd::NoMemory
+    ServeEnd::Done
 }
 
 /// Whether a session ended at its device's end, with no reply lost.
@@ -122,7 +120,7 @@ fn has_closed(end: LinksEnd) -> bool
     }
 }
 
-/// Whether a link was starved of memory.
+/// Whether a link ran out of memory.
 fn has_starved(end: LinksEnd) -> bool
     ensures { result ≡ starved_at end }
 {

@@ -71,8 +71,8 @@ pub(crate) struct Tasks<F, G, P> {
     pub second: Task<G, P>,
 }
 
-/// Does six tasks, each in a thread of its own. Where a thread can't be made, the caller's own does its task once the others
-/// were started.
+/// Does six tasks, each in a thread of its own. Where a thread can't be made, the caller's own does its task once the
+/// others were started.
 pub(crate) fn run_together<
     F1: FnOnce() -> T + Send + Drop,
     F2: FnOnce() -> T + Send + Drop,

@@ -22,11 +22,11 @@ pub(crate) struct Tool<C> {
     pub buffer: ReplyBuffer,
 }
 
-/// Makes them. Each clock is a twin of this one.
+/// Makes the tools of all workers. Each clock is a twin of this one.
 ///
 /// # Errors
 ///
-/// `AllocError` where no memory is left.
+/// `AllocError` where memory runs out.
 pub(crate) fn make_tools<C: Clock + Drop>(alloc: Global, clock: &C) -> Result<Tools<C>, AllocError>
     ensures listening_one { IfOk result
         (λ t. C.may_give t.listening.first.clock ≡ C.may_give clock.now) }
@@ -60,6 +60,7 @@ pub(crate) fn make_tools<C: Clock + Drop>(alloc: Global, clock: &C) -> Result<To
     })
 }
 
+/// A clock of its own and a buffer for one worker.
 fn make_tool<C: Clock + Drop>(alloc: Global, clock: &C) -> Result<Tool<C>, AllocError>
     ensures { IfOk result (λ t. C.may_give t.clock ≡ C.may_give clock.now) }
 {

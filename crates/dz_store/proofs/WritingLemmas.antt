@@ -25,7 +25,7 @@ written_more before now after message all left rest m writing are is one =
 pub written_all : (before now : Octets) (all left : List Content) → IsWriting before now all left → left ≡ [] → now ≡ before ++ stream (written all)
 written_all before now all left writing none = sym (append-nil now) ∙ ap (λ ms. now ++ stream (written ms)) (sym none) ∙ writing
 
--- the same front is taken from both
+-- the same prefix is taken from both
 pub cancel : (front a b : Octets) → front ++ a ≡ front ++ b → a ≡ b
 cancel front a b same = sym (drop_at front a (length front) refl) ∙ ap (λ l. drop (length front) l) same ∙ drop_at front b (length front) refl
 
@@ -50,7 +50,7 @@ matched_all octets rest all left so_far none =
       λ same. cancel so_far.front rest [] (sym so_far.octets_are ∙ same ∙ whole),
     )
 
--- a test of what follows a front tells of the whole
+-- a test of what follows a prefix tells of the whole
 pub test_whole : (b : Bool) (payload head rest tail : Octets) → payload ≡ head ++ rest → (b ≡ true → rest ≡ tail) → (rest ≡ tail → b ≡ true) → b ≡ bytes_eq payload (head ++ tail)
 test_whole true payload head rest tail are so back = sym ((bytes_eq-Decides payload (head ++ tail)).1 (are ∙ ap (λ l. head ++ l) (so refl)))
 test_whole false payload head rest tail are so back = elim (cases_Bool (bytes_eq payload (head ++ tail))) [
@@ -58,7 +58,7 @@ test_whole false payload head rest tail are so back = elim (cases_Bool (bytes_eq
   | inr other ↦ sym other
 ]
 
--- ---- a front that is taken off
+-- ---- a prefix that is taken off
 pub match_weaker : {A : Type 0} (o : Option A) (N M : Type 0) (S T : A → Type 0) → (N → M) → ((x : A) → S x → T x) → MatchOption o N S → MatchOption o M T
 match_weaker None N M S T none some is = none is
 match_weaker (Some x) N M S T none some is = some x is

@@ -22,14 +22,15 @@ pub record KeptZone : Type 0 where
 abbrev pub meaning_of : Kept → KeptZone
 meaning_of k = record { zone = k.zone; catalog = k.catalog; label = k.label; refreshed = k.refreshed; version = arc_value k.version }
 
--- a number of eight octets, the most significant first, and the number in the first eight octets
+-- a number in eight octets, the most significant first
 unfoldable pub eight : ℕ → Octets
 eight n = to_be_bytes w64 n
 
+-- the number in the first eight octets
 unfoldable pub number_of_eight : Octets → ℕ
 number_of_eight octets = from_be_bytes w64 octets
 
--- a label after its length; a catalog has one octet, 0
+-- a label preceded by its length; a catalog has one octet, 0
 abbrev pub label_octets : Option Octets → Octets
 label_octets None = 0 ∷ []
 label_octets (Some label) = length label ∷ label

@@ -1,4 +1,4 @@
--- Judge: what a store keeps of a zone after a record joined its list, and after a crash.
+-- Judge: what a store keeps of a zone after a record was added to its list, and after a crash.
 use Rattle.std.specs.Prelude.{◌≡◌, ◌≢◌, ◌⊎◌, true, List, [], ◌∷◌, ◌++◌, Some, None}
 use Rattle.dz_name.specs.Words.{Name, Octets}
 use Rattle.dz_name.specs.Name.{IsName}
@@ -17,13 +17,13 @@ abbrev pub ForgottenIsGone : Type 0
 ForgottenIsGone = (list : List Octets) (gone zone : Name) → IsName gone
     → (zone ≡ gone → kept zone (list ++ forgotten gone ∷ []) ≡ None) × (zone ≢ gone → kept zone (list ++ forgotten gone ∷ []) ≡ kept zone list)
 
--- what a crash leaves while a record joins the records of a file keeps of each zone what these kept, or what they keep with
--- the record
+-- what a crash leaves while a record is added to those of a file keeps of each zone what these kept, or what they keep
+-- with the record
 abbrev pub CrashKeeps : Type 0
 CrashKeeps = (before last file : Octets) (zone : Name) → reads last ≡ true → IsLeft (records reads before) last file
     → (kept zone (records reads file) ≡ kept zone (records reads before)) ⊎ (kept zone (records reads file) ≡ kept zone (records reads before ++ last ∷ []))
 
--- what is written of a zone reads
+-- what is written of a zone can be read
 abbrev pub WrittenReads : Type 0
 WrittenReads = ((k : KeptZone) → CanBeKept k → reads (payload_of k) ≡ true) × ((zone : Name) → IsName zone → reads (forgotten zone) ≡ true)
 

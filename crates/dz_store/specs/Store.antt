@@ -17,10 +17,12 @@ is_of zone payload = option_map_or (λ z. same_name z zone) (zone_of payload) fa
 unfoldable pub is_kept : Octets → Bool
 is_kept payload = is_some (kept_of payload)
 
--- the payload that counts for a zone: the last of it, or none where that is of a forgotten zone
+-- what counts for a zone after one more payload: that payload where it keeps the zone, none where it forgets the zone,
+-- and otherwise what counted before
 abbrev pub step : Name → Option Octets → Octets → Option Octets
 step zone held payload = if is_of zone payload then (if is_kept payload then Some payload else None) else held
 
+-- the payload that counts for a zone: the last of it, or none where that is of a forgotten zone
 abbrev pub counting : Name → List Octets → Option Octets
 counting zone list = fold (step zone) None list
 
@@ -34,6 +36,7 @@ pub record StoreOf (D : Type 0) : Type 0 where
   pub end : ℕ
   pub has_failed : Bool
 
+-- the store whose records these are
 abbrev pub store_of : {D I : Type 0} → LogOf D I → StoreOf D
 store_of log = record { disk = log.disk; end = log.end; has_failed = log.has_failed }
 

@@ -16,13 +16,14 @@ pub enum StoreFault {
     Full,
     /// The version can't be sent, so it can't be kept.
     Unfit,
-    /// Memory is wanting.
+    /// Out of memory.
     OutOfMemory,
 }
 
 impl From<RecordError> for StoreFault {
     ghost from_gives = { λ error e. e ≡ fault_of error };
 
+    /// The fault that an error of the records is.
     fn from(error: RecordError) -> Self {
         match error {
             RecordError::Disk => StoreFault::DiskFault,
@@ -35,6 +36,7 @@ impl From<RecordError> for StoreFault {
 impl From<AllocError> for StoreFault {
     ghost from_gives = { λ _ e. e ≡ OutOfMemory };
 
+    /// Out of memory.
     fn from(_: AllocError) -> Self {
         StoreFault::OutOfMemory
     }

@@ -57,7 +57,7 @@ fn names_of(octets: &[u8]) -> Option<Head<'_>>
     }
 }
 
-/// What follows both names: a label after its length, a moment in 8 octets, and the octets of the version.
+/// What follows both names: a label preceded by its length, a moment in 8 octets, and the octets of the version.
 #[tactic(auto, unfolding(crate::specs::Payload::after_names))]
 fn after_names(zone: Name, catalog: Name, octets: &[u8]) -> Option<Head<'_>>
     ensures { result ≡ after_names zone catalog octets.now }
@@ -78,7 +78,7 @@ fn after_names(zone: Name, catalog: Name, octets: &[u8]) -> Option<Head<'_>>
     })
 }
 
-/// The name at the front of some octets, and what follows it.
+/// The name at the beginning of some octets, and what follows it.
 #[tactic(auto, unfolding(crate::specs::Payload::first_name))]
 pub(crate) fn first_name(octets: &[u8]) -> Option<(Name, &[u8])>
     ensures { option_map (λ x. (x.0, x.1.now)) result ≡ first_name octets.now }
@@ -117,7 +117,7 @@ fn whole_name(octets: &[u8]) -> Option<Name>
     }
 }
 
-/// The zone that a payload is of, where it reads: the name after its first octet.
+/// The zone that a payload is of, where it can be read: the name after its first octet.
 pub(crate) fn zone_of(payload: &[u8]) -> Option<Name>
     requires { reads payload.now ≡ true }
     ensures { result ≡ zone_of payload.now }
@@ -128,7 +128,7 @@ pub(crate) fn zone_of(payload: &[u8]) -> Option<Name>
     zone_first(&payload[1..])
 }
 
-/// The name at the front of some octets.
+/// The name at the beginning of some octets.
 fn zone_first(octets: &[u8]) -> Option<Name>
     ensures { result ≡ option_map (λ x. x.0) (first_name octets.now) }
 {
@@ -138,7 +138,7 @@ fn zone_first(octets: &[u8]) -> Option<Name>
     }
 }
 
-/// Whether a payload is of a kept zone, where it reads: whether its first octet is 1.
+/// Whether a payload is of a kept zone, where it can be read: whether its first octet is 1.
 pub(crate) fn is_kept(payload: &[u8]) -> bool
     requires { reads payload.now ≡ true }
     ensures { result ≡ is_kept payload.now }

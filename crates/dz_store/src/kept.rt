@@ -4,8 +4,8 @@ use dz_name::{Label, Name};
 use dz_zone::Version;
 use std::sync::Arc;
 
-/// A zone with its version, as it is kept. A member has its catalog and its label there; a catalog zone has its own name
-/// as its catalog, and no label.
+/// A zone with its version, as it is kept. A member has its catalog and its label there; a catalog zone has its own
+/// name as its catalog, and no label.
 #[derive(Debug, Drop)]
 pub struct Kept {
     pub zone: Name,

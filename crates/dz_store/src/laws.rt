@@ -21,12 +21,12 @@ pub fn crash_keeps()
     one_joins();
 }
 
-/// What is written of a zone reads.
+/// What is written of a zone can be read.
 pub fn written_reads()
     ensures { WrittenReads }
 {}
 
-/// A payload that reads is what is written of the zone that it says.
+/// A payload that can be read is what is written of the zone that it says.
 pub fn reads_strictly()
     ensures { ReadsStrictly }
 {}

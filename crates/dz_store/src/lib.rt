@@ -1,17 +1,17 @@
 //! Zones kept on a disk: their versions, one record after another.
 #![tactic(auto)]
 
-mod copying;
+mod copy;
+mod count;
 mod fault;
 mod head;
 mod kept;
 mod laws;
-mod looking;
-mod matching;
+mod payload;
 mod places;
-mod reading;
+mod read;
 mod store;
-mod writing;
+mod written;
 
 pub use fault::StoreFault;
 pub use kept::Kept;

@@ -5,13 +5,13 @@ ghost use Rattle.std.specs.BTreeMap.{keys};
 ghost use Rattle.dz_store.specs.inner.Places.{places};
 
 use crate::head::{forgotten_of, is_kept, zone_of};
-use crate::reading::kept_of;
+use crate::read::kept_of;
 use dz_disk::RecordIndex;
 use dz_name::Name;
 use std::alloc::{AllocError, Global};
 use std::collections::BTreeMap;
 
-/// The most octets of a payload: the first octet, two names, a label after its length, a moment and a stream.
+/// The most octets of a payload: the first octet, two names, a label preceded by its length, a moment and a stream.
 pub(crate) const MOST: u64 = 67_109_447;
 
 /// Where a record is: the place of its gate, and how many octets its payload has.
@@ -36,7 +36,7 @@ impl Places {
         self.entries.get(zone).copied()
     }
 
-    /// The kept zones, in canonical order.
+    /// The kept zones, in canonical order. `AllocError` where memory runs out.
     pub(crate) fn zones(&self, alloc: Global) -> Result<Vec<Name>, AllocError>
         ensures { IfOk result (λ v. v.items ≡ keys self.now.entries) }
     {
@@ -61,16 +61,20 @@ impl RecordIndex for Places {
     ghost is_of = { λ i list. (zone : Name)
         → get canonical_order i.entries zone ≡ (places zone list).place };
 
+    /// No places.
     fn empty(alloc: Global) -> Places {
         Places {
             entries: BTreeMap::new(alloc),
         }
     }
 
+    /// The most octets of a payload.
     fn longest() -> u64 {
         MOST
     }
 
+    /// Whether a payload can be read: whether it is written of a kept or a forgotten zone. `AllocError` where memory
+    /// runs out.
     #[tactic(auto, unfolding(crate::specs::Payload::reads))]
     fn is_payload(alloc: Global, payload: &[u8]) -> Result<bool, AllocError> {
         if MOST < payload.len() as u64 {
@@ -82,6 +86,7 @@ impl RecordIndex for Places {
         Ok(kept_of(alloc, payload)?.is_some())
     }
 
+    /// Notes the place of a payload that was added, or that its zone is forgotten. `AllocError` where memory runs out.
     fn add(&mut self, _alloc: Global, payload: &[u8], at: u64) -> Result<(), AllocError> {
         let Some(zone) = zone_of(payload) else {
             return Ok(());

@@ -12,20 +12,20 @@ ghost use Rattle.dz_store.specs.Payload.{reads};
 ghost use Rattle.dz_store.specs.Store.{kept, HasFailed, KeepsSame};
 ghost use Rattle.dz_store.specs.declared.places.TheConstants.{MOST};
 
-use crate::copying::copy_all;
+use crate::copy::copy_all;
+use crate::count::counting;
 use crate::fault::StoreFault;
 use crate::kept::Kept;
-use crate::looking::counting;
+use crate::payload;
 use crate::places::Places;
-use crate::reading::kept_of;
-use crate::writing;
+use crate::read::kept_of;
 use dz_disk::{Disk, RecordLog};
 use dz_name::Name;
 use std::alloc::Global;
 use std::marker::Model;
 
-/// Zones kept on a disk: a list of records, each of a kept or a forgotten zone. In memory it has where the record of each kept
-/// zone is. Contracts see the disk, whose file has the list.
+/// Zones kept on a disk: a list of records, each of a kept or a forgotten zone. In memory it has where the record of
+/// each kept zone is. Contracts see the disk, whose file has the list.
 #[derive(Drop)]
 pub struct Store<D: Disk + Drop> {
     log: RecordLog<D, Places>,
@@ -44,8 +44,8 @@ impl<D: Disk + Drop> Store<D> {
     ///
     /// # Errors
     ///
-    /// `DiskFault` where a call of the disk failed, `Full` where the records end past 2^40 octets, `OutOfMemory` where memory
-    /// is wanting.
+    /// `DiskFault` where a call of the disk failed, `Full` where the records end past 2^40 octets, `OutOfMemory` where
+    /// memory runs out.
     pub fn open(alloc: Global, disk: D) -> Result<Store<D>, StoreFault>
         ensures opens { IfOk result (λ s. (f : List ℕ) → D.file disk ≡ Some f
             → (g : List ℕ) × (D.file s.disk ≡ Some g) × (records reads g ≡ records reads f)
@@ -64,18 +64,19 @@ impl<D: Disk + Drop> Store<D> {
         ensures never_unfit { IsErrOf result StoreFault.Unfit → ⊥ }
     {
         let log = RecordLog::<D, Places>::open(alloc, disk)?;
-        // what is known of a list is known of this one
+        // brings in what is known of a list for this one
         log.index();
         Ok(Store { log })
     }
 
-    /// Saves a zone with its version. At `Ok` each crash from then on leaves it; a crash before, or after `DiskFault`, leaves
-    /// the list with its record or without it.
+    /// Saves a zone with its version. At `Ok` each crash from then on leaves it; a crash before, or after `DiskFault`,
+    /// leaves the list with its record or without it.
     ///
     /// # Errors
     ///
-    /// `DiskFault` where a call of the disk failed, now or before; `Full` where the record would end past 2^40 octets; `Unfit`
-    /// where the version can't be sent; `OutOfMemory` where memory is wanting. After the latter three the store is as before.
+    /// `DiskFault` where a call of the disk failed, now or before; `Full` where the record would end past 2^40 octets;
+    /// `Unfit` where the version can't be sent; `OutOfMemory` where memory runs out. After the latter three the store
+    /// is as before.
     pub fn save(&mut self, alloc: Global, kept: &Kept) -> Result<(), StoreFault>
         requires zone { (arc_value kept.now.version).apex ≡ kept.now.zone }
         requires moment { kept.now.refreshed < 2 ^ 40 }
@@ -101,7 +102,7 @@ impl<D: Disk + Drop> Store<D> {
             → limit < self.old.end + 9 + length (payload_of (meaning_of kept.now)) }
         ensures unfit { IsErrOf result StoreFault.Unfit
             → is_fit (arc_value kept.now.version) ≡ false }
-        // Full and Unfit are told unless memory is wanting
+        // Full and Unfit are reported unless memory runs out
         ensures past { self.old.has_failed ≡ false → is_fit (arc_value kept.now.version) ≡ true
             → limit < self.old.end + 9 + length (payload_of (meaning_of kept.now))
             → (result ≡ Err StoreFault.Full) ⊎ (result ≡ Err StoreFault.OutOfMemory) }
@@ -113,9 +114,9 @@ impl<D: Disk + Drop> Store<D> {
         if self.log.has_failed() {
             return Err(StoreFault::DiskFault);
         }
-        // what is known of a list is known of this one
+        // brings in what is known of a list for this one
         self.log.index();
-        let payload = writing::payload_of(alloc, kept)?;
+        let payload = payload::payload_of(alloc, kept)?;
         self.log.append(alloc, &payload)?;
         self.log.end();
         Ok(())
@@ -126,7 +127,7 @@ impl<D: Disk + Drop> Store<D> {
     /// # Errors
     ///
     /// `DiskFault` where a call of the disk failed, now or before; `Full` where the record would end past 2^40 octets;
-    /// `OutOfMemory` where memory is wanting. After the latter two the store is as before.
+    /// `OutOfMemory` where memory runs out. After the latter two the store is as before.
     pub fn forget(&mut self, alloc: Global, zone: &Name) -> Result<(), StoreFault>
         ensures forgot { OnOk result (Joins reads (D.file self.old.disk) (D.file self.new.disk)
             (forgotten zone.now)) }
@@ -147,7 +148,7 @@ impl<D: Disk + Drop> Store<D> {
             → HasFailed D.faults self.old self.new }
         ensures full { IsErrOf result StoreFault.Full
             → limit < self.old.end + 9 + length (forgotten zone.now) }
-        // Full is told unless memory is wanting
+        // Full is reported unless memory runs out
         ensures past { self.old.has_failed ≡ false
             → limit < self.old.end + 9 + length (forgotten zone.now)
             → (result ≡ Err StoreFault.Full) ⊎ (result ≡ Err StoreFault.OutOfMemory) }
@@ -157,9 +158,9 @@ impl<D: Disk + Drop> Store<D> {
         if self.log.has_failed() {
             return Err(StoreFault::DiskFault);
         }
-        // what is known of a list is known of this one
+        // brings in what is known of a list for this one
         self.log.index();
-        let payload = writing::forgotten(alloc, zone)?;
+        let payload = payload::forgotten(alloc, zone)?;
         self.log.append(alloc, &payload)?;
         self.log.end();
         Ok(())
@@ -169,7 +170,7 @@ impl<D: Disk + Drop> Store<D> {
     ///
     /// # Errors
     ///
-    /// `DiskFault` where a call of the disk failed, now or before; `OutOfMemory` where memory is wanting.
+    /// `DiskFault` where a call of the disk failed, now or before; `OutOfMemory` where memory runs out.
     pub fn latest(&mut self, alloc: Global, zone: &Name) -> Result<Option<Kept>, StoreFault>
         ensures latest { IfOk result (λ o. (f : List ℕ) → D.file self.old.disk ≡ Some f
             → option_map meaning_of o ≡ kept zone.now (records reads f)) }
@@ -192,12 +193,13 @@ impl<D: Disk + Drop> Store<D> {
         }
     }
 
-    /// Saves into another store, whose list is empty, what this one keeps, in canonical order of zones. This one is read alone.
+    /// Saves into another store, whose list is empty, what this one keeps, in canonical order of zones. This one is
+    /// only read.
     ///
     /// # Errors
     ///
-    /// `DiskFault` where a call of either disk failed, now or before; `Full` where a record would end past 2^40 octets there;
-    /// `OutOfMemory` where memory is wanting.
+    /// `DiskFault` where a call of either disk failed, now or before; `Full` where a record would end past 2^40 octets
+    /// there; `OutOfMemory` where memory runs out.
     pub fn copy<E: Disk + Drop>(
         &mut self,
         alloc: Global,

@@ -1,4 +1,4 @@
--- Slots that are of a table, one behind the other.
+-- Slots that are of a table, one after the other.
 use Rattle.std.proofs.Common.{◌≡◌, true, false, List, [], ◌∷◌, ◌++◌, refl, sym, ◌∙◌, ap, Some, None}
 use Rattle.std.specs.Prelude.{Option, MatchOption}
 use Rattle.std.specs.Option.{option_map, option_to_list}
@@ -27,7 +27,7 @@ unfolding IsStrictlySortedBy
 of_itself [] up = tt
 of_itself (s ∷ ss) up = (own s ss, of_more s ss ss up.0 (of_itself ss up.1))
 
--- what an iterator gave, in front of what is left
+-- what an iterator gave, before what is left
 pub given : {X B : Type 0} (view : X → B) (o : Option X) (s t : List B) → MatchOption o ((s ≡ []) × (t ≡ [])) (λ x. s ≡ view x ∷ t) → option_to_list (option_map view o) ++ t ≡ s
 given view None s t h = h.1 ∙ sym h.0
 given view (Some x) s t h = sym h

@@ -25,7 +25,7 @@ slots_back (s ∷ slots) = ap (λ l. s ∷ l) (slots_back slots)
 reversed : (a b : List (List ℕ)) (o : Ordering) → canonical_order a b ≡ o → canonical_order b a ≡ ordering_reverse o
 reversed a b o e = canonical_total.antisymm b a ∙ ap ordering_reverse e
 
--- behind a key nothing comes before it
+-- where all slots come after a key, none comes before it
 front_none : (zone : List (List ℕ)) (slots : List SlotOf) → AllByRecursion (λ s. canonical_order zone s.zone ≡ Less) slots → filter (λ s. comes_before s.zone zone) slots ≡ []
 front_none zone [] h = refl
 front_none zone (s ∷ slots) h = rw (ap is_lt (reversed zone s.zone Less h.0)) (front_none zone slots h.1)

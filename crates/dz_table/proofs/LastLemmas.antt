@@ -62,7 +62,7 @@ entry_in (Some entry) a = entry
 same_entry : (a s : SlotOf) (zone : List (List ℕ)) → ◌≡◌ {A = Option (List (List ℕ) × SlotOf)} (Some (zone, s)) (Some (a.zone, a)) → (zone ≡ a.zone) × (s ≡ a)
 same_entry a s zone e = (ap (λ o. (entry_in o a).0) e, ap (λ o. (entry_in o a).1) e)
 
--- what a search among the slots behind one up to the name finds
+-- what a search among the slots after one up to the name finds
 pub record Found (slots : List SlotOf) (name zone : List (List ℕ)) (s : SlotOf) : Type 0 where
   pub at : zone ≡ s.zone
   pub is : IsLast slots name s

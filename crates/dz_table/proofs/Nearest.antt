@@ -34,7 +34,7 @@ find_none p (y ∷ ys) e =
       | inr f ↦ (f, find_none p ys (rw f at e))
     ]
 
--- a suffix of a name that isn't the name is one of what stands behind its first label
+-- a suffix of a name that isn't the name is a suffix of what follows its first label
 within_rest : (label : List ℕ) (labels zone : List (List ℕ)) → IsWithin (label ∷ labels) zone → same_name zone (label ∷ labels) ≡ false → IsWithin labels zone
 within_rest label labels zone ([], e) f = let t = (same_decides zone (label ∷ labels)).1 (sym e) in absurd (cc)
 within_rest label labels zone (first ∷ front, e) f = (front, cc)
@@ -123,7 +123,7 @@ climbed slots (label ∷ front) above h =
     (climbed slots front above (all_weaker (λ s. IsWithin (label ∷ (front ++ above)) s.zone → IsWithin above s.zone) (λ s. IsWithin (front ++ above) s.zone → IsWithin above s.zone)
     (λ s up w. up (within_longer label (front ++ above) s.zone w)) slots h))
 
--- the names of a subtree stand together in canonical order, the name above them first
+-- the names of a subtree are together in canonical order, the name above them first
 label_total : IsTotalOrder (slice_cmp nat_cmp)
 label_total = lists_total nat_cmp_total
 

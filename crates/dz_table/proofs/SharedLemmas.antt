@@ -10,7 +10,7 @@ within_length name zone w = omega (arith, ap length w.1, length-append w.0 zone)
 pub drop_within : (name : List (List ℕ)) (n : ℕ) → IsWithin name (drop n name)
 drop_within name n = (take n name, sym (take-append-drop n name))
 
--- what a name has in front of a zone is longer than what is dropped
+-- what a name has before a zone is longer than what is dropped
 drop_front : (front zone : List (List ℕ)) (n : ℕ) → n ≤ length front → IsWithin (drop n (front ++ zone)) zone
 drop_front front zone zero le = (front, refl)
 drop_front [] zone (suc n) le = absurd (omega arith)

@@ -7,13 +7,15 @@ use Rattle.dz_name.specs.declared.dns.TheConstants.{TYPE_SOA}
 use Rattle.dz_table.specs.Slot.{SlotOf, is_live}
 use Rattle.dz_table.specs.Table.{put, without, first_held, closest}
 
+-- a slot of a zone, refreshed at a moment, without a version
 abbrev slot : Name → ℕ → SlotOf
 slot zone moment = record { zone = zone; refreshed = moment; version = None }
 
--- example. and names below it
+-- `example.`
 abbrev example : Name
 example = codes "example" ∷ []
 
+-- `sub.example.`
 abbrev sub : Name
 sub = codes "sub" ∷ example
 

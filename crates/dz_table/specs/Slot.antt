@@ -18,7 +18,7 @@ pub record IsSlot (slot : SlotOf) : Type 0 where
   pub moment : slot.refreshed < 2 ^ 40
   pub apex : ForSome slot.version (λ v. v.apex ≡ slot.zone)
 
--- the numbers of the SOA of the version
+-- the SOA fields of the version that is held
 abbrev pub soa_held : SlotOf → Option Soa
 soa_held slot = option_and_then soa_of (option_and_then apex_soa slot.version)
 

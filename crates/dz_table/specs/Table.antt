@@ -1,5 +1,5 @@
--- Meaning: slots of zones, and which one answers for a name (RFC 1034 section 4.3.2). A list of slots may stand in any
--- order, unless it is said.
+-- Meaning: slots of zones, and which one answers for a name (RFC 1034 section 4.3.2). A list of slots may be in any
+-- order, unless stated otherwise.
 use Rattle.std.specs.Prelude.{◌≤◌, Bool, not, ◌==◌, if◌then◌else◌, List, [], ◌∷◌, ◌++◌, length, filter, Option, Some, None}
 use Rattle.std.specs.Option.{option_or}
 use Rattle.std.specs.List.{find, All, Contains}
@@ -11,18 +11,20 @@ use Rattle.dz_name.specs.Name.{canonical_order, same_name, upward, IsWithin}
 use Rattle.dz_name.specs.declared.dns.TheConstants.{TYPE_DS}
 use Rattle.dz_table.specs.Slot.{SlotOf}
 
--- the canonical order of zones (RFC 4034 section 6.1)
+-- slots compared by the canonical order of their zones (RFC 4034 section 6.1)
 abbrev pub slot_order : SlotOf → SlotOf → Ordering
 slot_order = on (λ slot. slot.zone) canonical_order
 
+-- a name comes before another in canonical order
 abbrev pub comes_before : Name → Name → Bool
 comes_before a b = is_lt (canonical_order a b)
 
--- slots in the order of their zones, no two of one zone
+-- slots in the canonical order of their zones, no two of one zone (RFC 4034 section 6.1)
 abbrev pub IsTable : List SlotOf → Type 0
 IsTable slots = IsStrictlySortedBy slot_order slots
 
--- the slots of the zones that come before the slot's, the slot, and the slots of the zones that come after it
+-- a slot put into a table: before it the slots of zones that come before its zone, after it those of zones that come
+-- after
 unfoldable pub put : List SlotOf → SlotOf → List SlotOf
 put slots slot =
     filter (λ s. comes_before s.zone slot.zone) slots
@@ -41,27 +43,28 @@ unfoldable pub first_held : List SlotOf → List Name → Option SlotOf
 first_held slots [] = None
 first_held slots (name ∷ names) = option_or (slot_of name slots) (first_held slots names)
 
--- the slot of the name itself, or else of the longest name above it that has one
+-- the slot of the name itself, or else of the longest name above it that has one (RFC 1034 section 4.3.2, step 2)
 unfoldable pub closest : List SlotOf → Name → Option SlotOf
 closest slots name = first_held slots (upward name)
 
--- the slot that answers for a name and a type: for a DS that of a zone above the name, if there is one (RFC 4035 section
--- 3.1.4.1)
+-- the slot of the closest zone strictly above a name
 abbrev pub closest_above : List SlotOf → Name → Option SlotOf
 closest_above slots [] = None
 closest_above slots (label ∷ labels) = closest slots labels
 
+-- the slot that answers for a name and a type: for a DS that of a zone above the name, if there is one (RFC 4035
+-- section 3.1.4.1)
 unfoldable pub closest_for : List SlotOf → Name → Kind → Option SlotOf
 closest_for slots name kind = if kind == TYPE_DS then option_or (closest_above slots name) (closest slots name) else closest slots name
 
--- the same in other words: a slot whose zone encloses the name, where no other such zone has more labels (RFC 1034
--- section 4.3.2, step 2)
+-- the closest slot in other words: its zone encloses the name, and no other such zone has more labels (RFC 1034 section
+-- 4.3.2, step 2)
 pub record IsNearest (slots : List SlotOf) (name : Name) (slot : SlotOf) : Type 0 where
   pub held : Contains slots slot
   pub encloses : IsWithin name slot.zone
   pub nearest : All (λ other. IsWithin name other.zone → length other.zone ≤ length slot.zone) slots
 
--- the same of an answer; there is none where no zone encloses the name
+-- an answer is the closest slot; there is none where no zone encloses the name
 abbrev pub IsClosest : List SlotOf → Name → Option SlotOf → Type 0
 IsClosest slots name None = All (λ other. ¬ IsWithin name other.zone) slots
 IsClosest slots name (Some slot) = IsNearest slots name slot

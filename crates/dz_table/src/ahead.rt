@@ -1,4 +1,4 @@
-//! The slots of a table beside zones that ascend.
+//! The slots of a table, for lookups of zones in ascending order.
 
 ghost use Rattle.std.specs.Prelude.{◌≡◌, List, Some, IfOk, IfSome};
 ghost use Rattle.dz_table.specs.Table.{slot_of};
@@ -18,8 +18,8 @@ use std::marker::Model;
 /// The most slots that are passed at once.
 const MOST: u32 = 256;
 
-/// A table that is asked for zones in ascending order, and the slots that they have not passed yet: the first of them, and
-/// those behind it. Zones that mostly have slots take one comparison each. Contracts see the table.
+/// A table that is asked for zones in ascending order, and the slots that they have not passed yet: the first of them,
+/// and those after it. Zones that mostly have slots take one comparison each. Contracts see the table.
 #[derive(Drop)]
 pub struct Ahead<'a> {
     table: &'a Table,
@@ -61,7 +61,7 @@ impl<'a> Ahead<'a> {
     ///
     /// # Errors
     ///
-    /// `AllocError` where memory is wanting.
+    /// `AllocError` where memory runs out.
     pub fn slot(&mut self, alloc: Global, zone: &Name) -> Result<Option<SharedSlot>, AllocError>
         ensures slot { IfOk result (λ slot. slot ≡ slot_of zone.now self.old) }
         ensures table { self.new ≡ self.old }
@@ -76,14 +76,14 @@ impl<'a> Ahead<'a> {
         }
     }
 
-    /// Goes on behind the first slot.
+    /// Goes on after the first slot.
     fn step(&mut self)
         ensures { self.new ≡ self.old }
     {
         self.first = self.behind.next_entry();
     }
 
-    /// The first slot, behind which it goes on, if it is the zone's.
+    /// The first slot, if it is the zone's; the iteration then goes on after it.
     fn take(&mut self, zone: &Name) -> Option<&'a Entry<ZoneKey, Slot>>
         ensures slot { IfSome result (λ entry. Some entry.now.1 ≡ slot_of zone.now self.old) }
         ensures table { self.new ≡ self.old }
@@ -97,7 +97,7 @@ impl<'a> Ahead<'a> {
         }
     }
 
-    /// Goes on behind the slots of zones that come before a zone, 256 at most.
+    /// Goes on after the slots of zones that come before a zone, 256 at most.
     fn pass(&mut self, zone: &Name)
         ensures { self.new ≡ self.old }
     {
@@ -115,7 +115,7 @@ impl<'a> Ahead<'a> {
     }
 }
 
-/// The slot of a zone among all, in memory of its own.
+/// The slot of a zone among all, in memory of its own. The error is out of memory.
 fn search(alloc: Global, table: &Table, zone: &Name) -> Result<Option<SharedSlot>, AllocError>
     ensures { IfOk result (λ slot. slot ≡ slot_of zone.now table.now) }
 {

@@ -6,7 +6,7 @@ ghost use Rattle.dz_name.specs.Name.{IsWithin};
 
 use dz_name::NameRef;
 
-/// The name behind the first labels.
+/// The name after the first labels.
 fn ancestor<'a>(name: &NameRef<'a>, skip: usize) -> NameRef<'a>
     requires { skip ≤ length name.now }
     ensures { result ≡ drop skip name.now }
@@ -14,7 +14,7 @@ fn ancestor<'a>(name: &NameRef<'a>, skip: usize) -> NameRef<'a>
     NameRef::of_wire(name.behind(skip))
 }
 
-/// The name behind the first label.
+/// The name after the first label.
 fn above<'a>(name: &NameRef<'a>) -> NameRef<'a>
     requires { 1 ≤ length name.now }
     ensures { result ≡ drop 1 name.now }
@@ -22,7 +22,7 @@ fn above<'a>(name: &NameRef<'a>) -> NameRef<'a>
     ancestor(name, 1)
 }
 
-/// How many first labels of a name stand in front of the longest name that encloses it and another one.
+/// How many first labels a name has before the longest name that encloses it and another one.
 pub(crate) fn labels_apart(name: &NameRef, other: &NameRef) -> usize
     ensures within { result ≤ length name.now }
     ensures encloses { IsWithin other.now (drop result name.now) }

@@ -27,7 +27,7 @@ impl Model for SharedSlot {
 }
 
 impl SharedSlot {
-    /// A slot that no table has yet. The error is want of memory.
+    /// A slot that no table has yet. The error is out of memory.
     pub fn new(alloc: Global, slot: Slot) -> Result<SharedSlot, AllocError>
         ensures { IfOk result (λ shared. shared ≡ slot) }
     {
@@ -36,7 +36,7 @@ impl SharedSlot {
         })
     }
 
-    /// The slot of an entry of a map, once more.
+    /// One more reference to the slot of an entry of a map. The error is out of memory.
     pub(crate) fn of(entry: &Entry<ZoneKey, Slot>) -> Result<SharedSlot, AllocError>
         ensures { IfOk result (λ shared. shared ≡ entry.now.1) }
     {
@@ -55,7 +55,7 @@ impl SharedSlot {
     }
 }
 
-/// Slots as the entries of a map.
+/// Slots as the entries of a map. The error is out of memory.
 pub(crate) fn entries_of(
     alloc: Global,
     slots: Vec<SharedSlot>,

@@ -112,7 +112,8 @@ impl Slot {
         self.version.as_ref()
     }
 
-    /// The same slot, refreshed at another moment in seconds, below 2^40. It shares the version.
+    /// The same slot, refreshed at another moment in seconds, below 2^40. It shares the version. The error is out of
+    /// memory.
     pub fn refreshed_at(&self, moment: u64) -> Result<Slot, AllocError>
         requires { moment < 2 ^ 40 }
         ensures { IfOk result (λ s. s ≡ record self.now { refreshed = moment }) }
@@ -135,7 +136,7 @@ impl Slot {
 }
 
 impl Share for Slot {
-    /// The same slot once more. It shares the version, so no record is copied.
+    /// A copy of the slot. It shares the version, so no record is copied. The error is out of memory.
     fn share(&self) -> Result<Slot, AllocError> {
         let version = match &self.version {
             None => None,
@@ -152,10 +153,12 @@ impl Share for Slot {
 impl Keyed<ZoneKey> for Slot {
     ghost key = { λ slot. slot.zone };
 
+    /// The key of the slot's zone.
     fn key(&self) -> ZoneKey {
         ZoneKey::of(&self.zone().to_name())
     }
 
+    /// How the slot's zone compares in canonical order with the zone that is asked for.
     fn compare(&self, asked: &ZoneKey) -> Ordering {
         self.zone().canonical_cmp(&asked.zone().as_ref())
     }

@@ -28,6 +28,7 @@ impl<'a> Model for Slots<'a> {
 }
 
 impl<'a> Slots<'a> {
+    /// The slots of a walk over a map.
     pub(crate) fn over(walk: Walk<'a, ZoneKey, Slot>) -> Slots<'a>
         ensures { result ≡ slots_of walk.entry }
     {
@@ -42,6 +43,7 @@ impl<'a> Iterator for Slots<'a> {
 
     ghost remaining = { item_count (λ left. left) };
 
+    /// The next slot; none after the last.
     fn next(&mut self) -> Option<&'a Slot> {
         self.walk.next()
     }

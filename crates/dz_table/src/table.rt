@@ -48,7 +48,8 @@ impl Table {
         }
     }
 
-    /// The table of shared slots in the canonical order of their zones, made in one pass over them.
+    /// The table of shared slots in the canonical order of their zones, made in one pass over them. The error is out of
+    /// memory.
     pub fn from_shared(alloc: Global, slots: Vec<SharedSlot>) -> Result<Table, AllocError>
         requires { IsTable slots.items }
         ensures { IfOk result (λ t. t ≡ slots.items) }
@@ -66,7 +67,7 @@ impl Table {
         Slots::over(self.slots.walk())
     }
 
-    /// The slots, beside zones that ascend.
+    /// The slots, for lookups of zones in ascending order.
     pub fn ahead(&self) -> Ahead<'_>
         ensures { result ≡ self.now }
     {
@@ -75,6 +76,7 @@ impl Table {
 
     /// A new table with this slot in place of the one of its zone, or beside the others, which it shares. A step is a
     /// reference copied, to a slot or to a chunk of them: at most 256 of the first, and one chunk for each 64 slots.
+    /// The error is out of memory.
     pub fn with<L: Ledger>(
         &self,
         alloc: Global,
@@ -92,7 +94,7 @@ impl Table {
     }
 
     /// A new table without the slot of a zone, equal to this one where the zone has none. It copies no more than
-    /// [`Table::with`].
+    /// [`Table::with`]. The error is out of memory.
     pub fn without<L: Ledger>(
         &self,
         alloc: Global,
@@ -117,8 +119,8 @@ impl Table {
         self.slots.get(&ZoneKey::of(zone))
     }
 
-    /// The slot that answers for a name and a type: that of the closest enclosing zone, but for a DS that of the closest zone
-    /// above the name, if there is one (RFC 4035 section 3.1.4.1).
+    /// The slot that answers for a name and a type: that of the closest enclosing zone, but for a DS that of the
+    /// closest zone above the name, if there is one (RFC 4035 section 3.1.4.1).
     #[tactic(auto, unfolding(crate::specs::Table::closest_for))]
     pub fn closest(&self, name: &Name, kind: u16) -> Option<&Slot>
         ensures value { option_map (λ r. r.now) result ≡ closest_for self.now name.now kind }
@@ -153,7 +155,7 @@ impl Table {
         ensures value { option_map (λ r. r.now) result ≡ closest self.now name.now }
         ensures nearest { IsClosest self.now name.now (option_map (λ r. r.now) result) }
     {
-        // a zone that encloses a name encloses all names that stand between the two in canonical order
+        // a zone that encloses a name encloses all names between the two in canonical order
         let mut asked = *name;
         'ancestors: loop {
             let slot = self.slots.last_upto(&ZoneKey::of(&asked))?;

@@ -14,10 +14,11 @@ use dz_name::Name;
 use std::cmp::Ordering;
 use std::marker::Model;
 
-/// How many octets of a sort key stand beside the name.
+/// How many octets of a sort key are kept beside the name.
 const LEAD: usize = 16;
 
-/// What a table is asked with: a zone behind the first octets of its sort key, by which a map tells most zones apart.
+/// What a table is asked with: a zone preceded by the first octets of its sort key, by which a map tells most zones
+/// apart.
 #[derive(Clone, Copy)]
 pub(crate) struct ZoneKey {
     lead: [u8; LEAD],
@@ -62,7 +63,7 @@ impl ZoneKey {
     }
 }
 
-/// The first octets, with zeros behind them where they are few.
+/// The first octets, followed by zeros where they are few.
 fn lead_of(octets: &[u8]) -> [u8; LEAD]
     ensures { result ≡ lead_of 16 octets.now }
 {
@@ -77,6 +78,7 @@ impl PartialEq for ZoneKey {
 
     ghost laws = { names_partly_equal };
 
+    /// Whether the zones are the same name.
     fn eq(&self, other: &ZoneKey) -> bool {
         self.zone.same(&other.zone)
     }
@@ -91,6 +93,7 @@ impl PartialOrd for ZoneKey {
 
     ghost laws = { names_ordered };
 
+    /// The canonical order of the zones; any two compare.
     fn partial_cmp(&self, other: &ZoneKey) -> Option<Ordering> {
         Some(self.cmp(other))
     }
@@ -105,6 +108,7 @@ impl Ord for ZoneKey {
 
     ghost matches_eq = { same_ties };
 
+    /// The canonical order of the zones.
     fn cmp(&self, other: &ZoneKey) -> Ordering {
         self.zone.canonical_cmp(&other.zone)
     }
@@ -117,6 +121,7 @@ impl Lead for ZoneKey {
 
     ghost one = { canonical_same };
 
+    /// The first octets of the zone's sort key.
     fn lead(&self) -> [u8; LEAD] {
         self.lead
     }

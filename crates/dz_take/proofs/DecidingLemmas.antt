@@ -29,7 +29,7 @@ one_is transfer messages m = or_none (judge transfer messages m)
 pub decided_push : (transfer : Transfer) (messages : List Octets) (m : Octets) → decided_from transfer [] messages ≡ None → decided_from transfer [] (messages ++ m ∷ []) ≡ judge transfer messages m
 decided_push transfer messages m e = decided_more transfer [] messages (m ∷ []) ∙ (ap (λ d. or_else d (decided_from transfer messages (m ∷ []))) e ∙ one_is transfer messages m)
 
--- the same behind a front
+-- the same after a prefix
 record Decides (transfer : Transfer) (front messages : List Octets) (k : ℕ) (decision : Decision) : Type 0 where
   within : k < length messages
   decides : judge transfer (front ++ take k messages) (slice_index_or messages k []) ≡ Some decision
@@ -99,7 +99,7 @@ from_decides transfer front (m ∷ messages) (suc k) decision d =
 pub at_decides : (transfer : Transfer) (messages : List Octets) (k : ℕ) (decision : Decision) → DecidesAt transfer messages k decision → decided transfer messages ≡ Some decision
 at_decides transfer messages k decision d = from_decides transfer [] messages k decision (record { within = d.within; decides = d.decides; first = d.first })
 
--- where no message in front decides, all are read
+-- where no earlier message decides, all are read
 pub read_push : (transfer : Transfer) (front messages : List Octets) (m : Octets) → decided_from transfer front messages ≡ None → read_from transfer front (messages ++ m ∷ []) ≡ length (messages ++ m ∷ [])
 unfolding decided_from read_from
 read_push transfer front [] m none = elim (judge transfer front m) as (λ j. (if is_some j then 1 else suc 0) ≡ 1) [ None ↦ refl | Some decision ↦ refl ]

@@ -10,8 +10,8 @@ use Rattle.dz_serial.specs.Serial.{is_newer}
 use Rattle.dz_zone.specs.Valid.{fault_of}
 use Rattle.dz_zone.specs.Version.{Zone}
 use Rattle.dz_zone.specs.declared.fault.ZoneFault.{ZoneFault}
-use Rattle.dz_form.specs.Apex.{is_apex_soa, serial_of, held_serial}
-use Rattle.dz_form.specs.Stands.{Reading, more, complete, misfit}
+use Rattle.dz_xfr.specs.Apex.{is_apex_soa, serial_of, held_serial}
+use Rattle.dz_xfr.specs.Stands.{Reading, more, complete, misfit}
 use Rattle.dz_message.specs.Frame.{stream, messages_in}
 use Rattle.dz_message.specs.Message.{Content}
 use Rattle.dz_message.specs.Reading.{message_of}

@@ -1,4 +1,4 @@
--- What a message decides behind others.
+-- What a message decides after others.
 use Rattle.std.proofs.Common.{◌≡◌, ℕ, ◌+◌, ◌≤◌, false, List, ◌++◌, length, refl, Result, Ok, arith}
 use Rattle.std.specs.Prelude.{◌==◌, nat_lt, IfOk}
 use Rattle.std.specs.declared.alloc.AllocError.{AllocError}

@@ -5,8 +5,8 @@ use Rattle.std.specs.List.{remove}
 use Rattle.std.proofs.lemmas.Bool.{and_parts, cases_Bool}
 use Rattle.dz_name.specs.Name.{same_name}
 use Rattle.dz_name.specs.Order.{same_decides}
-use Rattle.dz_form.specs.declared.fault.ShapeFault.TheVariants.{NotSoaFirst}
-use Rattle.dz_form.specs.Apex.{is_apex_soa, apex_serial, serial_of}
+use Rattle.dz_xfr.specs.declared.fault.ShapeFault.TheVariants.{NotSoaFirst}
+use Rattle.dz_xfr.specs.Apex.{is_apex_soa, apex_serial, serial_of}
 use Rattle.dz_take.specs.declared.outcome.TakeFault.TheVariants as faults
 use Rattle.dz_name.specs.Words.{Name}
 use Rattle.dz_record.specs.Record.{Record}
@@ -14,10 +14,10 @@ use Rattle.dz_record.specs.Records.{distinct}
 use Rattle.dz_zone.specs.Valid.{fault_of}
 use Rattle.dz_zone.specs.Version.{Zone}
 use Rattle.dz_zone.specs.declared.fault.ZoneFault.{ZoneFault}
-use Rattle.dz_form.specs.declared.fault.FeedError.{FeedError}
-use Rattle.dz_form.specs.declared.fault.FeedError.TheVariants.{Shape, OutOfMemory}
-use Rattle.dz_form.specs.Feeding.{Says}
-use Rattle.dz_form.specs.Stands.{Forms, Blaming, IsComplete, Reading, more, complete, misfit, Stands, is_complete}
+use Rattle.dz_xfr.specs.declared.fault.FeedError.{FeedError}
+use Rattle.dz_xfr.specs.declared.fault.FeedError.TheVariants.{Shape, OutOfMemory}
+use Rattle.dz_xfr.specs.Feeding.{Says}
+use Rattle.dz_xfr.specs.Stands.{Forms, Blaming, IsComplete, Reading, more, complete, misfit, Stands, is_complete}
 use Rattle.dz_axfr.specs.Whole.{IsWhole}
 use Rattle.dz_axfr.specs.Whole as whole
 use Rattle.dz_axfr.specs.Reading as whole_reading
@@ -35,7 +35,7 @@ use Rattle.dz_take.specs.Transfer.{Transfer, Decision, refused}
 use Rattle.dz_take.specs.inner.Following.{begins_differences, Opens, IsWholeKind, IsIncrementalKind, AtWhole, AtDifferences, Refuses, serial_settles}
 use Rattle.dz_take.proofs.DistinctLemmas.{distinct_twice}
 
--- behind a first record that leaves it open
+-- after a first record that leaves it open
 pub form_behind : (transfer : Transfer) (first : Record) (rest : List Record) → Opens transfer first
     → form transfer (first ∷ rest) ≡ decision_of transfer.apex (reading_of transfer.apex (base_of transfer.ask transfer.held) (first ∷ rest))
 unfolding form
@@ -144,7 +144,7 @@ module _ (transfer : Transfer) (d e : incremental_assembly.Assembly) (records : 
       let form_here : IsIncremental d.held (d.fed ++ records) items = subst (λ h. IsIncremental h (d.fed ++ records) items) same (subst (λ rs. IsIncremental e.held rs items) fed form_of) in
       incremental_ended transfer d.held (d.fed ++ records) kind items decision form_here (subst (λ a. decision ≡ checked a items (fault_of a (distinct items))) eq is)
 
--- more records behind those of a kind are of the kind
+-- more records after those of a kind are of the kind
 pub whole_kind_more : (transfer : Transfer) (records others : List Record) → IsWholeKind transfer records → IsWholeKind transfer (records ++ others)
 whole_kind_more transfer records others k = record { first = k.first; second = k.second; rest = k.rest ++ others; are = ap (λ rs. rs ++ others) k.are; opens = k.opens; kind = k.kind }
 

@@ -4,7 +4,7 @@ use Rattle.std.specs.Prelude.{if◌then◌else◌}
 use Rattle.dz_name.specs.Words.{Name}
 use Rattle.dz_record.specs.Record.{Record}
 use Rattle.dz_zone.specs.Version.{Zone}
-use Rattle.dz_form.specs.Stands.{Reading}
+use Rattle.dz_xfr.specs.Stands.{Reading}
 use Rattle.dz_axfr.specs.Reading as whole
 use Rattle.dz_axfr.proofs.WholeLemmas.{whole_stands, whole_stands_once}
 use Rattle.dz_ixfr.specs.Reading as incremental
@@ -18,7 +18,7 @@ use Rattle.dz_take.proofs.KindLemmas.{form_behind}
 pub messages_tell : MessagesDecide
 messages_tell transfer messages part short ends = ap (λ ms. or_incomplete (decided transfer ms)) (come_back _ messages part (omega arith) short ends)
 
--- what stands of records, by the form of their kind, is what its reading says
+-- what holds of records, by the form of their kind, is what its reading says
 kind_reads : (apex : Name) (base : Option Zone) (records : List Record) (reading : Reading) → StandsOf apex (kind_in apex base records) records reading → reading ≡ reading_of apex base records
 kind_reads apex None records reading stands = whole_stands_once apex records reading stands
 kind_reads apex (Some zone) [] reading stands = whole_stands_once apex [] reading stands

@@ -8,7 +8,7 @@ use Rattle.dz_name.specs.Words.{Octets}
 use Rattle.dz_name.specs.Numbers.{two}
 use Rattle.dz_name.proofs.NumberLemmas.{length_two}
 use Rattle.dz_record.specs.Record.{Record}
-use Rattle.dz_form.specs.declared.fault.Progress.{Progress}
+use Rattle.dz_xfr.specs.declared.fault.Progress.{Progress}
 use Rattle.dz_message.specs.Frame.{frame, stream, first_messages, messages_in, AreShort}
 use Rattle.dz_message.specs.Message.{Content}
 use Rattle.dz_message.specs.Reading.{message_of}
@@ -45,7 +45,7 @@ is_first (message ∷ front) =
     let d : (length (message ∷ front) == 0) ≡ false = grind (arith, nat_tests) in
     c ∙ sym d
 
--- a message is judged by the number of octets and by the answer records in front of it
+-- a message is judged by the number of octets and by the answer records before it
 content_judged : (transfer : Transfer) (front : List Octets) (read : Result Content MessageFault) → judge_content transfer front read ≡ read_decides transfer (length front == 0) (answers front) read
 content_judged transfer front (Err fault) = refl
 content_judged transfer front (Ok m) = refl
@@ -59,7 +59,7 @@ unfolding answers
 answers_push [] message = append-nil (answers_in message)
 answers_push (first ∷ front) message = ap (λ rs. answers_in first ++ rs) (answers_push front message) ∙ sym (append_assoc (answers_in first) (flat_map answers_in front) (answers_in message))
 
--- a state in which nothing is decided stands for its records
+-- a state in which nothing is decided represents its records
 pub record StandsFor (transfer : Transfer) (records : List Record) (state : State) : Type 0 where
   pub undecided : IsUndecided transfer state
   pub are : records ≡ records_in state

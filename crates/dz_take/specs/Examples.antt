@@ -8,7 +8,7 @@ use Rattle.dz_header.specs.Question.{question_at}
 use Rattle.dz_header.specs.Shape.{behind_records}
 use Rattle.dz_record.specs.Record.{Record}
 use Rattle.dz_zone.specs.Version.{Zone}
-use Rattle.dz_form.specs.declared.fault.ShapeFault.TheVariants.{NotSoaFirst}
+use Rattle.dz_xfr.specs.declared.fault.ShapeFault.TheVariants.{NotSoaFirst}
 use Rattle.dz_message.specs.declared.fault.MessageFault.TheVariants.{ShortHeader}
 use Rattle.dz_message.specs.Frame.{frame, first_size, first_messages}
 use Rattle.dz_message.specs.Reading.{question_in, many, content_of, message_of}
@@ -18,10 +18,11 @@ use Rattle.dz_take.specs.Form.{form}
 use Rattle.dz_take.specs.Outcome.{answers, judge, decided_from, outcome}
 use Rattle.dz_take.specs.Transfer.{Transfer, up_to_date, refused}
 
+-- the apex example.
 abbrev example : Name
 example = codes "example" ∷ []
 
--- the whole zone is asked for with ID 2, and none is held
+-- the whole zone of example. is asked for with ID 2, and none is held
 abbrev whole : Transfer
 whole = record { apex = example; ask = Axfr; id = 2; held = None }
 
@@ -62,10 +63,11 @@ no_question = refl
 abbrev soa : Octets → Record
 soa serial = record { owner = example; kind = 6; ttl = 3600; rdata = 0 ∷ 0 ∷ serial ++ 0 ∷ 0 ∷ 0 ∷ 100 ∷ 0 ∷ 0 ∷ 0 ∷ 60 ∷ 0 ∷ 0 ∷ 2 ∷ 88 ∷ 0 ∷ 0 ∷ 0 ∷ 30 ∷ [] }
 
--- serial 5 is held
+-- the held version, of serial 5
 abbrev held : Zone
 held = record { apex = example; records = soa (0 ∷ 0 ∷ 0 ∷ 5 ∷ []) ∷ [] }
 
+-- its differences are asked for with ID 4
 abbrev beside : Transfer
 beside = record { apex = example; ask = Ixfr; id = 4; held = Some held }
 

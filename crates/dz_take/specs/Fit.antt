@@ -10,6 +10,6 @@ Fits transfer up_to_date = IsSome transfer.held
 Fits transfer (new zone) = zone.apex ≡ transfer.apex
 Fits transfer (refused fault) = ⊤
 
--- of all octets
+-- the outcome of any octets fits the transfer
 abbrev pub OutcomesFit : Type 0
 OutcomesFit = (transfer : Transfer) (octets : Octets) → Fits transfer (outcome transfer octets)

@@ -7,9 +7,9 @@ use Rattle.dz_serial.specs.Serial.{is_newer}
 use Rattle.dz_zone.specs.Valid.{fault_of}
 use Rattle.dz_zone.specs.Version.{Zone, zone_of}
 use Rattle.dz_zone.specs.declared.fault.ZoneFault.{ZoneFault}
-use Rattle.dz_form.specs.Apex.{is_apex_soa, serial_of, held_serial}
-use Rattle.dz_form.specs.Stands.{Reading, more, complete, misfit}
-use Rattle.dz_form.specs.declared.fault.ShapeFault.TheVariants.{NotSoaFirst}
+use Rattle.dz_xfr.specs.Apex.{is_apex_soa, serial_of, held_serial}
+use Rattle.dz_xfr.specs.Stands.{Reading, more, complete, misfit}
+use Rattle.dz_xfr.specs.declared.fault.ShapeFault.TheVariants.{NotSoaFirst}
 use Rattle.dz_axfr.specs.Reading as whole
 use Rattle.dz_ixfr.specs.Reading as incremental
 use Rattle.dz_take.specs.declared.ask.Ask.{Ask}
@@ -18,8 +18,8 @@ use Rattle.dz_take.specs.declared.outcome.TakeFault.TheVariants.{Shape, OldSeria
 use Rattle.dz_take.specs.declared.outcome.TakeFault.TheVariants as faults
 use Rattle.dz_take.specs.Transfer.{Transfer, Decision, up_to_date, new, refused}
 
--- what the serial of the first SOA decides beside a held version (RFC 1982 section 3.2): the same is no new version, and
--- one that isn't newer is refused
+-- what the serial of the first SOA decides against a held version (RFC 1982 section 3.2): the same is no new version,
+-- and one that isn't newer is refused
 abbrev pub settled : Option Zone → Record → Option Decision
 settled None first = None
 settled (Some zone) first =
@@ -36,8 +36,8 @@ base_of Ixfr held = held
 abbrev pub is_old_soa : Name → Record → Record → Bool
 is_old_soa apex first second = is_apex_soa apex second && not (serial_of second == serial_of first)
 
--- the form of the records' kind, and what stands of them: the incremental form where it was asked for and the second record
--- begins it, and else the whole form
+-- what holds of the records by the form of their kind: the incremental form where it was asked for and the second
+-- record begins it, and else the whole form
 abbrev pub reading_of : Name → Option Zone → List Record → Reading
 reading_of apex None records = whole.reading_of apex records
 reading_of apex (Some zone) [] = whole.reading_of apex []
@@ -57,6 +57,7 @@ decision_of apex more = None
 decision_of apex (complete zone) = Some (checked apex zone (fault_of apex (distinct zone)))
 decision_of apex (misfit fault) = Some (refused (Shape fault))
 
+-- a decision, or another one where there is none
 abbrev pub or_else : Option Decision → Option Decision → Option Decision
 or_else (Some decision) other = Some decision
 or_else None other = other

@@ -1,5 +1,5 @@
--- Meaning: what comes of the octets of a transfer: the first message that decides tells (RFC 5936 section 2.2, RFC 1995
--- section 4).
+-- Meaning: what comes of the octets of a transfer, which the first message that decides anything decides (RFC 5936
+-- section 2.2, RFC 1995 section 4).
 use Rattle.std.specs.Prelude.{◌≡◌, ℕ, suc, ◌<◌, Bool, false, ◌==◌, ◌&&◌, not, nat_lt, is_some, List, [], ◌∷◌, ◌++◌, length, take, slice_index_or, Option, Some, None, Result, Ok, Err, if◌then◌else◌}
 use Rattle.std.specs.List.{flat_map}
 use Rattle.dz_name.specs.Words.{Octets}
@@ -18,27 +18,28 @@ use Rattle.dz_take.specs.declared.outcome.TakeFault.TheVariants.{Incomplete, Mes
 use Rattle.dz_take.specs.Form.{form, or_else}
 use Rattle.dz_take.specs.Transfer.{Transfer, Decision, refused, kind_of}
 
--- the answer records of a message; octets that spell none have none
+-- the answer records of a message; octets that aren't a message have none
 abbrev pub answers_of : Result Content MessageFault → List Record
 answers_of (Ok m) = m.answers
 answers_of (Err fault) = []
 
+-- the answer records in the octets of a message
 unfoldable pub answers_in : Octets → List Record
 answers_in message = answers_of (message_of message)
 
--- those of all messages, joined
+-- the answer records of all messages, joined
 unfoldable pub answers : List Octets → List Record
 answers messages = flat_map answers_in messages
 
--- a response with opcode QUERY to this ID
+-- a message is a response with opcode QUERY to this ID
 abbrev pub responds : ℕ → Content → Bool
 responds id m = m.header.id == id && (is_response m.header.flags && opcode_of m.header.flags == OPCODE_QUERY)
 
--- its response code is NOERROR
+-- the response code of a message is NOERROR
 abbrev pub has_no_error : Content → Bool
 has_no_error m = code_of m.header.flags == number_of NoError
 
--- the question of the query
+-- a question is that of the query
 abbrev pub is_asked : Transfer → Question → Bool
 is_asked transfer q = same_name q.name transfer.apex && (q.kind == kind_of transfer.ask && q.class == CLASS_IN)
 
@@ -48,7 +49,7 @@ fits_question transfer is_first [] = not is_first
 fits_question transfer is_first (q ∷ []) = is_asked transfer q
 fits_question transfer is_first (q ∷ r ∷ questions) = false
 
--- a message behind others, once it is read
+-- what a message decides after others, once it is read
 abbrev pub judge_content : Transfer → List Octets → Result Content MessageFault → Option Decision
 judge_content transfer front (Err fault) = Some (refused (Message fault))
 judge_content transfer front (Ok m) =
@@ -57,13 +58,13 @@ judge_content transfer front (Ok m) =
     else if not (fits_question transfer (length front == 0) m.questions) then Some (refused WrongQuestion)
     else form transfer (answers front ++ m.answers)
 
--- what a message decides behind those in front of it; none: more is to come
+-- what a message decides after those before it; none: more is to come
 unfoldable pub judge : Transfer → List Octets → Octets → Option Decision
 judge transfer front message =
     if nat_lt TRANSFER_OCTETS (length (stream (front ++ message ∷ []))) then Some (refused TooLong)
     else judge_content transfer front (message_of message)
 
--- the first that decides, of messages behind others
+-- what the first of these messages that decides anything decides, after others
 unfoldable pub decided_from : Transfer → List Octets → List Octets → Option Decision
 decided_from transfer front [] = None
 decided_from transfer front (message ∷ messages) = or_else (judge transfer front message) (decided_from transfer (front ++ message ∷ []) messages)
@@ -72,6 +73,7 @@ decided_from transfer front (message ∷ messages) = or_else (judge transfer fro
 abbrev pub decided : Transfer → List Octets → Option Decision
 decided transfer messages = decided_from transfer [] messages
 
+-- a decision, or Incomplete where there is none
 abbrev pub or_incomplete : Option Decision → Decision
 or_incomplete (Some decision) = decision
 or_incomplete None = refused Incomplete
@@ -80,7 +82,7 @@ or_incomplete None = refused Incomplete
 abbrev pub outcome : Transfer → Octets → Decision
 outcome transfer octets = or_incomplete (decided transfer (messages_in octets))
 
--- the same in the words of a least number: the message of number k decides this, and none in front of it decides
+-- the same as a least number: message number k decides this, and none before it decides
 pub record DecidesAt (transfer : Transfer) (messages : List Octets) (k : ℕ) (decision : Decision) : Type 0 where
   pub within : k < length messages
   pub decides : judge transfer (take k messages) (slice_index_or messages k []) ≡ Some decision

@@ -12,6 +12,7 @@ use Rattle.dz_take.specs.Transfer.{Transfer}
 abbrev pub soa_asked : Transfer → Option Record
 soa_asked t = option_and_then apex_soa (base_of t.ask t.held)
 
--- with the transfer's ID, for its zone: unsigned, and without the length that TCP has before it
+-- the query: with the transfer's ID, for its zone, unsigned, and without the two octets of length that precede it over
+-- TCP
 abbrev pub asked_octets : Transfer → Octets
 asked_octets t = query_octets t.id t.apex (soa_asked t)

@@ -3,8 +3,8 @@ use Rattle.std.specs.Prelude.{⊤, ◌≡◌, ℕ, [], length, Option, Some, Non
 use Rattle.std.specs.Arc.{arc_value}
 use Rattle.dz_name.specs.Words.{Name, Octets}
 use Rattle.dz_zone.specs.Version.{Zone}
-use Rattle.dz_form.specs.declared.fault.Progress.{Progress}
-use Rattle.dz_form.specs.declared.fault.Progress.TheVariants as progress
+use Rattle.dz_xfr.specs.declared.fault.Progress.{Progress}
+use Rattle.dz_xfr.specs.declared.fault.Progress.TheVariants as progress
 use Rattle.dz_zonemd.specs.Standing.{standing}
 use Rattle.dz_zonemd.specs.declared.acceptance.Standing.{Standing}
 use Rattle.dz_take.specs.declared.ask.Ask.{Ask}
@@ -14,7 +14,7 @@ use Rattle.dz_take.specs.declared.outcome.Outcome.TheVariants.{UpToDate, New, Re
 use Rattle.dz_take.specs.Outcome.{outcome, octets_used}
 use Rattle.dz_take.specs.Transfer.{Transfer, Decision, up_to_date, new, refused}
 
--- a transfer, and its octets so far: the messages that were read, each behind its length
+-- a transfer, and its octets so far: the messages that were read, each preceded by its length
 pub record Taken : Type 0 where
   pub transfer : Transfer
   pub octets : Octets
@@ -28,7 +28,7 @@ abbrev pub IsOfZone : Name → Option Zone → Type 0
 IsOfZone apex None = ⊤
 IsOfZone apex (Some zone) = zone.apex ≡ apex
 
--- differences are asked for beside a held version alone
+-- differences are asked for only where a version is held
 abbrev pub CanAsk : Ask → Option Zone → Type 0
 CanAsk Axfr held = ⊤
 CanAsk Ixfr held = IsSome held
@@ -38,7 +38,7 @@ pub record IsTransfer (transfer : Transfer) : Type 0 where
   pub held : IsOfZone transfer.apex transfer.held
   pub asks : CanAsk transfer.ask transfer.held
 
--- an outcome, without where its version lies in memory
+-- an outcome, without where its version is in memory
 abbrev pub meaning_of : Outcome → Decision
 meaning_of UpToDate = up_to_date
 meaning_of (New version) = new (arc_value version)
@@ -55,7 +55,8 @@ standing_of up_to_date = None
 standing_of (new zone) = Some (standing zone.apex zone.records)
 standing_of (refused fault) = None
 
--- what came of a transfer is the outcome of its octets, all of them are used, and beside it stands its standing
+-- what came of a transfer is the outcome of its octets, all of them are used, and what the ZONEMD records say is kept
+-- with it
 pub record IsFinished (transfer : Transfer) (octets : Octets) (result : Outcome) (shown : Option Standing) : Type 0 where
   pub outcome : meaning_of result ≡ outcome transfer octets
   pub used : octets_used transfer octets ≡ length octets

@@ -7,14 +7,14 @@ use Rattle.dz_take.specs.declared.ask.Ask.{Ask}
 use Rattle.dz_take.specs.declared.ask.Ask.TheVariants.{Axfr, Ixfr}
 use Rattle.dz_take.specs.declared.outcome.TakeFault.{TakeFault}
 
--- the zone, the form that was asked for, the ID of the query, and the version that is held
+-- a transfer: the zone, the form that was asked for, the ID of the query, and the version that is held
 pub record Transfer : Type 0 where
   pub apex : Name
   pub ask : Ask
   pub id : ℕ
   pub held : Option Zone
 
--- the held version is the primary's; a new one; none, and why
+-- what comes of a transfer: the held version is the primary's; a new one; none, and why
 pub data Decision : Type 0 where
   up_to_date : Decision
   new : Zone → Decision

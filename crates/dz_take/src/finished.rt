@@ -14,7 +14,7 @@ use std::marker::Model;
 use std::sync::Arc;
 
 /// A transfer that was read, and what came of it. Contracts see the transfer and the octets that were read: its outcome
-/// is that of these octets, no octets stand behind those that decide it, and of a new version it keeps what the ZONEMD
+/// is that of these octets, and no octets follow those that decide it. Of a new version it keeps what the ZONEMD
 /// records of the version say.
 #[derive(Debug, Drop)]
 pub struct Finished {
@@ -35,6 +35,7 @@ impl Model for Finished {
 }
 
 impl Finished {
+    /// A transfer of which these octets were read, with what came of it.
     pub(crate) fn new(transfer: Transfer, octets: Octets, came: Outcome) -> Finished
         requires outcome { meaning_of came ≡ outcome transfer octets }
         requires used { octets_used transfer octets ≡ length octets }
@@ -79,7 +80,7 @@ impl Finished {
         self.transfer.shared()
     }
 
-    /// The octets that were read: the messages, each behind its length. All of them are used.
+    /// The octets that were read: the messages, each preceded by its length. All of them are used.
     pub fn octets(&self) -> &Octets
         ensures octets { result.now ≡ self.now.octets }
         ensures used { octets_used self.now.transfer self.now.octets ≡ length self.now.octets }
@@ -87,7 +88,7 @@ impl Finished {
         &self.octets
     }
 
-    /// The octets that were read, for good.
+    /// The octets that were read, by value.
     pub fn into_octets(self) -> Octets
         ensures { result ≡ self.octets }
     {
@@ -101,8 +102,8 @@ impl Finished {
         &self.outcome
     }
 
-    /// What the ZONEMD records of the new version say of it (RFC 8976 section 4); none exactly where the outcome is no new
-    /// version.
+    /// What the ZONEMD records of the new version say of it (RFC 8976 section 4); none exactly where the outcome is no
+    /// new version.
     pub fn standing(&self) -> Option<Standing>
         ensures { result ≡ standing_of (outcome self.now.transfer self.now.octets) }
     {

@@ -4,7 +4,7 @@
 mod ask;
 mod finished;
 mod fits;
-mod judging;
+mod judge;
 mod laws;
 mod outcome;
 mod state;
@@ -12,9 +12,9 @@ mod taking;
 mod transfer;
 
 pub use ask::Ask;
-pub use dz_form::{Progress, ShapeFault};
 pub use dz_message::MessageFault;
 pub use dz_tsig::TsigFault;
+pub use dz_xfr::{Progress, ShapeFault};
 pub use dz_zone::ZoneFault;
 pub use dz_zonemd::Standing;
 pub use finished::Finished;

@@ -3,14 +3,14 @@
 ghost use Rattle.std.specs.Prelude.{◌≡◌, ◌∷◌, ◌++◌, IfOk, option_map, true};
 ghost use Rattle.dz_record.specs.Records.{distinct};
 ghost use Rattle.dz_zone.specs.Valid.{fault_of};
-ghost use Rattle.dz_form.specs.Apex.{is_apex_soa};
-ghost use Rattle.dz_form.specs.Feeding.{IsOpen};
+ghost use Rattle.dz_xfr.specs.Apex.{is_apex_soa};
+ghost use Rattle.dz_xfr.specs.Feeding.{IsOpen};
 ghost use Rattle.dz_axfr.specs.Whole.{IsWhole};
 ghost use Rattle.dz_axfr.specs.Whole as whole_form;
 ghost use Rattle.dz_ixfr.specs.Incremental.{IsIncremental};
 ghost use Rattle.dz_ixfr.specs.Incremental as incremental_form;
 ghost use Rattle.dz_take.specs.Form.{is_old_soa, checked};
-ghost use Rattle.dz_form.specs.declared.fault.ShapeFault.TheVariants.{NotSoaFirst};
+ghost use Rattle.dz_xfr.specs.declared.fault.ShapeFault.TheVariants.{NotSoaFirst};
 ghost use Rattle.dz_take.specs.declared.outcome.TakeFault.TheVariants as faults;
 ghost use Rattle.dz_take.specs.Taken.{meaning_of};
 ghost use Rattle.dz_take.specs.Transfer.{refused};
@@ -19,11 +19,11 @@ ghost use Rattle.dz_take.specs.inner.Following.{Opens, IsWholeKind, IsIncrementa
 use crate::outcome::{Outcome, TakeFault};
 use crate::transfer::Transfer;
 use dz_axfr::Whole;
-use dz_form::{FeedError, Progress, ShapeFault, apex_serial, held_serial};
 use dz_ixfr::Differences;
 use dz_name::Name;
 use dz_record::Rr;
 use dz_serial::newer;
+use dz_xfr::{FeedError, Progress, ShapeFault, apex_serial, held_serial};
 use dz_zone::{Version, ZoneError, check};
 use std::alloc::{AllocError, Global};
 use std::sync::Arc;
@@ -41,7 +41,7 @@ pub(crate) enum State {
     Ended(Outcome),
 }
 
-/// Reads the answer records of one more message.
+/// Reads the answer records of one more message. `AllocError` where memory runs out.
 pub(crate) fn feed(
     alloc: Global,
     transfer: &Transfer,
@@ -60,7 +60,7 @@ pub(crate) fn feed(
     }
 }
 
-/// The first answer records of a transfer.
+/// Reads the first answer records of a transfer. `AllocError` where memory runs out.
 fn begin(alloc: Global, transfer: &Transfer, mut records: Vec<Rr>) -> Result<State, AllocError>
     ensures { IfOk result (Reads transfer.now records.items) }
 {
@@ -77,13 +77,14 @@ fn begin(alloc: Global, transfer: &Transfer, mut records: Vec<Rr>) -> Result<Sta
     }
 }
 
+/// The outcome where the first record isn't an SOA of the apex.
 fn not_soa_first() -> Outcome
     ensures { meaning_of result ≡ refused (faults.Shape NotSoaFirst) }
 {
     Outcome::Refused(TakeFault::Shape(ShapeFault::NotSoaFirst))
 }
 
-/// The outcome that the serial of the first SOA settles beside the held version, if it does.
+/// The outcome that the serial of the first SOA settles against the held version, if it does.
 fn settled(transfer: &Transfer, serial: u32) -> Option<Outcome>
     ensures { serial_settles transfer.now.held serial ≡ option_map meaning_of result }
 {
@@ -98,7 +99,7 @@ fn settled(transfer: &Transfer, serial: u32) -> Option<Outcome>
     }
 }
 
-/// A form that this SOA opens, and the records behind it.
+/// Begins a form that this SOA opens, and reads the records after it. `AllocError` where memory runs out.
 fn begin_form(
     alloc: Global,
     transfer: &Transfer,
@@ -145,6 +146,7 @@ fn is_old_soa(apex: &Name, first: &Rr, second: &Rr) -> bool
     }
 }
 
+/// Reads further records of the whole form. `AllocError` where memory runs out.
 fn feed_whole(
     alloc: Global,
     transfer: &Transfer,
@@ -163,6 +165,7 @@ fn feed_whole(
     }
 }
 
+/// Reads further records of the incremental form. `AllocError` where memory runs out.
 fn feed_differences(
     alloc: Global,
     transfer: &Transfer,
@@ -186,7 +189,7 @@ fn feed_differences(
     }
 }
 
-/// The version that the records of a whole form make, or their first fault.
+/// The version that the records of a complete form make, or their first fault. `AllocError` where memory runs out.
 fn settle(alloc: Global, apex: &Name, records: Vec<Rr>) -> Result<Outcome, AllocError>
     ensures { IfOk result (λ o. meaning_of o
         ≡ checked apex.now records.items (fault_of apex.now (distinct records.items))) }
@@ -198,7 +201,7 @@ fn settle(alloc: Global, apex: &Name, records: Vec<Rr>) -> Result<Outcome, Alloc
     }
 }
 
-/// The outcome that an assembler's fault makes.
+/// The outcome that an assembler's fault makes. `AllocError` where memory ran out.
 fn refuse(error: FeedError) -> Result<Outcome, AllocError>
     ensures { IfOk result (λ o. Refuses error o) }
 {

@@ -9,14 +9,14 @@ ghost use Rattle.dz_take.specs.inner.Following.{IsProgress, IsOutcome};
 
 use crate::ask::Ask;
 use crate::finished::Finished;
-use crate::judging::judge;
+use crate::judge::judge;
 use crate::outcome::{Outcome, TakeFault};
 use crate::state::State;
 use crate::transfer::Transfer;
-use dz_form::Progress;
 use dz_message::push_frame;
 use dz_name::dns::MESSAGE_OCTETS;
 use dz_name::{Name, Octets};
+use dz_xfr::Progress;
 use dz_zone::Version;
 use std::alloc::{AllocError, Global};
 use std::marker::Model;
@@ -24,7 +24,7 @@ use std::mem::replace;
 use std::sync::Arc;
 
 /// A transfer that is read message by message. Contracts see the transfer and its octets so far: the messages that were
-/// fed, each behind its length.
+/// fed, each preceded by its length.
 #[derive(Drop)]
 pub struct Taking {
     alloc: Global,
@@ -45,8 +45,8 @@ impl Model for Taking {
 }
 
 impl Taking {
-    /// A transfer of which nothing was read: the zone, what is asked for, the ID of the query, and the version that is held,
-    /// which is shared. A held version is of the zone, and beside none only the whole zone is asked for.
+    /// A transfer of which nothing was read: the zone, what is asked for, the ID of the query, and the version that is
+    /// held, which is shared. A held version is of the zone, and where none is held only the whole zone is asked for.
     #[tactic(auto, using(crate::proofs::TakingLemmas::nothing_decided))]
     pub fn start(alloc: Global, apex: Name, ask: Ask, id: u16, held: Option<Arc<Version>>) -> Taking
         requires held { IsOfZone apex (option_map arc_value held) }
@@ -62,12 +62,12 @@ impl Taking {
         }
     }
 
-    /// Reads the next message, of at most 65,535 octets: whether something is decided, or more is to come. Once something
-    /// is decided it is fed no more.
+    /// Reads the next message, of at most 65,535 octets: whether something is decided, or more is to come. Once
+    /// something is decided nothing more may be fed.
     ///
     /// # Errors
     ///
-    /// `AllocError` where memory is wanting. What was read is then gone: it is a taking of no octets.
+    /// `AllocError` where memory runs out. What was read is then gone: it is a taking of no octets.
     pub fn feed(&mut self, message: &[u8]) -> Result<Progress, AllocError>
         requires undecided { decided self.old.transfer (messages_in self.old.octets) ≡ None }
         requires short { length message.now ≤ MESSAGE_OCTETS }
@@ -97,12 +97,12 @@ impl Taking {
         }
     }
 
-    /// The transfer with what came of it. Of a new version that a ZONEMD record may verify the digested octets are hashed
-    /// here (RFC 8976); without such a record nothing is.
+    /// The transfer with what came of it. Of a new version that a ZONEMD record may verify the digested octets are
+    /// hashed here (RFC 8976); without such a record nothing is.
     ///
     /// # Errors
     ///
-    /// `AllocError` where memory is wanting.
+    /// `AllocError` where memory runs out.
     pub fn finish(self) -> Result<Finished, AllocError>
         ensures { IfOk result (λ f. f ≡ self) }
     {

@@ -11,7 +11,8 @@ use dz_zone::Version;
 use std::marker::Model;
 use std::sync::Arc;
 
-/// The zone, the form that was asked for, the ID of the query, and the version that is held, which is shared.
+/// A transfer: the zone, the form that was asked for, the ID of the query, and the version that is held, which is
+/// shared.
 #[derive(Debug, Drop)]
 pub(crate) struct Transfer {
     apex: Name,
@@ -40,6 +41,8 @@ impl Model for Transfer {
 }
 
 impl Transfer {
+    /// The transfer of these parts. A held version is of the zone, and where none is held only the whole zone is asked
+    /// for.
     pub fn new(apex: Name, ask: Ask, id: u16, held: Option<Arc<Version>>) -> Transfer
         requires held { IsOfZone apex (option_map arc_value held) }
         requires asks { CanAsk ask (option_map arc_value held) }
@@ -58,18 +61,21 @@ impl Transfer {
         }
     }
 
+    /// The apex of the zone.
     pub fn apex(&self) -> &Name
         ensures { result.now ≡ self.now.apex }
     {
         &self.apex
     }
 
+    /// What was asked for.
     pub fn ask(&self) -> Ask
         ensures { result ≡ self.now.ask }
     {
         self.ask
     }
 
+    /// The ID of the query.
     pub fn id(&self) -> u16
         ensures { result ≡ self.now.id }
     {

@@ -1,5 +1,5 @@
-//! What the version of a catalog lists. Each reason that breaks one, groups, changes of ownership and what is ignored are
-//! computed by the checker (`specs/Examples.antt` of `dz_catalog`).
+//! What the version of a catalog lists. Each reason that breaks one, groups, changes of ownership and what is ignored
+//! are computed by the checker (`specs/Examples.antt` of `dz_catalog`).
 
 use crate::names::{name, name_of};
 use crate::records::Rdata::{Octets, Soa, Target};
@@ -55,10 +55,12 @@ fn expect_node(rt: &impl Abort, node: &Node, wanted: &Wanted) {
     expect_groups(rt, node, groups);
 }
 
+/// That a kept name has this text.
 fn expect_kept(rt: &impl Abort, found: &KeptName, text: &str) {
     assert!(rt; found.as_ref().same(&name(rt, text).as_ref()), "{text}");
 }
 
+/// That a node has groups with this RDATA.
 fn expect_groups(rt: &impl Abort, node: &Node, wanted: &[&[u8]]) {
     assert_eq!(rt; node.groups.as_slice().len(), wanted.len());
     'groups: for (group, wanted) in node.groups.as_slice().iter().zip(wanted) {
@@ -152,7 +154,7 @@ fn label_of(number: usize) -> [u8; 5] {
     label
 }
 
-/// How many nodes a catalog with so many members has, or why it is broken.
+/// How many nodes a catalog with this many members has, or why it is broken.
 fn many(
     rt: &impl Abort,
     alloc: Global,

@@ -1,10 +1,10 @@
 //! Configurations of catalogs.
 
 ghost use Rattle.std.specs.Prelude.{IfOk};
-ghost use Rattle.dz_member.specs.Config.{IsAllowed};
+ghost use Rattle.dz_settings.specs.Config.{IsAllowed};
 
 use crate::names::{name, peer};
-use dz_member::{CatalogSettings, Config, Groups, Key, Peers, Policy, Secret};
+use dz_settings::{CatalogSettings, Config, Groups, Key, Peers, Policy, Secret};
 use std::alloc::{AllocError, Global};
 use std::process::Abort;
 
@@ -31,6 +31,7 @@ pub fn signed_config(
     allowed(rt, all)
 }
 
+/// A key named `key.example.` with this secret.
 fn key(rt: &impl Abort, secret: &[u8]) -> Key {
     match Secret::from_slice(secret) {
         None => panic!(rt; "no secret"),
@@ -41,6 +42,7 @@ fn key(rt: &impl Abort, secret: &[u8]) -> Key {
     }
 }
 
+/// A catalog of this name with this key, policy `off`, the primary 192.0.2.1 and no group.
 fn settings(
     rt: &impl Abort,
     alloc: Global,
@@ -56,6 +58,7 @@ fn settings(
     })
 }
 
+/// The configuration of these catalogs, which is allowed.
 fn allowed(rt: &impl Abort, catalogs: Vec<CatalogSettings>) -> Result<Config, AllocError>
     ensures { IfOk result (λ config. IsAllowed config) }
 {

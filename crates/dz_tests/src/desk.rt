@@ -1,7 +1,7 @@
 //! What readings see of a published list.
 
 ghost use Rattle.std.specs.Prelude.{◌≡◌, true, false, [], ◌∷◌, None, IfOk};
-ghost use Rattle.dz_member.specs.Config.{IsAllowed};
+ghost use Rattle.dz_settings.specs.Config.{IsAllowed};
 ghost use Rattle.dz_history.specs.After.{after};
 ghost use Rattle.dz_history.specs.Legal.{IsLegal};
 
@@ -10,7 +10,7 @@ use crate::desks::{last_of, open, open_one};
 use crate::transfers::CATALOG;
 use dz_desk::{Desk, Publisher, Reading, Sight, Told};
 use dz_history::{Entry, Step};
-use dz_member::Config;
+use dz_settings::Config;
 use dz_table::Table;
 use std::alloc::{AllocError, Global};
 use std::process::Abort;

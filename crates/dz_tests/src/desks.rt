@@ -8,7 +8,7 @@ use std::alloc::Global;
 use std::process::Abort;
 use std::sync::Wait;
 
-/// A desk with so many readings.
+/// A desk with this many readings.
 pub fn open<R: Abort + Wait>(rt: &R, alloc: Global, readers: u8) -> Desk
     requires { 0 < readers }
     ensures list { (result.publisher.list ≡ []) × (result.publisher.staged ≡ None) }

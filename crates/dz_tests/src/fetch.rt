@@ -16,7 +16,7 @@ use std::alloc::{AllocError, Global};
 use std::process::Abort;
 use std::test::Fail;
 
-/// The query with ID 2 for all of `example.`, behind its length (RFC 5936 section 2.1).
+/// The query with ID 2 for all of `example.`, preceded by its length (RFC 5936 section 2.1).
 const QUERY: &[u8] = b"\0\x19\0\x02\0\0\0\x01\0\0\0\0\0\0\x07example\0\0\xfc\0\x01";
 
 const SOA: Row = ("example.", TYPE_SOA, 3600, Soa(5));
@@ -25,7 +25,7 @@ const NS: Row = ("example.", TYPE_NS, 3600, Target("ns.invalid."));
 
 const WWW: Row = ("www.example.", TYPE_A, 3600, Octets(b"\xc0\0\x02\x50"));
 
-/// `example.` with serial 5 in three messages of 121, 39 and 77 octets, each behind its length: 243 octets.
+/// `example.` with serial 5 in three messages of 121, 39 and 77 octets, each preceded by its length: 243 octets.
 fn stream(rt: &impl Abort, alloc: Global) -> Result<Vec<u8>, AllocError> {
     let asked = [("example.", TYPE_AXFR, CLASS_IN)];
     let first = message(rt, alloc, (2, GOOD), &asked, &[SOA, NS])?;
@@ -80,7 +80,7 @@ fn expect_fault(rt: &impl Abort, fetched: Fetched) {
     }
 }
 
-/// That a call came to serial 5 of the zone, of so many octets.
+/// That a call came to serial 5 of the zone, in this many octets.
 fn expect_zone(rt: &impl Abort, fetched: Fetched, octets: usize) {
     let finished = finished(rt, fetched);
     match finished.outcome() {
@@ -140,7 +140,7 @@ fn a_failed_call_on_the_link_is_its_fault(rt: HostRuntime) -> Result<(), Fail> {
     Ok(())
 }
 
-/// That a link which ends behind so many octets gives an incomplete transfer, of so many.
+/// That a link which ends after `count` octets gives an incomplete transfer, of `kept` octets.
 fn expect_incomplete(
     rt: &impl Abort,
     alloc: Global,
@@ -177,7 +177,7 @@ fn octets_behind_the_transfer_are_not_read(rt: HostRuntime) -> Result<(), Fail> 
     let alloc = rt.alloc();
     let mut octets = stream(&rt, alloc)?;
     octets.extend_from_slice(b"\0\x01\0")?;
-    // behind the write there are six reads, of a length and a message each; a seventh would fail
+    // after the write there are six reads, of a length and a message each; a seventh would fail
     let mut dialer = dialer(alloc, octets, &[], &[7])?;
     expect_zone(&rt, fetch_over(&rt, alloc, &mut dialer), 243);
     Ok(())

@@ -17,6 +17,8 @@ mod fetch;
 #[cfg(test)]
 mod generated;
 #[cfg(test)]
+mod keeping;
+#[cfg(test)]
 mod links;
 #[cfg(test)]
 mod lookup;
@@ -33,9 +35,15 @@ mod query;
 #[cfg(test)]
 mod records;
 #[cfg(test)]
+mod replay;
+#[cfg(test)]
 mod reply;
 #[cfg(test)]
 mod report;
+#[cfg(test)]
+mod run;
+#[cfg(test)]
+mod serve;
 #[cfg(test)]
 mod signed;
 #[cfg(test)]

@@ -322,7 +322,7 @@ const OF_ALIASES: &[Chained] = &[
         &[],
         Some((Want::Here("a.example", 1), "a.example")),
     ),
-    // the wildcard's alias stands with the asked name
+    // the wildcard's alias has the asked name
     (
         "q.w.example",
         TYPE_A,
@@ -369,7 +369,7 @@ fn link(rt: &impl Abort, number: u8) -> Name {
     )
 }
 
-/// So many aliases, each of the next, and an address behind them.
+/// This many aliases, each of the next, and an address after them.
 fn alias_zone(rt: &impl Abort, alloc: Global, aliases: u8) -> Result<Version, AllocError> {
     let rows: [Row; 2] = [
         ("z", TYPE_SOA, 60, Soa(1)),
@@ -393,7 +393,7 @@ const ALIASES: &[&str] = &[
     "c10.z", "c11.z", "c12.z", "c13.z", "c14.z", "c15.z",
 ];
 
-/// That of so many aliases a lookup follows these, and comes to this.
+/// That of this many aliases a lookup follows these, and comes to this.
 fn expect_aliases(
     rt: &impl Abort,
     alloc: Global,
@@ -408,7 +408,7 @@ fn expect_aliases(
 
 #[test]
 fn sixteen_aliases_are_followed(rt: HostRuntime) -> Result<(), Fail> {
-    // what stands behind 15 aliases is found; behind 16 the chain has stopped
+    // what comes after 15 aliases is found; after 16 the chain has stopped
     let address = Some((Want::Here("c15.z", 1), "c15.z"));
     expect_aliases(&rt, rt.alloc(), 15, ALIASES.split_at(15).0, address)?;
     expect_aliases(&rt, rt.alloc(), 16, ALIASES, None)?;

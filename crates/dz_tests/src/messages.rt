@@ -46,7 +46,7 @@ pub fn message(
     Ok(octets)
 }
 
-/// Puts the record of a row behind octets.
+/// Appends the record of a row to octets.
 fn push_row(
     rt: &impl Abort,
     alloc: Global,
@@ -59,7 +59,7 @@ fn push_row(
     push_record(rt, octets, (owner.wire(), *kind, *ttl), rdata.as_slice())
 }
 
-/// Puts a record behind octets.
+/// Appends a record to octets.
 pub fn push_record(
     rt: &impl Abort,
     octets: &mut Vec<u8>,
@@ -83,7 +83,7 @@ fn small(rt: &impl Abort, count: usize) -> u16 {
     }
 }
 
-/// Puts a message behind octets, itself behind its length (RFC 1035 section 4.2.2).
+/// Appends a message, preceded by its length, to octets (RFC 1035 section 4.2.2).
 pub fn push_framed(
     rt: &impl Abort,
     octets: &mut Vec<u8>,

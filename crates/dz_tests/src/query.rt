@@ -45,6 +45,7 @@ impl<J: OfDesk> Ear for Early<J> {
 
     ghost may_fail = { ⊤ };
 
+    /// Answers that the zone isn't served, while the reading has seen nothing.
     fn hear<R: Wait>(&self, _rt: &R, _peer: &Peer, _zone: &Name, reading: &mut Reading) -> Hearing {
         if reading.count() == 0 {
             Hearing::Heard(Heard::NotOurs)
@@ -65,6 +66,7 @@ impl<J: OfDesk> Ear for Deaf<J> {
 
     ghost may_fail = { ⊤ };
 
+    /// Answers that the log failed.
     fn hear<R: Wait>(
         &self,
         _rt: &R,
@@ -95,7 +97,7 @@ const NOTIFY: &[u8] = b"\0\x50\x24\0\0\x01\0\0\0\0\0\0\x07example\0\0\x06\0\x01"
 
 const NOT_OURS: &[u8] = b"\0\x50\xa0\x09\0\x01\0\0\0\0\0\0\x07example\0\0\x06\0\x01";
 
-/// Messages, each behind its length.
+/// Messages, each preceded by its length.
 fn stream_of(rt: &impl Abort, alloc: Global, messages: &[[u8; 25]]) -> Result<Vec<u8>, AllocError> {
     let mut octets = Vec::new(alloc);
     'messages: for message in messages {
@@ -123,6 +125,7 @@ fn open<R: Abort + Wait>(rt: &R, alloc: Global) -> (Publisher, Worker)
     }
 }
 
+/// A worker with this reading.
 fn make(alloc: Global, reading: Reading) -> Result<Worker, AllocError>
     ensures { IfOk result (λ worker. worker.reading ≡ reading) }
 {
@@ -188,6 +191,7 @@ fn play<R: Abort + Wait>(
     }
 }
 
+/// Two packets, of peers 1 and 2, and the numbers of the calls that fail.
 fn two_packets(
     alloc: Global,
     packets: [&[u8]; 2],
@@ -320,7 +324,7 @@ fn a_message_that_is_cut_gets_no_reply(rt: HostRuntime) -> Result<(), Fail> {
     Ok(())
 }
 
-/// That a session of two messages ends where the call of this number fails, behind so many octets of the replies.
+/// That a session of two messages ends where the call of this number fails, after `count` octets of the replies.
 fn expect_failure<R: Abort + Wait>(
     rt: &R,
     alloc: Global,

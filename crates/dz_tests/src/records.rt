@@ -75,7 +75,7 @@ pub fn record(rt: &impl Abort, alloc: Global, row: &Row) -> Result<Rr, AllocErro
     Ok(make(rt, alloc, name(rt, owner), *kind, *ttl, octets))
 }
 
-/// Puts the records of rows behind others.
+/// Appends the records of rows to others.
 pub fn push_records(
     rt: &impl Abort,
     alloc: Global,

@@ -6,9 +6,9 @@ use crate::names::name;
 use crate::records::Rdata::Target;
 use crate::records::{Row, make, push_records, soa};
 use crate::versions::version_of;
-use dz_header::ReplyBuffer;
+use dz_header::{ReplyBuffer, Transport};
 use dz_name::dns::{TYPE_NS, TYPE_TXT};
-use dz_reply::{Transport, Turn, reply_into};
+use dz_reply::{Turn, reply_into};
 use dz_steps::Steps;
 use dz_table::{Slot, Table};
 use std::alloc::{AllocError, Global};
@@ -40,7 +40,7 @@ fn counted_table<L: Ledger>(blank: Blank, alloc: Global, slot: Slot) -> Result<T
     Table::empty(alloc).with(alloc, slot, &mut steps)
 }
 
-/// The zone of one TXT record, whose RDATA has so many octets of 7.
+/// The zone of one TXT record, whose RDATA has this many octets of value 7.
 fn text_table(rt: &impl Abort, alloc: Global, size: usize) -> Result<Table, AllocError> {
     let apex = name(rt, "example.");
     let rows: [Row; 2] = [
@@ -55,7 +55,7 @@ fn text_table(rt: &impl Abort, alloc: Global, size: usize) -> Result<Table, Allo
     table_of(alloc, Slot::new(alloc, &apex, 1000, Some(version))?)
 }
 
-/// That a reply has so many octets, and this header.
+/// That a reply has this many octets, and this header.
 fn expect_reply(rt: &impl Abort, turn: Turn, buffer: &ReplyBuffer, wanted: (usize, &[u8])) {
     match turn {
         Turn::Written(count) => assert_eq!(rt; (count, buffer.reply(12)), wanted),
@@ -63,7 +63,7 @@ fn expect_reply(rt: &impl Abort, turn: Turn, buffer: &ReplyBuffer, wanted: (usiz
     }
 }
 
-/// That the reply over TCP with a record of so many octets of RDATA has so many octets, and this header.
+/// That the reply over TCP with a record of this many octets of RDATA has the wanted number of octets, and this header.
 fn expect_limit(
     rt: &impl Abort,
     alloc: Global,

@@ -15,6 +15,7 @@ const REASONS: &[(TakeFault, &[u8])] = &[
     (TakeFault::Tsig(TsigFault::Error), b"tsig 6"),
 ];
 
+/// That a fault has these words.
 fn expect_reason(
     rt: &impl Abort,
     alloc: Global,

@@ -1,7 +1,7 @@
 //! Transfers of catalogs that have keys: what is signed is taken, and of the rest the fault is told (RFC 8945).
 
 ghost use Rattle.std.specs.Prelude.{◌≡◌, [], None, IfOk};
-ghost use Rattle.dz_member.specs.Config.{IsAllowed};
+ghost use Rattle.dz_settings.specs.Config.{IsAllowed};
 
 use crate::configs::signed_config;
 use crate::desks::open_one;
@@ -12,11 +12,11 @@ use crate::transfers::{CATALOG, MEMBER};
 use dz_desk::Publisher;
 use dz_fleet::{Due, Job};
 use dz_io::MemorySink;
-use dz_member::Config;
+use dz_job::take_stream;
 use dz_name::Octets;
 use dz_name::dns::{CLASS_IN, TYPE_A, TYPE_AXFR, TYPE_NS, TYPE_PTR, TYPE_SOA, TYPE_TXT};
 use dz_provision::{Naming, Parts, Provisioner};
-use dz_stream::take_stream;
+use dz_settings::Config;
 use dz_tsig::{request_mac, sign_stream};
 use std::alloc::{AllocError, Global};
 use std::marker::Brand;
@@ -66,7 +66,7 @@ enum Change {
     Unsigned,
     /// One bit of the last MAC is turned.
     OtherMac,
-    /// It is signed so many seconds after the query.
+    /// It is signed this many seconds after the query.
     Later(u64),
 }
 

@@ -74,8 +74,8 @@ pub fn latest<D: Disk + Drop>(
     }
 }
 
-/// Saves serial 5 and 6 of `example.` on a disk that stops at a call, counted from 0 after the opening, and crashes: which
-/// serial is found then, and whether the first and the second save were answered.
+/// Saves serial 5 and 6 of `example.` on a disk that stops at a call, counted from 0 after the opening, and crashes:
+/// which serial is found then, and whether the first and the second save were answered.
 fn stopped(
     rt: &impl Abort,
     alloc: Global,

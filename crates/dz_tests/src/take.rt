@@ -31,7 +31,7 @@ fn whole(rt: &impl Abort, alloc: Global) -> Taking
 
 /// A message of 65,535 octets: one record that fills it.
 fn long_message(rt: &impl Abort, alloc: Global) -> Result<Vec<u8>, AllocError> {
-    // 12 octets of header and 11 in front of the RDATA leave room for 65,512
+    // 12 octets of header and 11 before the RDATA leave room for 65,512
     let mut octets = Vec::from_slice(alloc, b"\0\x02\x84\0\0\0\0\x01\0\0\0\0")?;
     let rdata = vec![in alloc; 0u8; 65_512]?;
     push_record(rt, &mut octets, (b"\0", 65_280, 0), rdata.as_slice())?;
@@ -39,7 +39,7 @@ fn long_message(rt: &impl Abort, alloc: Global) -> Result<Vec<u8>, AllocError> {
     Ok(octets)
 }
 
-/// Feeds the message so many times, and more is to come each time.
+/// Feeds the message this many times, and more is to come each time.
 fn feed_times(
     rt: &impl Abort,
     taking: &mut Taking,
@@ -59,7 +59,7 @@ fn feed_times(
     Ok(())
 }
 
-/// That the message behind what was read makes the stream too long.
+/// That the message after what was read makes the stream too long.
 fn expect_too_long(rt: &impl Abort, mut taking: Taking, message: &[u8]) -> Result<(), AllocError>
     requires { decided taking.transfer (messages_in taking.octets) ≡ None }
 {

@@ -12,14 +12,14 @@ use crate::transfers::{CATALOG, listing_message};
 use dz_desk::{Publisher, Reading};
 use dz_io::{MemoryClock, MemoryDialer, MemorySink};
 use dz_provision::{Locked, Naming, Parts, Provisioner, Shared};
-use dz_work::{Report, TransferEnd, Transfers, serve_transfers, work_one};
+use dz_transfer::{Report, TransferEnd, Transfers, serve_transfers, work_one};
 use std::alloc::{AllocError, Global};
 use std::marker::Brand;
 use std::process::Abort;
 use std::sync::Wait;
 use std::test::*;
 
-/// The query for all of cat1.example., with ID 1, behind its length (RFC 5936 section 2.1).
+/// The query for all of cat1.example., with ID 1, preceded by its length (RFC 5936 section 2.1).
 const QUERY: &[u8] = b"\0\x1e\0\x01\0\0\0\x01\0\0\0\0\0\0\x04cat1\x07example\0\0\xfc\0\x01";
 
 const PUBLISHED: &[u8] =
@@ -27,8 +27,8 @@ const PUBLISHED: &[u8] =
 
 const FAILED: &[u8] = b"job 1 cat1.example. axfr id 1 at 192.0.2.1:53\nfailed cat1.example.\n";
 
-/// A provisioner of one catalog, behind a lock.
-fn begin<R: Abort + Wait, J: Naming>(
+/// A provisioner of one catalog, in a lock.
+pub fn begin<R: Abort + Wait, J: Naming>(
     rt: &R,
     alloc: Global,
     publisher: Publisher,
@@ -46,7 +46,7 @@ fn begin<R: Abort + Wait, J: Naming>(
 }
 
 /// Ends the provisioner and its publisher: what was written.
-fn written<R: Wait, J: Naming>(rt: &R, shared: Shared<MemorySink, J>) -> MemorySink {
+pub fn written<R: Wait, J: Naming>(rt: &R, shared: Shared<MemorySink, J>) -> MemorySink {
     let Parts {
         fleet: _,
         publisher,
@@ -67,7 +67,7 @@ fn listing_dialer(rt: &impl Abort, alloc: Global, dials: &[u64]) -> Result<Memor
     dialer(alloc, octets, dials, &[])
 }
 
-/// A clock that gives the moment 1000 again and again, and stops a worker after so many rests.
+/// A clock that gives the moment 1000 again and again, and stops a worker after this many rests.
 fn clock(alloc: Global, rests: u64) -> MemoryClock {
     MemoryClock::new(Vec::new(alloc), 1000, rests)
 }

@@ -8,9 +8,9 @@ use crate::appendix::{SERIAL, SHA384, SIMPLE, sha384, sha512, zonemd_row};
 use crate::names::name;
 use crate::records::Rdata::{Octets, Target, Zonemd};
 use crate::records::{Row, push_records};
-use dz_member::Policy;
 use dz_name::dns::{TYPE_AAAA, TYPE_MX, TYPE_NS, TYPE_PTR, TYPE_RRSIG, TYPE_TXT, TYPE_ZONEMD};
 use dz_record::Rr;
+use dz_settings::Policy;
 use dz_zonemd::{Standing, accepts, standing, zone_digest};
 use sha2::{Digest, Sha384, Sha512};
 use std::alloc::{AllocError, Global};
@@ -260,10 +260,12 @@ impl Digest for Recorder {
 
     ghost size = { 0 };
 
+    /// No octets of digest.
     fn output_size() -> usize {
         0
     }
 
+    /// Nothing is kept yet.
     fn new() -> Recorder {
         Recorder {
             octets: [0; 1024],
@@ -271,6 +273,7 @@ impl Digest for Recorder {
         }
     }
 
+    /// Keeps further octets, as far as there is room.
     fn update<T: AsSlice<u8> + Drop>(&mut self, data: T) {
         for octet in data.as_slice() {
             if self.count < 1024 {
@@ -280,12 +283,13 @@ impl Digest for Recorder {
         }
     }
 
+    /// What was kept.
     fn finalize(self) -> Recorder {
         self
     }
 }
 
-/// The digested octets are those of appendix A.1, whatever stands at the apex beside them.
+/// The digested octets are those of appendix A.1, whatever is at the apex beside them.
 #[test]
 fn the_octets_of_appendix_a1(rt: HostRuntime) -> Result<(), AllocError> {
     let alloc = rt.alloc();

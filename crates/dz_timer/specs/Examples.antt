@@ -1,4 +1,4 @@
--- Judge: moments of zones, computed by the checker.
+-- Judge: timings of zones, computed by the checker.
 use Rattle.std.specs.Prelude.{◌≡◌, refl, true, false, Some, None}
 use Rattle.dz_timer.specs.Timing.{Timing, fresh, is_due, departed, succeeded, failed, ended, notified, is_live}
 
@@ -8,7 +8,7 @@ due_at_first = refl
 not_due_in_flight : is_due (departed fresh) 1000 ≡ false
 not_due_in_flight = refl
 
--- a job of the moment 10 succeeds, with REFRESH 100
+-- the job of the moment 10 succeeds, with REFRESH 100
 abbrev refreshed : Timing
 refreshed = succeeded (departed fresh) 10 100
 
@@ -27,7 +27,7 @@ retried = refl
 retry_of_0 : (failed (departed refreshed) 115 (Some 0)).next ≡ 116
 retry_of_0 = refl
 
--- without a version a minute
+-- without a version it waits a minute
 no_version : (failed (departed fresh) 5 None).next ≡ 65
 no_version = refl
 
@@ -40,7 +40,7 @@ notify_in_idleness = refl
 notify_in_flight : succeeded (notified (departed refreshed)) 110 100 ≡ fresh
 notify_in_flight = refl
 
--- the end of the job in flight takes the NOTIFY with it
+-- the end of the job in flight uses up the NOTIFY
 notify_once : (succeeded (departed (failed (notified (departed refreshed)) 115 (Some 60))) 116 100).next ≡ 216
 notify_once = refl
 

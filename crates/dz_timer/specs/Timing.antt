@@ -3,22 +3,22 @@
 use Rattle.std.specs.Prelude.{ℕ, ◌+◌, Bool, true, false, not, ◌&&◌, nat_le, nat_lt, max, Option, Some, None, if◌then◌else◌}
 use Rattle.dz_timer.specs.declared.timer.TheConstants.{UNHELD_RETRY}
 
--- the moments of a zone, in seconds: from which on its next job is due, whether a NOTIFY came while a job was in flight,
--- and whether one is in flight
+-- the timing of a zone: the moment in seconds from which its next job is due, whether a NOTIFY came while a job was in
+-- flight, and whether one is in flight
 pub record Timing : Type 0 where
   pub next : ℕ
   pub again : Bool
   pub busy : Bool
 
--- a zone begins due
+-- a new zone is due at once
 abbrev pub fresh : Timing
 fresh = record { next = 0; again = false; busy = false }
 
--- a zone is due from its moment on, but while a job of it is in flight
+-- a zone is due from its moment on, except while a job is in flight
 abbrev pub is_due : Timing → ℕ → Bool
 is_due timing now = not timing.busy && nat_le timing.next now
 
--- a job departs
+-- a job starts
 abbrev pub departed : Timing → Timing
 departed timing = record timing { busy = true }
 
@@ -30,7 +30,7 @@ wait seconds = max seconds 1
 abbrev pub ended_at : Timing → ℕ → Timing
 ended_at timing moment = record { next = if timing.again then 0 else moment; again = false; busy = false }
 
--- after success the zone waits REFRESH seconds from the moment of its job (RFC 1035 section 3.3.13)
+-- after a success the zone waits REFRESH seconds from the moment of its job (RFC 1035 section 3.3.13)
 abbrev pub succeeded : Timing → ℕ → ℕ → Timing
 succeeded timing moment refresh = ended_at timing (moment + wait refresh)
 
@@ -39,11 +39,11 @@ abbrev pub failed : Timing → ℕ → Option ℕ → Timing
 failed timing now (Some retry) = ended_at timing (now + wait retry)
 failed timing now None = ended_at timing (now + UNHELD_RETRY)
 
--- after neither it is due as it was before the job
+-- after a job with neither success nor failure the zone is due as it was before
 abbrev pub ended : Timing → Timing
 ended timing = ended_at timing timing.next
 
--- a NOTIFY makes the zone due at once, as if its REFRESH had passed (RFC 1996 section 3.11), or at the end of the job that is
+-- a NOTIFY makes the zone due at once, as if its REFRESH had passed (RFC 1996 section 3.11), or at the end of the job
 -- in flight
 abbrev pub notified : Timing → Timing
 notified timing = if timing.busy then record timing { again = true } else record timing { next = 0 }

@@ -1,13 +1,13 @@
-//! Laws of the moments of a zone, of all values.
+//! Laws of the timing of a zone, for all values.
 
 ghost use Rattle.dz_timer.specs.Laws.{NotifyIsKept, JobWaits};
 
-/// No NOTIFY is lost: the zone is due at any moment once it came, or once the job that was in flight has ended.
+/// No NOTIFY is lost: the zone is due at once, or once the job that was in flight has ended.
 pub fn notify_is_kept()
     ensures { NotifyIsKept }
 {}
 
-/// Where no NOTIFY came meanwhile, the next job is due the seconds of the SOA later, and no less than one.
+/// Where no NOTIFY came meanwhile, the next job is due after the seconds of the SOA, and at least one.
 pub fn job_waits()
     ensures { JobWaits }
 {}

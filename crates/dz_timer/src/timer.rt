@@ -1,4 +1,4 @@
-//! The moments of one zone.
+//! The timing of one zone.
 
 ghost use Rattle.std.specs.Prelude.{◌≡◌, ◌<◌, ◌^◌, true, false};
 ghost use Rattle.dz_timer.specs.Timing.{fresh, is_due, departed, wait, ended_at, succeeded, failed, ended, notified, is_live};
@@ -6,11 +6,11 @@ ghost use Rattle.dz_timer.specs.Timing.{fresh, is_due, departed, wait, ended_at,
 use std::marker::Model;
 use std::mem::size_of;
 
-/// How many seconds a zone of which no version is held waits after a failure, since it has no RETRY.
+/// How many seconds a zone without a held version waits after a failure, since it has no RETRY.
 pub const UNHELD_RETRY: u64 = 60;
 
-/// When the next job of a zone is due, whether one is in flight, and whether a NOTIFY came meanwhile. Moments are seconds
-/// below 2^40.
+/// When the next job of a zone is due, whether one is in flight, and whether a NOTIFY came meanwhile. Moments are in
+/// seconds: those given are below 2^40, and that of the next job is below 2^41.
 #[derive(Clone, Copy, Debug)]
 pub struct Timer {
     next: u64,
@@ -35,7 +35,7 @@ impl Model for Timer {
 }
 
 impl Timer {
-    /// The timer of a zone that begins: it is due at once.
+    /// The timer of a new zone, which is due at once.
     pub fn fresh() -> Timer
         ensures { result ≡ fresh }
     {
@@ -46,7 +46,7 @@ impl Timer {
         }
     }
 
-    /// The moment from which on the next job is due.
+    /// The moment, in seconds, from which the next job is due.
     pub fn next(&self) -> u64
         ensures value { result ≡ self.now.next }
         ensures below { result < 2 ^ 41 }
@@ -61,14 +61,14 @@ impl Timer {
         self.busy
     }
 
-    /// Whether a job is to be handed out.
+    /// Whether a job is to be started now.
     pub fn is_due(&self, now: u64) -> bool
         ensures { result ≡ is_due self.now now }
     {
         !self.busy && self.next <= now
     }
 
-    /// A job departs.
+    /// A job starts.
     pub fn depart(&mut self)
         requires { self.old.busy ≡ false }
         ensures { self.new ≡ departed self.old }
@@ -76,7 +76,8 @@ impl Timer {
         self.busy = true;
     }
 
-    /// The job of this moment gave or confirmed a version, whose SOA has this REFRESH (RFC 1035 section 3.3.13).
+    /// The job of this moment obtained or confirmed a version, whose SOA has this REFRESH in seconds (RFC 1035 section
+    /// 3.3.13).
     pub fn succeeded(&mut self, moment: u64, refresh: u32)
         requires busy { self.old.busy ≡ true }
         requires moment { moment < 2 ^ 40 }
@@ -85,8 +86,8 @@ impl Timer {
         self.end(moment + wait(refresh));
     }
 
-    /// The job failed at this moment; the SOA of the held version has this RETRY (RFC 1035 section 3.3.13), and none where
-    /// no version is held.
+    /// The job failed at this moment. The SOA of the held version has this RETRY in seconds (RFC 1035 section 3.3.13);
+    /// it is none where no version is held.
     pub fn failed(&mut self, now: u64, retry: Option<u32>)
         requires busy { self.old.busy ≡ true }
         requires moment { now < 2 ^ 40 }
@@ -98,7 +99,7 @@ impl Timer {
         }
     }
 
-    /// The job ended, and neither succeeded nor failed.
+    /// The job ended, with neither success nor failure.
     pub fn ended(&mut self)
         requires { self.old.busy ≡ true }
         ensures { self.new ≡ ended self.old }
@@ -106,7 +107,7 @@ impl Timer {
         self.end(self.next);
     }
 
-    /// A NOTIFY came (RFC 1996 section 3.11): the zone is due at once, or as soon as the job that is in flight ends.
+    /// A NOTIFY came (RFC 1996 section 3.11): the zone is due at once, or as soon as the job in flight ends.
     pub fn notified(&mut self)
         ensures { self.new ≡ notified self.old }
     {
@@ -128,7 +129,7 @@ impl Timer {
     }
 }
 
-/// How many seconds to wait: a wait of 0 counts as 1.
+/// How many seconds to wait: 0 counts as 1.
 fn wait(seconds: u32) -> u64
     ensures is { result ≡ wait seconds }
     ensures below { result < 2 ^ 32 }
@@ -136,8 +137,8 @@ fn wait(seconds: u32) -> u64
     seconds.max(1) as u64
 }
 
-/// Whether a version that was refreshed at this moment still answers: until EXPIRE seconds have passed (RFC 1035 section
-/// 3.3.13).
+/// Whether a version that was refreshed at this moment still answers: until EXPIRE seconds have passed (RFC 1035
+/// section 3.3.13).
 pub fn is_live(refreshed: u64, expire: u32, moment: u64) -> bool
     requires { refreshed < 2 ^ 40 }
     ensures { result ≡ is_live refreshed expire moment }

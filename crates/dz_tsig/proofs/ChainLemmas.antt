@@ -7,9 +7,9 @@ use Rattle.dz_tsig.specs.Checking.{State, first_state, fault_in, step, steps, th
 use Rattle.dz_tsig.specs.Signing.{mac_octets}
 use Rattle.dz_tsig.specs.inner.Chains.{Leads, IsAt, IsOn, state_of}
 use Rattle.dz_tsig.specs.inner.Hashing.{IsOf}
-use Rattle.dz_tsig.specs.declared.checking.Chain.{Chain}
+use Rattle.dz_tsig.specs.declared.check.Chain.{Chain}
 use Rattle.dz_tsig.specs.declared.fault.TsigFault.{TsigFault}
-use Rattle.dz_member.specs.declared.key.Key.{Key}
+use Rattle.dz_settings.specs.declared.key.Key.{Key}
 
 -- ---- what a step gave
 pub record Leads_to (secret : Octets) (r : Result State TsigFault) (chain : Chain) : Type 0 where

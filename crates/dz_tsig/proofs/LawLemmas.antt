@@ -15,7 +15,7 @@ use Rattle.dz_tsig.specs.Signing.{variables_or_timers, without_tsig}
 use Rattle.dz_tsig.specs.Tsig.{Tsig}
 use Rattle.dz_tsig.specs.declared.fault.TsigFault.{TsigFault}
 use Rattle.dz_tsig.specs.declared.fault.TsigFault.TheVariants as faults
-use Rattle.dz_member.specs.declared.key.Key.{Key}
+use Rattle.dz_settings.specs.declared.key.Key.{Key}
 use Rattle.dz_tsig.specs.declared.signature.Signature.TheVariants.{Present}
 
 pub step_is : (key : Key) (moment : ℕ) (is_last : Bool) (state : State) (m : Octets) (tsig : Tsig) → signature_of m ≡ Present tsig → step key moment is_last state m ≡ signed_step key moment state m tsig

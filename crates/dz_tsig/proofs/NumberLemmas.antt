@@ -8,7 +8,7 @@ use Rattle.dz_name.proofs.NumberLemmas.{length_two}
 use Rattle.dz_tsig.specs.Numbers.{six}
 use Rattle.dz_tsig.specs.Signing.{tsig_rdata, tsig_head, tsig_octets, request_mac, with_tsig}
 use Rattle.dz_tsig.specs.Hmac.{hmac}
-use Rattle.dz_member.specs.declared.key.Key.{Key}
+use Rattle.dz_settings.specs.declared.key.Key.{Key}
 use Rattle.sha2.specs.Sha256.{sha256, digest_bytes}
 
 pub length_six : (n : ℕ) → length (six n) ≡ 6

@@ -20,7 +20,7 @@ use Rattle.dz_tsig.specs.Laws.{IsPlain}
 use Rattle.dz_tsig.specs.Signing.{mac_octets, with_tsig, variables_or_timers}
 use Rattle.dz_tsig.specs.Streams.{next_mac, own_variables_or_timers, signed_from, signed_messages}
 use Rattle.dz_tsig.specs.Tsig.{Tsig, hmac_sha256}
-use Rattle.dz_member.specs.declared.key.Key.{Key}
+use Rattle.dz_settings.specs.declared.key.Key.{Key}
 use Rattle.dz_tsig.proofs.ChainLemmas.{no_fault, steps_more}
 use Rattle.dz_tsig.proofs.LawLemmas.{step_is}
 use Rattle.dz_tsig.proofs.WithTsigLemmas.{header_there, with_tsig_signature, with_tsig_without, two_octets, two_small}

@@ -103,7 +103,7 @@ pub question_done : (count i : ℕ) (octets : Octets) → count ≤ i → after_
 unfolding after_questions
 question_done count i octets le = let e : count - i ≡ 0 = omega arith in rw e refl
 
--- ---- what the records show, by the shape of the one in front
+-- ---- what the records show, by the shape of the first
 module _ (m : Octets) (is_additional : Bool) (count i : ℕ) (octets : Octets) (whole : Signature) (so_far : signature_among m is_additional (count - i) octets ≡ whole) where
   by_shape : (shape : Option (Shape × Octets × Octets)) → i < count → shape ≡ shape_of octets
       → shown m (is_additional && (i + 1 == count)) octets (signature_among m is_additional (count - (i + 1))) shape ≡ whole
@@ -135,7 +135,7 @@ module _ (m : Octets) (is_additional : Bool) (count i : ℕ) (octets : Octets) (
       let h : signature_among m is_additional (count - i) octets ≡ (if length octets == 0 then Absent else Malformed) = among_done m is_additional count i octets le in
       sym (rw t at h) ∙ so_far
 
--- ---- so many records have eleven octets each at least
+-- ---- this many records have eleven octets each at least
 pub records_long : (count : ℕ) (octets rest : Octets) → behind_records count octets ≡ Some rest → 11 * count ≤ length octets
 unfolding behind_records
 records_long zero octets rest e = omega arith

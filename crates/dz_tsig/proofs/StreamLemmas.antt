@@ -22,7 +22,7 @@ use Rattle.dz_tsig.specs.Streams.{IsSigned, IsSignedSo, are_messages, is_message
 use Rattle.dz_tsig.specs.inner.Streams.{AreLeft, Appends, IsAppended, ReadsOn, SignsOn}
 use Rattle.dz_tsig.specs.declared.streams.SignError.{SignError}
 use Rattle.dz_tsig.specs.declared.streams.SignError.TheVariants as errors
-use Rattle.dz_member.specs.declared.key.Key.{Key}
+use Rattle.dz_settings.specs.declared.key.Key.{Key}
 use Rattle.dz_tsig.proofs.SignatureLemmas.{records_long}
 
 -- ---- what reads has a header, and room for one more record

@@ -143,7 +143,7 @@ algorithm_is = record {
   short = omega arith;
 }
 
--- ---- records in front show nothing
+-- ---- leading records show nothing
 found_never : (m : Octets) (is_last : Bool) (octets : Octets) (x : Shape × Octets × Octets) → found m is_last octets x ≢ Absent
 found_never m is_last octets x = never (is_last && length x.2 == 0) (tsig_at m (length m - length octets) x.0.head x.1)
   where

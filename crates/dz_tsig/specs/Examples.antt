@@ -15,13 +15,13 @@ use Rattle.dz_tsig.specs.Numbers.{six, number_of_six}
 use Rattle.dz_tsig.specs.Signature.{signature_of, signature_among, after_questions, tsig_at}
 use Rattle.dz_tsig.specs.Signing.{mac_octets, request_mac, tsig_head, tsig_octets, tsig_rdata, with_tsig, without_tsig}
 use Rattle.dz_tsig.specs.Tsig.{Tsig, after_names, after_size, hmac_sha256}
-use Rattle.dz_tsig.specs.declared.checking.TheConstants.{UNSIGNED_MOST}
+use Rattle.dz_tsig.specs.declared.check.TheConstants.{UNSIGNED_MOST}
 use Rattle.dz_tsig.specs.declared.fault.TsigFault.TheVariants as faults
-use Rattle.dz_tsig.specs.declared.hashing.TheConstants.{BLOCK_OCTETS, IPAD, MAC_OCTETS, OPAD}
-use Rattle.dz_member.specs.declared.key.Key.{Key}
+use Rattle.dz_tsig.specs.declared.mac.TheConstants.{BLOCK_OCTETS, IPAD, MAC_OCTETS, OPAD}
+use Rattle.dz_settings.specs.declared.key.Key.{Key}
 use Rattle.dz_tsig.specs.declared.signature.Signature.TheVariants.{Absent, Malformed, Present}
 use Rattle.dz_tsig.specs.declared.signature.TheConstants.{CLASS_ANY, TYPE_TSIG}
-use Rattle.dz_tsig.specs.declared.signing.TheConstants.{FUDGE}
+use Rattle.dz_tsig.specs.declared.sign.TheConstants.{FUDGE}
 
 -- ---- numbers: RFC 8945 sections 4.2, 10 and 5.3.1; RFC 2104 section 2 and FIPS 180-4
 pub tsig_is_250 : TYPE_TSIG ≡ 250
@@ -54,14 +54,17 @@ unfolding number_of_six
 of_six_octets = refl
 
 -- ---- octets in hex
+-- the value of a hex digit in lower case
 abbrev digit : ℕ → ℕ
 digit c = if nat_le 97 c then c - 87 else c - 48
 
+-- the octets of pairs of hex digits
 abbrev pairs : List ℕ → Octets
 pairs [] = []
 pairs (c ∷ []) = []
 pairs (c ∷ d ∷ rest) = (digit c * 16 + digit d) ∷ pairs rest
 
+-- the octets that a text in hex denotes
 abbrev hex : String → Octets
 hex text = pairs (codes text)
 
@@ -83,22 +86,28 @@ unfolding hmac padded sha256 compress digest_bytes first_words hash_after rounds
 rfc_4231_case_4 = refl
 
 -- ---- a message of a header alone, with ID 2, and a MAC
+-- a message of a header alone, with ID 2
 abbrev plain : Octets
 plain = hex "000284000000000000000000"
 
+-- some MAC of 32 octets
 abbrev mac : Octets
 mac = replicate 32 7
 
+-- the name k.
 abbrev name : Name
 name = codes "k" ∷ []
 
+-- a key of that name
 abbrev key : Key
 key = record { name = name; secret = codes "s" }
 
+-- a TSIG of that key and MAC, right after the header
 abbrev tsig : Tsig
 tsig = record { at = 12; key = name; algorithm = hmac_sha256; time = 1000; fudge = 300; mac = mac; id = 2; error = 0; other = [] }
 
 -- ---- the octets of a TSIG (RFC 8945 section 4.2)
+-- the message with that TSIG
 abbrev signed : Octets
 signed = hex "000284000000000000000001016b0000fa00ff00000000003d0b686d61632d736861323536000000000003e8012c00200707070707070707070707070707070707070707070707070707070707070707000200000000"
 
@@ -111,7 +120,7 @@ pub tsig_is_read : signature_of signed ≡ Present tsig
 unfolding signature_of signature_among after_questions tsig_at after_names after_size header_in shape_of behind_owner behind_head head_in name_at name_from element_at labels_in number_of_two number_of_four number_of_six
 tsig_is_read = refl
 
--- the letters of the owner don't matter
+-- the letter case of the owner name doesn't matter
 pub owner_in_capitals : signature_of (hex "000284000000000000000001014b0000fa00ff00000000003d0b686d61632d736861323536000000000003e8012c00200707070707070707070707070707070707070707070707070707070707070707000200000000") ≡ Present tsig
 unfolding signature_of signature_among after_questions tsig_at after_names after_size header_in shape_of behind_owner behind_head head_in name_at name_from element_at labels_in number_of_two number_of_four number_of_six
 owner_in_capitals = refl
@@ -161,26 +170,28 @@ pub mac_cut_short : signature_of (hex "000284000000000000000001016b0000fa00ff000
 unfolding signature_of signature_among after_questions tsig_at after_names after_size header_in shape_of behind_owner behind_head head_in name_at name_from element_at labels_in number_of_two number_of_four number_of_six
 mac_cut_short = refl
 
--- ---- what MACs are of (RFC 8945 sections 4.3 and 5.3.1)
+-- ---- what MACs cover (RFC 8945 sections 4.3 and 5.3.1)
 -- of a query: the query and the variables
 pub digested_of_a_query : request_mac key plain 1000 ≡ hmac (codes "s") (plain ++ hex "016b0000ff000000000b686d61632d736861323536000000000003e8012c00000000")
 unfolding request_mac wire_of six two four
 digested_of_a_query = refl
 
--- of the first message of an answer: the MAC of the request with its length, the message and the variables, error and other
--- data among them
+-- of the first message of an answer: the MAC of the request with its length, the message and the variables, error and
+-- other data among them
 pub digested_first : mac_input key (first_state mac) signed (record tsig { error = 18; other = six 1001 })
     ≡ hex "0020" ++ mac ++ plain ++ hex "016b0000ff000000000b686d61632d736861323536000000000003e8012c001200060000000003e9"
 unfolding without_tsig wire_of six two four number_of_two
 digested_first = refl
 
--- of a later one: the MAC before with its length, the unsigned messages since, the message with its original ID, and the timers
+-- of a later one: the previous MAC with its length, the unsigned messages since, the message with its original ID, and
+-- the timers
 pub digested_later : mac_input key (record { digested = mac_octets mac ++ plain; unsigned = 1; time = Some 999 }) (hex "000984000000000000000001016b0000fa00ff00000000003d0b686d61632d736861323536000000000003e8012c00200707070707070707070707070707070707070707070707070707070707070707000200000000") tsig
     ≡ hex "0020" ++ mac ++ plain ++ plain ++ hex "0000000003e8012c"
 unfolding without_tsig wire_of six two four number_of_two
 digested_later = refl
 
 -- ---- faults of a message
+-- the state after this number of unsigned messages
 abbrev after : ℕ → State
 after count = record { digested = []; unsigned = count; time = Some 1000 }
 
@@ -241,6 +252,7 @@ unfolding step signature_of signature_among after_questions tsig_at after_names 
 right_but_early = refl
 
 -- ---- times
+-- a TSIG of this time
 abbrev at : ℕ → Tsig
 at time = record tsig { time = time }
 
@@ -256,7 +268,7 @@ as_early_as_may_be = refl
 pub too_early : is_timely 1000 None (at 699) ≡ false
 too_early = refl
 
--- in a later message only the time before counts
+-- in a later message only the previous time counts
 pub the_same_time : is_timely 5000 (Some 1000) (at 1000) ≡ true
 the_same_time = refl
 

@@ -2,7 +2,7 @@
 use Rattle.std.specs.Prelude.{ℕ, ◌-◌, ◌++◌, length, map, replicate, bit_xor}
 use Rattle.sha2.specs.Sha256.{sha256}
 use Rattle.dz_name.specs.Words.{Octets}
-use Rattle.dz_tsig.specs.declared.hashing.TheConstants.{BLOCK_OCTETS, IPAD, OPAD}
+use Rattle.dz_tsig.specs.declared.mac.TheConstants.{BLOCK_OCTETS, IPAD, OPAD}
 
 -- a key, filled with zero octets up to 64, each octet combined with one of a pad
 unfoldable pub padded : ℕ → Octets → Octets

@@ -11,7 +11,7 @@ use Rattle.dz_tsig.specs.Signing.{without_tsig}
 use Rattle.dz_tsig.specs.Streams.{signed_messages}
 use Rattle.dz_tsig.specs.Tsig.{Tsig}
 use Rattle.dz_tsig.specs.declared.fault.TsigFault.TheVariants as faults
-use Rattle.dz_member.specs.declared.key.Key.{Key}
+use Rattle.dz_settings.specs.declared.key.Key.{Key}
 use Rattle.dz_tsig.specs.declared.signature.Signature.TheVariants.{Absent, Present}
 
 -- a message without a TSIG whose count of additional records can grow by one

@@ -7,8 +7,8 @@ use Rattle.dz_message.specs.Frame.{stream, messages_in, AreShort}
 use Rattle.dz_message.specs.Reading.{message_of}
 use Rattle.dz_tsig.specs.Hmac.{hmac}
 use Rattle.dz_tsig.specs.Signing.{timers, variables, mac_octets, with_tsig}
-use Rattle.dz_member.specs.declared.key.Key.{Key}
-use Rattle.dz_tsig.specs.declared.signing.TheConstants.{FUDGE}
+use Rattle.dz_settings.specs.declared.key.Key.{Key}
+use Rattle.dz_tsig.specs.declared.sign.TheConstants.{FUDGE}
 use Rattle.dz_tsig.specs.declared.streams.SignError.{SignError}
 use Rattle.dz_tsig.specs.declared.streams.SignError.TheVariants as errors
 
@@ -39,17 +39,19 @@ is_message m = is_ok (message_of m)
 abbrev pub are_messages : Octets → Bool
 are_messages octets = bytes_eq (stream (messages_in octets)) octets && list_all is_message (messages_in octets)
 
--- what a call gave: the signed messages; or BadFrames, where octets aren't whole frames of messages; or else TooLong, where a
--- signed message has more than 65,535 octets; want of memory tells nothing
+-- a call gave the signed messages
 pub record IsSignedSo (key : Key) (moment : ℕ) (mac octets result : Octets) : Type 0 where
   pub messages : are_messages octets ≡ true
   pub short : AreShort (signed_messages key moment mac (messages_in octets))
   pub out : result ≡ stream (signed_messages key moment mac (messages_in octets))
 
+-- a signed message has more than 65,535 octets
 pub record IsTooLong (key : Key) (moment : ℕ) (mac octets : Octets) : Type 0 where
   pub messages : are_messages octets ≡ true
   pub long : ¬ (AreShort (signed_messages key moment mac (messages_in octets)))
 
+-- what a call gave: the signed messages; or BadFrames, where octets aren't whole frames of messages; or else TooLong.
+-- Running out of memory says nothing
 abbrev pub IsSigned : Key → ℕ → Octets → Octets → Result Octets SignError → Type 0
 IsSigned key moment mac octets (Ok out) = IsSignedSo key moment mac octets out
 IsSigned key moment mac octets (Err errors.BadFrames) = are_messages octets ≡ false

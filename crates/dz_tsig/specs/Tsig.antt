@@ -4,7 +4,7 @@ use Rattle.dz_name.specs.Words.{Name, Octets}
 use Rattle.dz_name.specs.Numbers.{number_of_two}
 use Rattle.dz_tsig.specs.Numbers.{number_of_six}
 
--- a record: where it begins in its message; its owner, which names the key; and its RDATA
+-- a record: where it begins in its message; its owner name, which is that of the key; and its RDATA
 pub record Tsig : Type 0 where
   pub at : ℕ
   pub key : Name
@@ -20,8 +20,8 @@ pub record Tsig : Type 0 where
 abbrev pub hmac_sha256 : Name
 hmac_sha256 = codes "hmac-sha256" ∷ []
 
--- the RDATA after the algorithm's name: time in six octets, fudge and MAC size in two each; the MAC; original ID, error and
--- other length in two each; other data, and nothing else
+-- the RDATA from the MAC on: the MAC; original ID, error and other length in two octets each; other data, and nothing
+-- else
 unfoldable pub after_size : ℕ → Name → Name → Octets → ℕ → Octets → Option Tsig
 after_size at key algorithm octets size rest =
     if nat_lt (length rest) (size + 6) then None
@@ -38,6 +38,7 @@ after_size at key algorithm octets size rest =
     })
     else None
 
+-- the RDATA after the algorithm's name: time in six octets, fudge and MAC size in two each, and the rest
 unfoldable pub after_names : ℕ → Name → Name → Octets → Option Tsig
 after_names at key algorithm octets =
     if nat_lt (length octets) 10 then None

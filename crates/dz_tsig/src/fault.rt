@@ -8,15 +8,15 @@ ghost use Rattle.dz_tsig.specs.Fault.{number_of};
 pub enum TsigFault {
     /// It has no TSIG, and is the first message, the last one or the hundredth in a row without one.
     Missing,
-    /// It has a TSIG that isn't its last record, or of which class, TTL, owner or RDATA can't be read as a TSIG's; or the
-    /// octets aren't a message.
+    /// It has a TSIG that isn't its last record, or whose class, TTL, owner name or RDATA can't be read as a TSIG's; or
+    /// the octets aren't a message.
     Form,
     /// Its TSIG has another key name, or another algorithm name than `hmac-sha256.`.
     Name,
     /// Its MAC isn't that of the message, of what was digested before it and of its variables or timers.
     Mac,
-    /// In the first message the time differs from the moment by more than the fudge; in a later one it is less than that
-    /// of the TSIG before.
+    /// In the first message the time differs from the moment by more than the fudge; in a later one it is less than
+    /// that of the previous TSIG.
     Time,
     /// Its error isn't 0.
     Error,

@@ -5,7 +5,7 @@ ghost use Rattle.dz_header.specs.Shape.{behind_owner};
 ghost use Rattle.dz_tsig.specs.Signature.{after_question, after_questions, count_in, found, signature_among, signature_after, signature_of};
 ghost use Rattle.dz_tsig.specs.inner.Places.{IsPlaced};
 
-use crate::reading::{Tsig, tsig_at};
+use crate::tsig::{Tsig, tsig_at};
 use dz_header::{Header, QUESTION_OCTETS, Shape, read_header, read_shape};
 use dz_name::dns::{HEADER_OCTETS, LABEL_OCTETS};
 
@@ -13,7 +13,7 @@ use dz_name::dns::{HEADER_OCTETS, LABEL_OCTETS};
 pub(crate) const TYPE_TSIG: u16 = 250;
 /// The class of TSIG records, ANY (RFC 8945 section 4.2).
 pub(crate) const CLASS_ANY: u16 = 255;
-/// The least length octet that is the first of a pointer (RFC 1035 section 4.1.4).
+/// The least first octet of a compression pointer (RFC 1035 section 4.1.4).
 const POINTER: usize = 192;
 
 /// The TSIG of a message.
@@ -39,7 +39,7 @@ pub(crate) fn signature_of(message: &[u8]) -> Signature<'_>
     }
 }
 
-/// The TSIG of a message with a header.
+/// The TSIG of a message with this header.
 fn signature_after(message: &[u8], header: Header) -> Signature<'_>
     requires { HEADER_OCTETS ≤ length message.now }
     ensures value { result ≡ signature_after message.now header
@@ -57,7 +57,8 @@ fn signature_after(message: &[u8], header: Header) -> Signature<'_>
     }
 }
 
-/// The TSIG among so many records at the end of a message; whether the last one is an additional one.
+/// The TSIG among the given number of records at the end of a message; `is_additional` says whether the last of them is
+/// an additional one.
 fn signature_among<'m>(
     message: &'m [u8],
     is_additional: bool,
@@ -95,7 +96,7 @@ fn is_last(is_additional: bool, number: u32, count: u32) -> bool
     is_additional && number + 1 == count
 }
 
-/// A record of type TSIG at the front of octets: its shape, its RDATA and what follows.
+/// A record of type TSIG at the beginning of octets: `parts` is its shape, its RDATA and what follows.
 fn found<'m>(
     message: &'m [u8],
     is_last: bool,
@@ -118,7 +119,7 @@ fn found<'m>(
     }
 }
 
-/// What follows so many questions.
+/// What follows the given number of questions; none where they can't be read.
 #[tactic(auto, using(crate::proofs::SignatureLemmas::question_step, crate::proofs::SignatureLemmas::question_done))]
 fn skip_questions(octets: &[u8], count: u16) -> Option<&[u8]>
     ensures value { option_map (λ rest. rest.now) result ≡ after_questions count octets.now }
@@ -131,7 +132,7 @@ fn skip_questions(octets: &[u8], count: u16) -> Option<&[u8]>
     Some(rest)
 }
 
-/// What follows a question.
+/// What follows a question; none where it can't be read.
 fn after_question(octets: &[u8]) -> Option<&[u8]>
     ensures value { option_map (λ rest. rest.now) result
         ≡ after_question (behind_owner 0 octets.now) }
@@ -145,7 +146,8 @@ fn after_question(octets: &[u8]) -> Option<&[u8]>
     }
 }
 
-/// What follows a name, by its shape: what `dz_header` does for the owner of a record, and keeps to itself.
+/// What follows a name, by its shape; none where it can't be read. `dz_header` does this for the owner name of a
+/// record, and keeps it to itself.
 #[tactic(auto, using(dz_header::proofs::ShapeLemmas::owner_none, dz_header::proofs::ShapeLemmas::owner_ends, dz_header::proofs::ShapeLemmas::owner_label, dz_header::proofs::ShapeLemmas::owner_cut, dz_header::proofs::ShapeLemmas::owner_bad, dz_header::proofs::ShapeLemmas::owner_half, dz_header::proofs::ShapeLemmas::owner_points))]
 fn behind_owner(octets: &[u8]) -> Option<&[u8]>
     ensures value { option_map (λ rest. rest.now) result ≡ behind_owner 0 octets.now }

@@ -4,20 +4,20 @@ ghost use Rattle.std.specs.Prelude.{◌≡◌, ◌<◌, ◌≤◌, ◌++◌, [],
 ghost use Rattle.dz_name.specs.Numbers.{number_of_two};
 ghost use Rattle.dz_message.specs.Frame.{messages_in};
 ghost use Rattle.dz_message.specs.Reading.{message_of};
-ghost use Rattle.dz_member.specs.Key.{IsKey};
+ghost use Rattle.dz_settings.specs.Key.{IsKey};
 ghost use Rattle.dz_tsig.specs.Signing.{mac_octets, with_tsig};
 ghost use Rattle.dz_tsig.specs.Streams.{IsSigned, are_messages, is_message, next_mac, own_variables_or_timers, signed_messages};
 ghost use Rattle.dz_tsig.specs.declared.streams.SignError.TheVariants.{OutOfMemory};
 ghost use Rattle.dz_tsig.specs.inner.Streams.{Appends};
 
-use crate::checking::start_after;
-use crate::hashing::MAC_OCTETS;
-use crate::signing::{FUDGE, push_signed, put_own_variables, put_timers, tsig_size};
-use dz_member::Key;
+use crate::check::start_after;
+use crate::mac::MAC_OCTETS;
+use crate::sign::{FUDGE, push_signed, put_own_variables, put_timers, tsig_size};
 use dz_message::{MessageError, next_frame, read_message};
 use dz_name::dns::{HEADER_OCTETS, MESSAGE_OCTETS};
 use dz_name::numbers::two;
 use dz_name::{Name, Octets};
+use dz_settings::Key;
 use std::alloc::{AllocError, Global};
 
 /// Why a stream wasn't signed.
@@ -27,25 +27,26 @@ pub enum SignError {
     BadFrames,
     /// A signed message would have more than 65,535 octets.
     TooLong,
-    /// Memory is wanting.
+    /// Out of memory.
     OutOfMemory,
 }
 
 impl From<AllocError> for SignError {
     ghost from_gives = { λ _ e. e ≡ OutOfMemory };
 
+    /// Out of memory.
     fn from(_error: AllocError) -> SignError {
         SignError::OutOfMemory
     }
 }
 
-/// Signs each message of a stream, as the answer to a request with this MAC; of messages, each after its length. A message
-/// that has a TSIG gets another one.
+/// Signs each message of a stream, as the answer to a request with this MAC; each message is preceded by its length. A
+/// message that has a TSIG gets another one.
 ///
 /// # Errors
 ///
 /// `BadFrames` exactly where the octets aren't whole frames of messages, and otherwise `TooLong` exactly where a signed
-/// message would have more than 65,535 octets; `OutOfMemory` where memory is wanting.
+/// message would have more than 65,535 octets; `OutOfMemory` where memory runs out.
 pub fn sign_stream(
     alloc: Global,
     key: &Key,
@@ -62,7 +63,7 @@ pub fn sign_stream(
     sign_messages(alloc, key, request_mac, &octets, moment)
 }
 
-/// Whether octets are whole frames of messages.
+/// Whether octets are whole frames of messages. `AllocError` where memory runs out.
 fn are_messages(alloc: Global, octets: &Octets) -> Result<bool, AllocError>
     ensures { IfOk result (λ b. b ≡ are_messages octets.now) }
 {
@@ -77,7 +78,7 @@ fn are_messages(alloc: Global, octets: &Octets) -> Result<bool, AllocError>
     Ok(at == octets.len())
 }
 
-/// Whether octets are a message.
+/// Whether octets are a message. `AllocError` where memory runs out.
 #[tactic(auto, unfolding(crate::specs::Streams::is_message))]
 fn is_message(alloc: Global, octets: &[u8]) -> Result<bool, AllocError>
     ensures { IfOk result (λ b. b ≡ is_message octets.now) }
@@ -89,7 +90,7 @@ fn is_message(alloc: Global, octets: &[u8]) -> Result<bool, AllocError>
     }
 }
 
-/// The signed messages of octets that are whole frames of messages.
+/// The signed messages of octets that are whole frames of messages. `TooLong` or `OutOfMemory` as in [`sign_stream`].
 fn sign_messages(
     alloc: Global,
     key: &Key,
@@ -116,7 +117,7 @@ fn sign_messages(
     Ok(Octets::from_vec(out))
 }
 
-/// Appends the frame of a message with a TSIG.
+/// Appends the frame of a message with a TSIG. `TooLong` or `OutOfMemory` as in [`sign_stream`].
 fn push_signed_frame(
     key: &Name,
     time: u64,

@@ -2,13 +2,13 @@
 ghost use Rattle.std.specs.Prelude.{◌≡◌, ℕ, Option, option_map};
 ghost use Rattle.dz_words.specs.Words.{command_of, one_word, two_words, rehearsal_of};
 
-use dz_member::read_number;
+use dz_name::read_number;
 use std::marker::Model;
 
 /// The highest number of a rehearsal.
 const REHEARSALS: u64 = 1000;
 
-/// The words behind the program's name. Contracts see them as a list of lists of octets.
+/// The words after the program's name. Contracts see them as a list of lists of octets.
 #[derive(Debug, Drop)]
 pub struct Words {
     pub list: Vec<String>,
@@ -45,8 +45,8 @@ pub enum WordsError {
     Usage,
 }
 
-/// The command that the words are. The five forms are `answer`; `replay`; `produce`; `rehearse` and a number from
-/// 1 to 1000 without leading zeros; `serve`. No other word, option or spelling is taken.
+/// The command that the words are. The five forms are `answer`; `replay`; `produce`; `rehearse` and a number from 1 to
+/// 1000 without leading zeros; `serve`. No other word, option or spelling is taken.
 ///
 /// # Errors
 ///
@@ -61,6 +61,7 @@ pub fn read_words(words: &Words) -> Result<Command, WordsError>
     }
 }
 
+/// The command of one word; `Usage` of other words.
 fn one_word(word: &[u8]) -> Result<Command, WordsError>
     ensures { result ≡ one_word word.now }
 {
@@ -77,6 +78,7 @@ fn one_word(word: &[u8]) -> Result<Command, WordsError>
     }
 }
 
+/// The command of a word and a number: a rehearsal, or `Usage`.
 fn two_words(word: &[u8], number: &[u8]) -> Result<Command, WordsError>
     ensures { result ≡ two_words word.now number.now }
 {

@@ -38,7 +38,7 @@ not_both : (kind : Kind) (r s : Record) → r.kind == kind ≡ false → s.kind 
 unfolding both_are
 not_both kind r s f g = and_right (same_name r.owner s.owner) _ (and_left (r.kind == kind) (s.kind == kind) f)
 
--- without a CNAME none stands beside another type, and no owner has two records of a type that isn't there
+-- without a CNAME there is none beside another type, and no owner has two records of a type that isn't there
 pub no_clash : (records : List Record) → list_any (λ r. r.kind == TYPE_CNAME) records ≡ false → some_two clash records ≡ false
 no_clash records none = no_pair (λ r. r.kind == TYPE_CNAME) clash records neither none
 

@@ -32,7 +32,7 @@ before_apex apex r s less at =
     let e : s.owner ≡ apex = (same_decides s.owner apex).0 ((and_parts (s.kind == 6) (same_name s.owner apex) at).1) in
     subst (λ n. is_le (canonical_order r.owner n) ≡ true) e (first_le (canonical_order r.owner s.owner) (nat_cmp r.kind s.kind) _ less)
 
--- a record before one of the apex has no owner behind the apex
+-- a record before one of the apex has no owner after the apex
 before_some : (apex : List (List ℕ)) (r : Record) (ss : List Record) → AllByRecursion (λ s. record_order r s ≡ Less) ss → list_any (at_apex 6 apex) ss ≡ true
     → is_le (canonical_order r.owner apex) ≡ true
 before_some apex r [] up some = absurd (cc)

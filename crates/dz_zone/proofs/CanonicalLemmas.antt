@@ -1,4 +1,4 @@
--- In canonical order the names within a name follow it, and no other stands between them.
+-- In canonical order the names within a name follow it, and no other name comes between them.
 use Rattle.std.proofs.Common.{◌≡◌, ℕ, List, [], ◌∷◌, ◌++◌, reverse, refl, sym, ◌∙◌, ap, true, false}
 use Rattle.std.specs.Cmp.{tied_itself}
 use Rattle.std.specs.Cmp.Lexicographic.{slice_cmp}
@@ -43,7 +43,7 @@ within_not_less name above h =
     let e : reverse name ≡ reverse above ++ reverse w.0 = ap (λ xs. reverse xs) w.1 ∙ reverse-append w.0 above in
     rw e (prefix_least (reverse above) (reverse w.0))
 
--- what stands between a name and one within it is within it
+-- what comes between a name and one within it is within it
 pub between_within : (name middle above : List (List ℕ)) → is_within name above ≡ true → is_lt (canonical_order middle above) ≡ false → is_gt (canonical_order middle name) ≡ false
     → is_within middle above ≡ true
 between_within name middle above h low high =
@@ -54,7 +54,7 @@ between_within name middle above h low high =
     sym (reverse-reverse middle) ∙ (ap (λ xs. reverse xs) rest.1 ∙ (reverse-append (reverse above) rest.0 ∙ ap (λ xs. reverse rest.0 ++ xs) (reverse-reverse above))) in
     (within_suffix middle above).1 (reverse rest.0, f)
 
--- what stands between two names within a name is within it
+-- what comes between two names within a name is within it
 pub both_within : (first last middle above : List (List ℕ)) → is_within first above ≡ true → is_within last above ≡ true
     → is_lt (canonical_order middle first) ≡ false → is_gt (canonical_order middle last) ≡ false → is_within middle above ≡ true
 both_within first last middle above f l low high =

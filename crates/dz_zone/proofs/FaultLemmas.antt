@@ -38,7 +38,7 @@ owner_not_before x y h =
     let k = nat_cmp y.kind x.kind in
     lt_first o k (lt_first (ordering_then o k) _ h)
 
--- a record that stands between two of one owner has that owner
+-- a record between two of one owner has that owner
 owner_between : (x y z : Record) → before y x ≡ false → before z y ≡ false → x.owner ≡ z.owner → x.owner ≡ y.owner
 owner_between x y z a b e =
     let back : is_lt (canonical_order x.owner y.owner) ≡ false = rw (← e) at (owner_not_before y z b) in
@@ -174,7 +174,7 @@ twice_walk kind rs r up h =
     ∙ (ap (λ t. neighbours t rs) (λ i a b. sym (not_not (both_are kind a b)) i)
     ∙ sym (two_neighbours before (both_are kind) (λ _. true) (both_gap kind) rs (each_true rs) (rising_ascends rs up)))
 
--- the faults don't hang on the order of the records
+-- the faults don't depend on the order of the records
 pub fault_in_order : (apex : List (List ℕ)) (rs : List Record) → fault_of apex (in_order rs) ≡ fault_of apex rs
 unfolding fault_of
 fault_in_order apex rs =

@@ -17,7 +17,7 @@ unfoldable pub firsts : {X : Type 0} → (X → X → Bool) → List X → List 
 firsts same [] = []
 firsts same (x ∷ xs) = x ∷ filter (λ y. not (same x y)) (firsts same xs)
 
--- an element put in front of the first that it doesn't come after
+-- an element inserted before the first that it doesn't come after
 unfoldable pub put : {X : Type 0} → (X → X → Bool) → X → List X → List X
 put lt x [] = x ∷ []
 put lt x (y ∷ ys) = if lt y x then y ∷ put lt x ys else x ∷ y ∷ ys
@@ -26,12 +26,12 @@ unfoldable pub puts : {X : Type 0} → (X → X → Bool) → List X → List X
 puts lt [] = []
 puts lt (x ∷ xs) = put lt x (puts lt xs)
 
--- no element comes before one in front of it
+-- no element comes before one that precedes it in the list
 unfoldable pub Ascends : {X : Type 0} → (X → X → Bool) → List X → Type 0
 Ascends lt [] = ⊤
 Ascends lt (x ∷ xs) = AllByRecursion (λ y. lt y x ≡ false) xs × Ascends lt xs
 
--- each comes before all behind it
+-- each comes before all that follow it
 unfoldable pub Climbs : {X : Type 0} → (X → X → Bool) → List X → Type 0
 Climbs lt [] = ⊤
 Climbs lt (x ∷ xs) = AllByRecursion (λ y. lt x y ≡ true) xs × Climbs lt xs

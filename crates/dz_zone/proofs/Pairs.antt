@@ -100,7 +100,7 @@ module _ {X : Type 0} (lt : X → X → Bool) where
   absorb false true true d h = refl
   absorb false true false d h = absurd (let e = h refl in cc)
 
-  -- where what lies between two elements that pass the test passes it with one of them, neighbours pass it too
+  -- where what is between two elements that pass the test passes it with one of them, neighbours pass it too
   two_from : (t : X → X → Bool) (keep : X → Bool)
       → ((x y z : X) → keep y ≡ true → lt y x ≡ false → lt z y ≡ false → t x z ≡ true → (t x y || t y z) ≡ true)
       → (x : X) (ys : List X) → AllByRecursion (λ y. keep y ≡ true) ys → Ascends lt (x ∷ ys) → some_two t (x ∷ ys) ≡ neighbours_from t x ys
@@ -162,7 +162,7 @@ two_filter t keep left right (x ∷ xs) =
       | inr f ↦ rw (f, any_no (t x) (λ y. left x y f) xs) (two_filter t keep left right xs)
     ]
 
--- an element in front that passes the test with none
+-- a first element that passes the test with no other
 pub front_no : {X : Type 0} (t : X → X → Bool) (x : X) → ((y : X) → t x y ≡ false) → (xs : List X) → neighbours_from t x xs ≡ neighbours t xs
 unfolding neighbours_from
 front_no t x h [] = refl

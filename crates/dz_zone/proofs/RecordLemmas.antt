@@ -85,7 +85,7 @@ lt_less Less h = refl
 lt_less Equal h = absurd (cc)
 lt_less Greater h = absurd (cc)
 
--- where each comes before the next, each comes before all behind it
+-- where each comes before the next, each comes before all that follow it
 rise_from : (r : Record) (ss : List Record) → neighbours_from (λ a b. not (is_before a b)) r ss ≡ false → IsStrictlySortedBy record_order (r ∷ ss)
 unfolding neighbours_from IsStrictlySortedBy
 rise_from r [] h = (tt, tt)

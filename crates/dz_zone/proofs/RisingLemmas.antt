@@ -25,7 +25,7 @@ first_none owners name place o h zero = rw (h, zero) refl
 pub owner_there : (records : List Record) (place : ℕ) (r : Record) (name : List (List ℕ)) → place < length records → r ≡ get_or records place r → name ≡ r.owner → name ≡ get_or (owners_of records) place []
 owner_there records place r name within is owned = owned ∙ (ap (λ (s : Record). s.owner) is ∙ sym (get_or-map (λ s. s.owner) records place r [] within))
 
--- the last of the owners in front of a place is that of the record before it
+-- the last of the owners before a place is that of the record before it
 pub order_there : (records : List Record) (place : ℕ) (a b : Record) (o : Ordering) → place ≢ 0 → place < length records → a ≡ get_or records (place - 1) a → b ≡ get_or records place b
     → o ≡ order_behind (take place (owners_of records)) (get_or (owners_of records) place []) → o ≡ canonical_order a.owner b.owner
 order_there records place a b o some within is_a is_b h =

@@ -12,19 +12,23 @@ use Rattle.dz_zone.specs.declared.fault.ZoneFault.TheVariants.{NoSoa, SoaTwice, 
 abbrev record_of : Kind → Name → Octets → Record
 record_of kind owner rdata = record { owner = owner; kind = kind; ttl = 3600; rdata = rdata }
 
--- zone. and names below it
+-- the apex `zone.`
 abbrev apex : Name
 apex = codes "zone" ∷ []
 
+-- a name one label below the apex
 abbrev below : Octets → Name
 below label = label ∷ apex
 
+-- the SOA of the apex
 abbrev soa : Record
 soa = record_of TYPE_SOA apex (7 ∷ [])
 
+-- an NS record of the apex
 abbrev ns : Record
 ns = record_of TYPE_NS apex []
 
+-- a record of `c.zone.`
 abbrev of_c : Kind → Octets → Record
 of_c kind rdata = record_of kind (below (codes "c")) rdata
 
@@ -66,7 +70,7 @@ pub two_dname : fault_of apex (of_c TYPE_DNAME [] ∷ soa ∷ ns ∷ of_c TYPE_D
 unfolding fault_of some_two clash both_are
 two_dname = refl
 
--- RRSIG and NSEC stand beside a CNAME, and a record below its owner does too
+-- RRSIG and NSEC may be beside a CNAME, and so may a record below its owner
 pub cname_signed : fault_of apex (soa ∷ ns ∷ of_c TYPE_RRSIG [] ∷ of_c TYPE_CNAME [] ∷ of_c TYPE_NSEC [] ∷ record_of TYPE_A (codes "a" ∷ below (codes "c")) [] ∷ []) ≡ None
 unfolding fault_of some_two clash both_are
 cname_signed = refl

@@ -1,5 +1,5 @@
 -- Meaning: what is wrong with the records of a zone (RFC 1034 section 3.6.2, RFC 1035 section 5.2, RFC 2181 sections
--- 6.1 and 10.1). The records stand in any order, and no two of them are the same.
+-- 6.1 and 10.1). The records are in any order, and no two of them are the same.
 use Rattle.std.specs.Prelude.{Bool, false, ◌==◌, ◌&&◌, ◌||◌, not, nat_lt, List, [], ◌∷◌, length, Option, Some, None, if◌then◌else◌}
 use Rattle.std.specs.List.{list_any, count_by}
 use Rattle.dz_name.specs.Words.{Name, Kind}
@@ -22,11 +22,11 @@ at_apex kind apex r = r.kind == kind && same_name r.owner apex
 abbrev pub no_soa : Name → List Record → Bool
 no_soa apex records = not (list_any (at_apex TYPE_SOA apex) records)
 
--- it owns more than one (RFC 2181 section 6.1)
+-- the apex owns more than one SOA (RFC 2181 section 6.1)
 abbrev pub soa_twice : Name → List Record → Bool
 soa_twice apex records = nat_lt 1 (count_by (at_apex TYPE_SOA apex) records)
 
--- another owner has an SOA
+-- an owner other than the apex has an SOA
 abbrev pub soa_below : Name → List Record → Bool
 soa_below apex records = list_any (λ r. r.kind == TYPE_SOA && not (same_name r.owner apex)) records
 
@@ -34,23 +34,23 @@ soa_below apex records = list_any (λ r. r.kind == TYPE_SOA && not (same_name r.
 abbrev pub no_ns : Name → List Record → Bool
 no_ns apex records = not (list_any (at_apex TYPE_NS apex) records)
 
--- an owner is neither the apex nor below it; glue, and what a cut hides, is below it like the rest
+-- an owner is neither the apex nor below it; glue, and what a cut occludes, is below it like the rest
 abbrev pub out_of_zone : Name → List Record → Bool
 out_of_zone apex records = list_any (λ r. not (is_within r.owner apex)) records
 
--- types that may stand beside a CNAME (RFC 4034 section 2.5)
+-- types that may be beside a CNAME (RFC 4035 section 2.5)
 abbrev pub is_beside_any : Kind → Bool
 is_beside_any kind = kind == TYPE_RRSIG || kind == TYPE_NSEC
 
--- a CNAME, and a record of a type that may not stand beside one
+-- a CNAME, and a record of a type that may not be beside one
 abbrev pub is_cname_and_other : Record → Record → Bool
 is_cname_and_other r s = r.kind == TYPE_CNAME && not (s.kind == TYPE_CNAME || is_beside_any s.kind)
 
--- two records of one owner, one of them a CNAME and the other of a type that may not stand beside it
+-- two records of one owner, one of them a CNAME and the other of a type that may not be beside it
 unfoldable pub clash : Record → Record → Bool
 clash r s = same_name r.owner s.owner && (is_cname_and_other r s || is_cname_and_other s r)
 
--- an owner of a CNAME also owns a type other than RRSIG and NSEC (RFC 1034 section 3.6.2, RFC 4034 section 2.5)
+-- an owner of a CNAME also owns a type other than RRSIG and NSEC (RFC 1034 section 3.6.2, RFC 4035 section 2.5)
 abbrev pub cname_beside : List Record → Bool
 cname_beside records = some_two clash records
 
@@ -62,7 +62,7 @@ both_are kind r s = same_name r.owner s.owner && (r.kind == kind && s.kind == ki
 abbrev pub owned_twice : Kind → List Record → Bool
 owned_twice kind records = some_two (both_are kind) records
 
--- more records than a zone may have
+-- there are more records than a zone may have
 abbrev pub too_many : List Record → Bool
 too_many records = nat_lt ZONE_RECORDS (length records)
 

@@ -1,5 +1,5 @@
--- Meaning: versions of zones, and which records make one (RFC 1034 section 3.6.2, RFC 2181 section 5, RFC 4034
--- section 6).
+-- Meaning: versions of zones, and which records make one (RFC 1034 section 3.6.2, RFC 2181 section 5, RFC 4034 section
+-- 6).
 use Rattle.std.specs.Prelude.{◌≡◌, ℕ, ◌<◌, length, slice_index_or, Bool, ◌==◌, ◌&&◌, ◌||◌, not, List, map, Option, Some, None, Result, Ok, Err, ⊤}
 use Rattle.std.specs.List.{All, find, list_any}
 use Rattle.std.specs.List.Sorted.{IsStrictlySortedBy}
@@ -43,10 +43,11 @@ has_cuts zone = list_any (λ r. r.kind == TYPE_NS && not (same_name r.owner zone
 abbrev pub has_dnames : Zone → Bool
 has_dnames zone = list_any (λ r. r.kind == TYPE_DNAME) zone.records
 
--- the types of DNSSEC that stand beside answers (RFC 4034)
+-- the types of DNSSEC records that a reply adds beside its answer (RFC 4034)
 abbrev pub is_of_dnssec : Kind → Bool
 is_of_dnssec kind = kind == TYPE_DS || (kind == TYPE_RRSIG || kind == TYPE_NSEC)
 
+-- the zone has a record of such a type
 abbrev pub is_secure : Zone → Bool
 is_secure zone = list_any (λ r. is_of_dnssec r.kind) zone.records
 
@@ -57,13 +58,13 @@ IsLastNsec records place (Some last) =
     (last < place) × (last < length records) × ((d : Record) → (slice_index_or records last d).kind ≡ TYPE_NSEC)
     × ((k : ℕ) (d : Record) → last < k → k < place → k < length records → (slice_index_or records k d).kind ≡ TYPE_NSEC → ⊥)
 
--- what `check` answers: that zone, or the first fault of its records; want of memory says nothing
+-- what `check` answers: that zone, or the first fault of its records; out of memory tells nothing
 abbrev pub IsChecked : Name → List Record → Result Zone ZoneError → Type 0
 IsChecked apex records (Ok zone) =
     (fault_of apex (distinct records) ≡ None) × (zone ≡ zone_of apex records)
 IsChecked apex records (Err (Fault fault)) = fault_of apex (distinct records) ≡ Some fault
 IsChecked apex records (Err OutOfMemory) = ⊤
 
--- the SOA record of the apex
+-- the SOA record of the apex (RFC 1035 section 3.3.13)
 abbrev pub apex_soa : Zone → Option Record
 apex_soa zone = find (at_apex TYPE_SOA zone.apex) zone.records

@@ -1,4 +1,4 @@
-//! Why records make no zone.
+//! Why records are no zone.
 
 ghost use Rattle.std.specs.Prelude.{◌≡◌};
 ghost use Rattle.dz_zone.specs.declared.fault.ZoneError.TheVariants.{OutOfMemory};
@@ -12,13 +12,13 @@ pub enum ZoneFault {
     NoSoa,
     /// The apex owns two SOA records (RFC 2181 section 6.1).
     SoaTwice,
-    /// Another owner than the apex has an SOA.
+    /// An owner other than the apex has an SOA.
     SoaBelow,
     /// The apex owns no NS (RFC 2181 section 6.1).
     NoNs,
-    /// An owner isn't the apex and doesn't stand below it.
+    /// An owner is neither the apex nor below it.
     OutOfZone,
-    /// An owner of a CNAME also owns a type other than RRSIG and NSEC (RFC 1034 section 3.6.2, RFC 4034 section 2.5).
+    /// An owner of a CNAME also owns a type other than RRSIG and NSEC (RFC 1034 section 3.6.2, RFC 4035 section 2.5).
     CnameBeside,
     /// An owner has two CNAME records (RFC 2181 section 10.1).
     CnameTwice,
@@ -31,15 +31,16 @@ pub enum ZoneFault {
 /// Why there is no version of the zone.
 #[derive(Clone, Copy, Debug, PartialEq, Eq)]
 pub enum ZoneError {
-    /// The records make no zone.
+    /// The records are no zone, for this reason.
     Fault(ZoneFault),
-    /// Memory is wanting.
+    /// Out of memory.
     OutOfMemory,
 }
 
 impl From<AllocError> for ZoneError {
     ghost from_gives = { λ _ e. e ≡ OutOfMemory };
 
+    /// Out of memory becomes [`ZoneError::OutOfMemory`].
     fn from(_error: AllocError) -> ZoneError {
         ZoneError::OutOfMemory
     }

@@ -1,9 +1,9 @@
-//! Versions of zones: distinct records in canonical order that are valid (RFC 1034 section 3.6.2, RFC 1035
-//! section 5.2, RFC 2181, RFC 4034 section 6).
+//! Versions of zones: distinct records in canonical order that are valid (RFC 1034 section 3.6.2, RFC 1035 section 5.2,
+//! RFC 2181, RFC 4034 section 6).
 #![tactic(auto)]
 
 mod fault;
-mod indexing;
+mod index;
 mod order;
 mod valid;
 mod version;

@@ -26,7 +26,7 @@ fn precedes(a: &Rr, b: &Rr) -> bool
 }
 
 /// Whether a record comes before another, by the order of their owners. Types and RDATA are compared only where the
-/// owner is one.
+/// owners are the same.
 pub(crate) fn comes_before(owners: Ordering, a: &Rr, b: &Rr) -> bool
     requires { owners ≡ canonical_order a.now.owner b.now.owner }
     ensures { result ≡ is_lt (record_order a.now b.now) }
@@ -42,8 +42,8 @@ pub(crate) fn comes_before(owners: Ordering, a: &Rr, b: &Rr) -> bool
     }
 }
 
-/// Puts the records in canonical order, and keeps of those that are the same the first. Records that rise already
-/// stay as they are, at the cost of one pass. Where memory is wanting, the records stay as they were.
+/// Puts the records in canonical order, and of those that are the same keeps the first. Records that rise already stay
+/// as they are, at the cost of one pass. The error is out of memory: the records then stay as they were.
 pub(crate) fn tidy(records: &mut Vec<Rr>) -> Result<(), AllocError>
     ensures rises { OnOk result (IsStrictlySortedBy record_order records.new.items) }
     ensures value { MatchResult result

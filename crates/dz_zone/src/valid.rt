@@ -76,7 +76,7 @@ fn soa_twice(apex: &Name, records: &[Rr]) -> bool
         .count()
 }
 
-/// Whether another owner than the apex has an SOA.
+/// Whether an owner other than the apex has an SOA.
 fn soa_below(apex: &Name, records: &[Rr]) -> bool
     ensures { result ≡ soa_below apex.now records.now }
 {
@@ -92,8 +92,8 @@ fn no_ns(apex: &Name, records: &[Rr]) -> bool
     !apex_has(TYPE_NS, apex, records)
 }
 
-/// Whether an owner isn't the apex and isn't below it. Where the records ascend, what stands between two within the
-/// apex is within it, so that the first and the last record tell.
+/// Whether an owner is neither the apex nor below it. Where the records ascend, what comes between two within the apex
+/// is within it, so that the first and the last record tell.
 fn out_of_zone(apex: &Name, records: &[Rr]) -> bool
     requires { IsStrictlySortedBy record_order records.now }
     ensures { result ≡ out_of_zone apex.now records.now }
@@ -104,22 +104,22 @@ fn out_of_zone(apex: &Name, records: &[Rr]) -> bool
     !(records[0].is_within(apex) && records[records.len() - 1].is_within(apex))
 }
 
-/// Whether records of the type may stand beside a CNAME: RRSIG and NSEC.
+/// Whether records of the type may be beside a CNAME: RRSIG and NSEC.
 fn is_beside_any(kind: u16) -> bool
     ensures { result ≡ is_beside_any kind }
 {
     matches!(kind, TYPE_RRSIG | TYPE_NSEC)
 }
 
-/// Whether the first is a CNAME, and the other of a type that may not stand beside one.
+/// Whether the first is a CNAME, and the other of a type that may not be beside one.
 fn is_cname_and_other(first: &Rr, other: &Rr) -> bool
     ensures { result ≡ is_cname_and_other first.now other.now }
 {
     first.kind() == TYPE_CNAME && !(other.kind() == TYPE_CNAME || is_beside_any(other.kind()))
 }
 
-/// Whether two records have one owner, and one is a CNAME and the other of a type that may not stand beside it. Types
-/// are told sooner than owners, so they are compared first.
+/// Whether two records have one owner, and one is a CNAME and the other of a type that may not be beside it. Types are
+/// quicker to tell apart than owners, so they are compared first.
 #[tactic(auto, unfolding(crate::specs::Valid::clash))]
 fn clash(a: &Rr, b: &Rr) -> bool
     ensures { result ≡ clash a.now b.now }
@@ -135,15 +135,15 @@ fn both_are(kind: u16, a: &Rr, b: &Rr) -> bool
     a.kind() == kind && b.kind() == kind && a.owner_ref().same(&b.owner_ref())
 }
 
-/// Whether an owner has at most one record of the type: of SOA, CNAME and DNAME.
+/// Whether an owner has at most one record of the type: SOA, CNAME and DNAME are such types.
 fn is_singleton(kind: u16) -> bool
     ensures { result ≡ is_singleton kind }
 {
     matches!(kind, TYPE_SOA | TYPE_CNAME | TYPE_DNAME)
 }
 
-/// Whether there is more than one record of such types: most zones have the SOA of the apex alone, which tells at once
-/// that none of them stands where it may not.
+/// Whether there is more than one record of such types. Most zones have the SOA of the apex alone, which tells at once
+/// that none of them is where it may not be.
 fn has_singletons(records: &[Rr]) -> bool
     ensures { result ≡ has_singletons records.now }
 {
@@ -162,7 +162,7 @@ fn is_soa_twice(many: bool, apex: &Name, records: &[Rr]) -> bool
     }
 }
 
-/// Whether another owner than the apex has an SOA, where the apex has one.
+/// Whether an owner other than the apex has an SOA, where the apex has one.
 fn is_soa_below(many: bool, apex: &Name, records: &[Rr]) -> bool
     requires many { many ≡ has_singletons records.now }
     requires soa { no_soa apex.now records.now ≡ false }
@@ -175,7 +175,7 @@ fn is_soa_below(many: bool, apex: &Name, records: &[Rr]) -> bool
     }
 }
 
-/// Whether an owner of a CNAME has a type that may not stand beside it, where there is an SOA.
+/// Whether an owner of a CNAME has a type that may not be beside it, where there is an SOA.
 fn is_cname_beside(many: bool, records: &[Rr]) -> bool
     requires rises { IsStrictlySortedBy record_order records.now }
     requires many { many ≡ has_singletons records.now }
@@ -185,7 +185,7 @@ fn is_cname_beside(many: bool, records: &[Rr]) -> bool
     if many { cname_beside(records) } else { false }
 }
 
-/// Whether an owner has two records of another type than SOA of which it may have one, where there is an SOA.
+/// Whether an owner has two records of a type other than SOA of which it may have one, where there is an SOA.
 fn is_owned_twice(many: bool, kind: u16, records: &[Rr]) -> bool
     requires rises { IsStrictlySortedBy record_order records.now }
     requires many { many ≡ has_singletons records.now }
@@ -201,8 +201,8 @@ fn is_owned_twice(many: bool, kind: u16, records: &[Rr]) -> bool
     }
 }
 
-/// Whether an owner of a CNAME has a type that may not stand beside it. Where the records ascend, the records of an
-/// owner that aren't RRSIG or NSEC are neighbours once those are left out.
+/// Whether an owner of a CNAME has a type that may not be beside it. Where the records ascend, the records of an owner
+/// that aren't RRSIG or NSEC are neighbours once those are left out.
 fn cname_beside(records: &[Rr]) -> bool
     requires { IsStrictlySortedBy record_order records.now }
     ensures { result ≡ cname_beside records.now }
@@ -213,7 +213,7 @@ fn cname_beside(records: &[Rr]) -> bool
     }
 }
 
-/// Whether two neighbours clash, RRSIG and NSEC left out behind the first.
+/// Whether two neighbours clash, where RRSIG and NSEC after the first are left out.
 fn clash_from(first: &Rr, rest: &[Rr]) -> bool
     ensures { result ≡ neighbours_from clash first.now
         (filter (λ r. not (is_beside_any r.kind)) rest.now) }

@@ -12,7 +12,7 @@ ghost use Rattle.dz_zone.specs.Valid.{at_apex, fault_of};
 ghost use Rattle.dz_zone.specs.inner.Kept.{zone_in, IsRisen, AreNsecs};
 
 use crate::fault::ZoneError;
-use crate::indexing::{has_cuts, has_dnames, index_of, index_rising, is_secure, nsecs_of};
+use crate::index::{has_cuts, has_dnames, index_of, index_rising, is_secure, nsecs_of};
 use crate::order::tidy;
 use crate::valid::fault_of;
 use dz_index::Index;
@@ -23,7 +23,8 @@ use std::alloc::Global;
 use std::marker::Model;
 
 /// A version of a zone: its distinct records in canonical order, which have no fault, so that the apex owns the first.
-/// Beside them stand an index of the owners, and whether there is a zone cut, and a DNAME.
+/// With them it has an index of the owners and the places of NSEC records, and it knows whether there is a zone cut, a
+/// DNAME, and a record of DNSSEC.
 #[derive(Debug, Drop)]
 pub struct Version {
     records: Vec<Rr>,
@@ -47,7 +48,7 @@ impl Model for Version {
 }
 
 impl Version {
-    /// The name of the apex, where it stands in the first record.
+    /// The name of the apex, as the first record has it.
     pub fn apex(&self) -> NameRef<'_>
         ensures { result ≡ self.now.apex }
     {
@@ -95,7 +96,7 @@ impl Version {
         self.is_secure
     }
 
-    /// The last place before this one at which an NSEC stands.
+    /// The last place before this one that holds an NSEC.
     pub fn nsec_before(&self, place: usize) -> Option<usize>
         ensures { IsLastNsec self.now.records place result }
     {
@@ -109,7 +110,7 @@ impl Version {
         Some(self.nsecs[before - 1] as usize)
     }
 
-    /// The SOA record of the apex. It stands among the first of the records, since the apex comes first.
+    /// The SOA record of the apex. It is among the first of the records, since the apex comes first.
     pub fn apex_soa(&self) -> &Rr
         ensures { Some result.now ≡ apex_soa self.now }
     {
@@ -119,7 +120,7 @@ impl Version {
         }
     }
 
-    /// The numbers of the SOA.
+    /// The fields of the SOA.
     pub fn soa(&self) -> Soa
         ensures { Some result ≡ option_and_then soa_of (apex_soa self.now) }
     {
@@ -131,7 +132,7 @@ impl Version {
 }
 
 /// The version of a zone that these records make, in any order: of those that are the same the first is kept. An error
-/// is the first fault that holds, or want of memory.
+/// is the first fault that holds, or out of memory.
 pub fn check(alloc: Global, apex: &Name, records: Vec<Rr>) -> Result<Version, ZoneError>
     ensures { IsChecked apex.now records.items result }
 {
@@ -141,7 +142,7 @@ pub fn check(alloc: Global, apex: &Name, records: Vec<Rr>) -> Result<Version, Zo
     }
 }
 
-/// The same of records that rise, with the index of their owners.
+/// The same of records that rise, with the index of their owners. Errors are those of [`check`].
 fn check_risen(
     alloc: Global,
     apex: &Name,
@@ -160,7 +161,7 @@ fn check_risen(
     }
 }
 
-/// The same, the records being put in order first.
+/// The same, the records being put in order first. Errors are those of [`check`].
 fn check_tidied(alloc: Global, apex: &Name, mut records: Vec<Rr>) -> Result<Version, ZoneError>
     ensures { IsChecked apex.now records.items result }
 {

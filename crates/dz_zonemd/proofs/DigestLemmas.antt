@@ -43,7 +43,7 @@ distinct_stays [] up = refl
 distinct_stays (r ∷ rs) up =
     rw (distinct_stays rs (sorted_tail record_order r rs up)) (ap (λ xs. r ∷ xs) (none_same r rs (sorted_head record_order r rs up)))
 
--- so their octets are joined as they stand
+-- so their octets are joined as they are
 pub digested_rising : (apex : List (List ℕ)) (rs : List Record) → IsStrictlySortedBy record_order rs → flat_map record_octets (filter (λ r. not (is_left_out apex r)) rs) ≡ digested apex rs
 unfolding digested
 digested_rising apex rs up =

@@ -90,7 +90,7 @@ le_not_lt_eq Less h k = absurd (cc)
 le_not_lt_eq Equal h k = refl
 le_not_lt_eq Greater h k = absurd (cc)
 
--- the search for the end leads no further to the front than that for the begin
+-- the search for the end leads no nearer to the beginning than that for the begin
 pub places_rise : (apex : Name) (records : List Record) (i j : ℕ) → i ≤ length records → IsBegin apex records i → IsEnd apex records j → i ≤ j
 places_rise apex [] i j within low high = omega arith
 places_rise apex (r ∷ rs) i j within low high = elim (cases_lt j i) [

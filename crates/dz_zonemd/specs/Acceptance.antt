@@ -1,11 +1,12 @@
--- Meaning: which new versions of a zone a policy accepts, by what their ZONEMD records say (RFC 8976 section 4 leaves this to
--- the one who runs the server).
+-- Meaning: which new versions of a zone a policy accepts, by what their ZONEMD records say (RFC 8976 section 4 leaves
+-- this to the operator of the server).
 use Rattle.std.specs.Prelude.{Bool, true, false}
-use Rattle.dz_member.specs.declared.config.Policy.{Policy}
-use Rattle.dz_member.specs.declared.config.Policy.TheVariants.{Off, Present, Require}
+use Rattle.dz_settings.specs.declared.config.Policy.{Policy}
+use Rattle.dz_settings.specs.declared.config.Policy.TheVariants.{Off, Present, Require}
 use Rattle.dz_zonemd.specs.declared.acceptance.Standing.{Standing}
 use Rattle.dz_zonemd.specs.declared.acceptance.Standing.TheVariants.{Absent, Unsupported, Good, Bad}
 
+-- a policy accepts a new version whose ZONEMD records say this (RFC 8976 section 4)
 abbrev pub accepts : Policy → Standing → Bool
 accepts Off standing = true
 accepts Present Absent = true

@@ -1,5 +1,5 @@
--- Meaning: the octets that the digest of a zone is made of, by scheme SIMPLE (RFC 8976 section 3.3.1). The records stand in
--- any order.
+-- Meaning: the octets that the digest of a zone is made of, by scheme SIMPLE (RFC 8976 section 3.3.1). The records are
+-- in any order.
 use Rattle.std.specs.Prelude.{Bool, ◌==◌, ◌&&◌, ◌||◌, not, List, filter, flat_map}
 use Rattle.dz_name.specs.Words.{Name, Kind, Octets}
 use Rattle.dz_name.specs.Name.{same_name}
@@ -12,12 +12,12 @@ use Rattle.dz_record.specs.Records.{distinct, in_order}
 abbrev pub type_covered : Record → Kind
 type_covered r = number_of_two r.rdata
 
--- what isn't digested: the ZONEMD records of the apex, and the RRSIG records of the apex that cover them (section 3.3.1.1).
--- Below the apex both are records like any other (section 2.1)
+-- a record isn't digested: a ZONEMD record of the apex, or an RRSIG record of the apex that covers it (section
+-- 3.3.1.1). Below the apex both are records like any other (section 2.1)
 abbrev pub is_left_out : Name → Record → Bool
 is_left_out apex r = (r.kind == TYPE_ZONEMD || (r.kind == TYPE_RRSIG && type_covered r == TYPE_ZONEMD)) && same_name r.owner apex
 
--- every other record of the zone, one of those that are the same (section 3.3.1.1), in the order of owner, type and RDATA,
--- each as its canonical octets with its own TTL (section 3.3.1.2; RFC 4034 section 6)
+-- the octets that are digested: every other record of the zone, duplicates once, in the order of owner name, type and
+-- RDATA, each in canonical form with its own TTL (sections 3.3.1.1 and 3.3.1.2; RFC 4034 section 6)
 unfoldable pub digested : Name → List Record → Octets
 digested apex records = flat_map record_octets (in_order (distinct (filter (λ r. not (is_left_out apex r)) records)))

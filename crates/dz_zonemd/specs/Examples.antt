@@ -12,16 +12,19 @@ use Rattle.dz_zonemd.specs.Zonemd.{is_supported}
 use Rattle.sha2.specs.Sha512.{compress, digest_bytes, first_words, hash_after, rounds, schedule, sha384}
 use Rattle.dz_zonemd.specs.declared.acceptance.Standing.TheVariants.{Absent, Unsupported, Good, Bad}
 
+-- the apex of the zone of RFC 8976 appendix A.1
 abbrev apex : Name
 apex = codes "example" ∷ []
 
+-- the name ns1.example.
 abbrev ns1 : Name
 ns1 = codes "ns1" ∷ apex
 
+-- the name ns2.example.
 abbrev ns2 : Name
 ns2 = codes "ns2" ∷ apex
 
--- the zone of RFC 8976 appendix A.1, without its ZONEMD record
+-- the SOA of the zone of RFC 8976 appendix A.1, which follows without its ZONEMD record
 abbrev soa : Record
 soa = record {
   owner = apex;
@@ -30,16 +33,19 @@ soa = record {
   rdata = wire_of ns1 ++ wire_of (codes "admin" ∷ apex) ++ four 2018031900 ++ four 1800 ++ four 900 ++ four 604800 ++ four 86400;
 }
 
+-- an NS record of the apex
 abbrev server : Name → Record
 server name = record { owner = apex; kind = TYPE_NS; ttl = 86400; rdata = wire_of name }
 
+-- the A record of ns1.example.
 abbrev address : Record
 address = record { owner = ns1; kind = TYPE_A; ttl = 3600; rdata = 203 ∷ 0 ∷ 113 ∷ 63 ∷ [] }
 
+-- the AAAA record of ns2.example.
 abbrev address6 : Record
 address6 = record { owner = ns2; kind = TYPE_AAAA; ttl = 3600; rdata = 32 ∷ 1 ∷ 13 ∷ 184 ∷ 0 ∷ 0 ∷ 0 ∷ 0 ∷ 0 ∷ 0 ∷ 0 ∷ 0 ∷ 0 ∷ 0 ∷ 0 ∷ 99 ∷ [] }
 
--- a ZONEMD record of an owner, with the serial of that zone
+-- a ZONEMD record of an owner name, with the serial of that zone
 abbrev zonemd : Name → ℕ → ℕ → Octets → Record
 zonemd owner scheme algorithm digest = record { owner = owner; kind = TYPE_ZONEMD; ttl = 86400; rdata = four 2018031900 ++ scheme ∷ algorithm ∷ digest }
 
@@ -47,6 +53,7 @@ zonemd owner scheme algorithm digest = record { owner = owner; kind = TYPE_ZONEM
 abbrev shuffled : List Record
 shuffled = address6 ∷ soa ∷ zonemd apex 1 1 [] ∷ server ns2 ∷ address ∷ server ns1 ∷ []
 
+-- the records of the zone, without its ZONEMD record
 abbrev shuffled_rest : List Record
 shuffled_rest = address6 ∷ soa ∷ server ns2 ∷ address ∷ server ns1 ∷ []
 
@@ -69,10 +76,11 @@ pub digested_once : digested apex (address ∷ shuffled) ≡ octets
 unfolding digested distinct insertion in_order wire_of two four number_of_two
 digested_once = refl
 
+-- an RRSIG record of an owner name, as far as the type that it covers
 abbrev rrsig : Name → Kind → Record
 rrsig owner covered = record { owner = owner; kind = TYPE_RRSIG; ttl = 86400; rdata = two covered ++ 13 ∷ 1 ∷ [] }
 
--- what is left out stands at the apex (RFC 8976 sections 2.1 and 3.3.1.1)
+-- what is left out is at the apex (RFC 8976 sections 2.1 and 3.3.1.1)
 pub rrsig_of_zonemd : is_left_out apex (rrsig apex TYPE_ZONEMD) ≡ true
 unfolding two number_of_two
 rrsig_of_zonemd = refl
@@ -89,13 +97,15 @@ pub zonemd_below : is_left_out apex (zonemd ns1 1 1 []) ≡ false
 unfolding two number_of_two
 zonemd_below = refl
 
--- a wrong length, and a scheme and algorithms for private use (RFC 8976 sections 5.2 and 5.3)
+-- twelve octets: as a digest they are too short for any algorithm
 abbrev octets12 : Octets
 octets12 = 0 ∷ 0 ∷ 0 ∷ 0 ∷ 0 ∷ 0 ∷ 0 ∷ 0 ∷ 0 ∷ 0 ∷ 0 ∷ 0 ∷ []
 
+-- a digest of the length of SHA-384
 abbrev octets48 : Octets
 octets48 = octets12 ++ octets12 ++ octets12 ++ octets12
 
+-- the length of the algorithm, and a wrong one
 pub right_length : is_supported (zonemd apex 1 1 octets48) ≡ true
 unfolding four
 right_length = refl
@@ -108,6 +118,7 @@ pub no_digest : standing apex (soa ∷ zonemd ns1 1 1 octets48 ∷ []) ≡ Absen
 unfolding standing
 no_digest = refl
 
+-- a scheme and an algorithm for private use (RFC 8976 sections 5.2 and 5.3)
 pub private_use : standing apex (soa ∷ zonemd apex 240 1 octets48 ∷ zonemd apex 1 240 octets48 ∷ []) ≡ Unsupported
 unfolding standing four
 private_use = refl

@@ -1,4 +1,4 @@
--- Meaning: what the ZONEMD records of a zone say of it (RFC 8976 section 4). The records of the zone stand in any order.
+-- Meaning: what the ZONEMD records of a zone say of it (RFC 8976 section 4). The records of the zone are in any order.
 use Rattle.std.specs.Prelude.{ℕ, Bool, false, ◌==◌, ◌&&◌, List, length, filter, count_by, if◌then◌else◌}
 use Rattle.std.specs.List.{list_any}
 use Rattle.std.specs.Option.{option_map_or}
@@ -12,18 +12,19 @@ use Rattle.dz_zonemd.specs.Zonemd.{serial_in, digest_in, is_twin, known_algorith
 use Rattle.dz_zonemd.specs.declared.acceptance.Standing.{Standing}
 use Rattle.dz_zonemd.specs.declared.acceptance.Standing.TheVariants.{Absent, Unsupported, Good, Bad}
 
--- the ZONEMD records of the apex; those below it say nothing (section 2.1)
+-- a ZONEMD record of the apex; one below it says nothing (section 2.1)
 abbrev pub is_zonemd : Name → Record → Bool
 is_zonemd apex r = r.kind == TYPE_ZONEMD && same_name r.owner apex
 
+-- the ZONEMD records of the apex
 abbrev pub zonemds : Name → List Record → List Record
 zonemds apex records = filter (is_zonemd apex) records
 
--- an SOA of the apex with this serial; and some record is one, which says that the serial is the zone's, since a zone has
--- one SOA (sections 2.2.1 and 4)
+-- an SOA of the apex with this serial (sections 2.2.1 and 4)
 abbrev pub serial_is : Name → ℕ → Record → Bool
 serial_is apex serial r = option_map_or (λ soa. soa.serial == serial) (soa_of r) false && same_name r.owner apex
 
+-- some record is an SOA with this serial, which says that the serial is the zone's, since a zone has one SOA
 abbrev pub is_serial : Name → List Record → ℕ → Bool
 is_serial apex records serial = list_any (serial_is apex serial) records
 
@@ -40,6 +41,7 @@ abbrev pub verifies : Name → List Record → Record → Bool
 verifies apex records r =
     is_supported r && (is_alone apex records r && (is_serial apex records (serial_in r) && is_digest (digested apex records) r))
 
+-- what the ZONEMD records of a zone say of it (section 4)
 unfoldable pub standing : Name → List Record → Standing
 standing apex records =
     if length (zonemds apex records) == 0 then Absent

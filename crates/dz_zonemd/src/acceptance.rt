@@ -1,9 +1,9 @@
-//! The standings of a zone, and which of them a policy accepts.
+//! What the ZONEMD records of a zone can say of it, and which of these verdicts a policy accepts.
 
 ghost use Rattle.std.specs.Prelude.{◌≡◌};
 ghost use Rattle.dz_zonemd.specs.Acceptance.{accepts};
 
-use dz_member::Policy;
+use dz_settings::Policy;
 
 /// What the ZONEMD records of a zone say of it (RFC 8976 section 4).
 #[derive(Clone, Copy, Debug, PartialEq, Eq)]
@@ -18,8 +18,8 @@ pub enum Standing {
     Bad,
 }
 
-/// Whether a policy accepts a new version of this standing: `Off` accepts each, `Present` each but `Bad`, `Require` `Good`
-/// alone.
+/// Whether a policy accepts a new version with this verdict: `Off` accepts each, `Present` each but `Bad`, and
+/// `Require` accepts `Good` alone.
 pub fn accepts(policy: Policy, standing: Standing) -> bool
     ensures { result ≡ accepts policy standing }
 {

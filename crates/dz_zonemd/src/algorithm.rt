@@ -11,7 +11,7 @@ pub const SCHEME_SIMPLE: u8 = 1;
 pub const ALGORITHM_SHA384: u8 = 1;
 /// SHA-512 (RFC 8976 section 5.3).
 pub const ALGORITHM_SHA512: u8 = 2;
-/// How many octets stand in front of the digest: serial, scheme and algorithm (RFC 8976 section 2.2).
+/// How many octets come before the digest: serial, scheme and algorithm (RFC 8976 section 2.2).
 pub const HEAD_OCTETS: usize = 6;
 
 /// A hash algorithm that is known here.

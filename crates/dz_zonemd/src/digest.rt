@@ -11,11 +11,11 @@ use dz_name::numbers::number_of_two;
 use dz_record::Rr;
 use sha2::Digest;
 
-/// So many octets of records are put together before they go into the hasher.
+/// This many octets of records are put together before they go into the hasher.
 const BATCH_OCTETS: usize = 4096;
 
-/// Whether a record isn't digested: a ZONEMD record of the apex, or an RRSIG record of the apex that covers it
-/// (RFC 8976 section 3.3.1.1). Types are told sooner than owners, so they are compared first.
+/// Whether a record isn't digested: a ZONEMD record of the apex, or an RRSIG record of the apex that covers it (RFC
+/// 8976 section 3.3.1.1). Types are compared before owner names, since that is cheaper.
 fn is_left_out(apex: &Name, rr: &Rr) -> bool
     ensures { result ≡ is_left_out apex.now rr.now }
 {
@@ -35,8 +35,8 @@ fn covers_zonemd(rr: &Rr) -> bool
     number_of_two(rr.rdata()) == TYPE_ZONEMD
 }
 
-/// Octets behind the first so many of a batch: they join the batch, or where there is no room the batch goes into the
-/// hasher first. How many octets the batch then has.
+/// Appends octets to the first `count` of a batch; where there is no room, the batch goes into the hasher, and these
+/// octets after it. Gives how many octets the batch then has.
 fn join<D: Digest>(
     hasher: &mut D,
     batch: &mut [u8; BATCH_OCTETS],
@@ -58,8 +58,8 @@ fn join<D: Digest>(
     0
 }
 
-/// The record that is digested at a place: RRsets and the RDATA of each come in canonical order, as the records stand
-/// (RFC 8976 section 3.3.1.2; RFC 4034 section 6.3).
+/// The record that is digested at a place: RRsets and the RDATA of each come in canonical order, as the records already
+/// do (RFC 8976 section 3.3.1.2; RFC 4034 section 6.3).
 fn record_at(records: &[Rr], place: usize) -> &Rr
     requires { place < length records.now }
     ensures { slice_get records.now place ≡ Some result.now }
@@ -67,8 +67,8 @@ fn record_at(records: &[Rr], place: usize) -> &Rr
     &records[place]
 }
 
-/// The record at a place behind the first so many octets of a batch, as its canonical octets with its own TTL
-/// (RFC 4034 section 6.2). How many octets the batch then has.
+/// Appends the record at a place to the first `count` octets of a batch, as its canonical octets with its own TTL (RFC
+/// 4034 section 6.2). Gives how many octets the batch then has.
 fn join_record<D: Digest>(
     hasher: &mut D,
     batch: &mut [u8; BATCH_OCTETS],
@@ -86,9 +86,9 @@ fn join_record<D: Digest>(
     join(hasher, batch, count, record_at(records, place).octets())
 }
 
-/// The digest of a zone by scheme SIMPLE (RFC 8976 section 3.3.1): of all records but the ZONEMD records of the apex and
-/// the RRSIG records of the apex that cover them. The records stand in canonical order, and no two are the same. Their
-/// octets go into the hasher in batches: so the memory in which they lie is read ahead of the hash.
+/// The digest of a zone by scheme SIMPLE (RFC 8976 section 3.3.1): of all records but the ZONEMD records of the apex
+/// and the RRSIG records of the apex that cover them. The records are in canonical order, and no two are the same.
+/// Their octets go into the hasher in batches, so the memory that holds them is read ahead of the hash.
 pub fn zone_digest<D: Digest>(apex: &Name, records: &[Rr]) -> D::Output
     requires { IsStrictlySortedBy record_order records.now }
     ensures { D.digest_of (digested apex.now records.now) result }

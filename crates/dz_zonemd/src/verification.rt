@@ -22,9 +22,9 @@ use dz_name::numbers::number_of_four;
 use dz_record::Rr;
 use sha2::{Sha384, Sha512};
 
-/// What the ZONEMD records of a zone say of it. The records stand in canonical order, and no two are the same. Without a
-/// ZONEMD record at the apex nothing is hashed; else each algorithm is used once at most, and only where one record alone
-/// is of it, and that one has the algorithm's length and the zone's serial.
+/// What the ZONEMD records of a zone say of it. The records are in canonical order, and no two are the same. Without a
+/// ZONEMD record at the apex nothing is hashed. Otherwise each algorithm is used at most once, and only where one
+/// record alone is of it, and that one has the algorithm's length and the zone's serial.
 #[tactic(auto, unfolding(crate::specs::Standing::standing))]
 pub fn standing(apex: &Name, records: &[Rr]) -> Standing
     requires { IsStrictlySortedBy record_order records.now }
@@ -97,7 +97,7 @@ fn has_digest(algorithm: Algorithm, apex: &Name, records: &[Rr], digest: &[u8]) 
     }
 }
 
-/// Whether this is the serial of the zone: that of the SOA of the apex, which stands among the first records.
+/// Whether this is the serial of the zone: that of the SOA of the apex, which is among the first records.
 fn has_serial(apex: &Name, records: &[Rr], serial: u32) -> bool
     ensures { result ≡ is_serial apex.now records.now serial }
 {
@@ -121,7 +121,8 @@ fn some_supported(found: &[Rr]) -> bool
     found.iter().any(|rr| is_supported(rr))
 }
 
-/// Whether a ZONEMD record can be verified: its scheme and algorithm are known, and the digest has the algorithm's length.
+/// Whether a ZONEMD record can be verified: its scheme and algorithm are known, and the digest has the algorithm's
+/// length.
 fn is_supported(rr: &Rr) -> bool
     ensures { result ≡ is_supported rr.now }
 {
@@ -151,7 +152,7 @@ fn digest_in(rr: &Rr) -> &[u8]
     }
 }
 
-/// The ZONEMD records of the apex. They stand one behind the other.
+/// The ZONEMD records of the apex, which follow one another.
 fn zonemds_of<'a>(apex: &Name, records: &'a [Rr]) -> &'a [Rr]
     requires { IsStrictlySortedBy record_order records.now }
     ensures { result.now ≡ zonemds apex.now records.now }
@@ -181,7 +182,7 @@ fn zonemds_begin(apex: &Name, records: &[Rr]) -> usize
     records.partition_point(|rr| rr.owner_cmp(apex).then(rr.kind().cmp(&TYPE_ZONEMD)).is_lt())
 }
 
-/// The place of the first record that comes behind the ZONEMD records of the apex.
+/// The place of the first record that comes after the ZONEMD records of the apex.
 fn zonemds_end(apex: &Name, records: &[Rr]) -> usize
     requires { IsStrictlySortedBy record_order records.now }
     ensures within { result ≤ length records.now }

@@ -3,12 +3,12 @@ use Rattle.std.specs.Prelude.{◌≡◌, true, List, [], ◌∷◌, Result, Ok, 
 use Rattle.dz_name.specs.Words.{Name}
 use Rattle.dz_record.specs.Record.{Record}
 use Rattle.dz_record.specs.Records.{distinct}
-use Rattle.dz_form.specs.declared.fault.Progress.{Progress}
-use Rattle.dz_form.specs.declared.fault.Progress.TheVariants.{More, Ended}
-use Rattle.dz_form.specs.declared.fault.FeedError.{FeedError}
-use Rattle.dz_form.specs.declared.fault.FeedError.TheVariants.{Shape, OutOfMemory}
-use Rattle.dz_form.specs.Apex.{is_apex_soa}
-use Rattle.dz_form.specs.Place.{Place, amid, ended, failed, read}
+use Rattle.dz_xfr.specs.declared.fault.Progress.{Progress}
+use Rattle.dz_xfr.specs.declared.fault.Progress.TheVariants.{More, Ended}
+use Rattle.dz_xfr.specs.declared.fault.FeedError.{FeedError}
+use Rattle.dz_xfr.specs.declared.fault.FeedError.TheVariants.{Shape, OutOfMemory}
+use Rattle.dz_xfr.specs.Apex.{is_apex_soa}
+use Rattle.dz_xfr.specs.Place.{Place, amid, ended, failed, read}
 use Rattle.dz_axfr.specs.Reading.{Amid, nothing, opened, one, place_of}
 
 -- the place of what is kept
@@ -27,7 +27,7 @@ pub record IsKept (apex : Name) (kept : List Record) (progress : Progress) (fed 
   pub opens : OpensAt apex kept
   pub place : place_of apex fed ≡ kept_place progress kept
 
--- records that were read behind those that are kept, and what is kept then; a fault leaves it as it was
+-- records that were read after those that are kept, and what is kept then; a fault leaves it as it was
 abbrev pub Extends : Name → List Record → List Record → Result Progress FeedError → List Record → Type 0
 Extends apex old records (Ok progress) new = OpensAt apex new × (read (one apex) (kept_place More old) records ≡ kept_place progress new)
 Extends apex old records (Err (Shape fault)) new = (new ≡ old) × (read (one apex) (kept_place More old) records ≡ failed fault)

@@ -1,4 +1,4 @@
--- Inner: the records of a node and of the names below it, which stand together where records are in order.
+-- Inner: the records of a node and of the names below it, which are together where records are in order.
 use Rattle.std.specs.Prelude.{Bool, ◌==◌, ◌&&◌, List, map, filter, find, Option, None, if◌then◌else◌}
 use Rattle.std.specs.List.{take_while}
 use Rattle.std.specs.Option.{option_map, option_and_then}
@@ -9,7 +9,7 @@ use Rattle.dz_record.specs.Record.{Record, target_of}
 use Rattle.dz_member.specs.declared.listing.Node.{Node}
 use Rattle.dz_catalog.specs.Member.{is_member, coo_name, group_name}
 
--- of the records behind one of a node, those of the node and of the names below it
+-- of the records after one of a node, those of the node and of the names below it
 abbrev pub below : Name → List Record → List Record
 below node records = take_while (λ r. is_within r.owner node) records
 
@@ -17,13 +17,15 @@ below node records = take_while (λ r. is_within r.owner node) records
 abbrev pub is_at : Kind → Name → Record → Bool
 is_at kind name r = r.kind == kind && same_name r.owner name
 
--- a node's properties, where those records alone are looked at
+-- the catalog that a node's change of ownership names, where those records alone are looked at
 abbrev pub coo_among : Name → List Record → Option Name
 coo_among node records = option_and_then target_of (find (is_at TYPE_PTR (coo_name node)) records)
 
+-- a node's groups, where those records alone are looked at
 abbrev pub groups_among : Name → List Record → List Octets
 groups_among node records = map (λ r. r.rdata) (filter (is_at TYPE_TXT (group_name node)) records)
 
+-- a member node, where those records alone are looked at
 abbrev pub node_among : Name → List Record → Octets → Name → Node
 node_among owner records label zone = record {
   label = label;
@@ -32,6 +34,7 @@ node_among owner records label zone = record {
   groups = groups_among owner records;
 }
 
+-- the member node of a record, by the records that follow it
 unfoldable pub node_behind : Name → Record → List Record → Option Node
 node_behind apex r behind =
     if is_member apex r

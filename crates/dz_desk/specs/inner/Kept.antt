@@ -8,11 +8,11 @@ use Rattle.dz_desk.specs.inner.Ledger.{length_of}
 abbrev pub published : Page → Option Page → Published
 published shown staged = record { list = shown.list; staged = option_map (λ next. next.list) staged; book = shown.book }
 
--- its seat saw what is shown last, nothing is put behind it, the word is its book's, and it goes on as what is staged
+-- its seat saw the page shown last, no page is put after it, the word is its book's, and what is staged continues it
 abbrev pub IsKept : Option Page → List Page → Named → Page → Option Page → Type 0
 IsKept last behind word shown staged = (last ≡ Some shown) × (behind ≡ []) × (word ≡ length_of shown.book) × IfSome staged (Goes shown)
 
--- one page is put behind the shown one, which goes on as it
+-- one page is put after the shown one, and continues it
 abbrev pub HasNext : Page → List Page → Type 0
 HasNext shown behind = (next : Page) × (behind ≡ next ∷ []) × Goes shown next
 

@@ -11,6 +11,6 @@ IsCounted cells log = cells ≡ (length log, true) ∷ (0, true) ∷ []
 abbrev pub length_of : Book → Named
 length_of book = record { tracked = true; key = 0; book = book }
 
--- where the length was as expected, the entry stands behind all that had been seen
+-- where the length was as expected, the entry is appended to all that had been seen
 abbrev pub Enters : Step Entry → View Entry ℕ → ℕ → View Entry ℕ → Type 0
 Enters s before found after = (found == s.old) ≡ true → after.0 ≡ before.0 ++ s.ask ∷ []

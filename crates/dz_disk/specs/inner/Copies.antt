@@ -3,6 +3,7 @@ use Rattle.std.specs.Prelude.{◌≡◌, ◌≤◌, ℕ, List, length}
 use Rattle.dz_disk.specs.MemoryDisk.{state, MayLeave}
 use Rattle.dz_disk.specs.declared.memory_disk.DiskAct.{DiskAct}
 
+-- the copies that are kept are those of a disk with these acts
 pub record IsOf (origin : List ℕ) (acts : List DiskAct) (octets sure noisy : List ℕ) : Type 0 where
   pub octets_are : octets ≡ (state origin acts).octets
   pub sure_is : sure ≡ (state origin acts).sure

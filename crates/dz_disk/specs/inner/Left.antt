@@ -1,4 +1,4 @@
--- Inner: what a disk in memory tells is what a crash may leave of it, now and from earlier moments on.
+-- Inner: what a disk in memory reports is what a crash may leave of it, now and from earlier moments on.
 use Rattle.std.specs.Prelude.{◌≡◌, ◌+◌, ◌-◌, ◌≤◌, ℕ, List, [], ◌∷◌, ◌++◌, length, take, drop, Some}
 use Rattle.std.proofs.Common.{refl, sym, ap, subst, ◌∙◌, arith, length-append, length-take, length-drop}
 use Rattle.std.specs.List.{fold}

@@ -4,7 +4,7 @@ use Rattle.dz_name.specs.Words.{Octets}
 use Rattle.dz_name.specs.declared.dns.TheConstants.{MESSAGE_OCTETS}
 use Rattle.dz_io.specs.Device.{Gains, IsAtEnd}
 use Rattle.dz_message.specs.Frame.{frame, stream, first_size, messages_in, AreShort}
-use Rattle.dz_message.specs.declared.frame.TheConstants.{LENGTH_OCTETS}
+use Rattle.dz_name.specs.declared.dns.TheConstants.{LENGTH_OCTETS}
 use Rattle.dz_take.specs.Outcome.{decided}
 use Rattle.dz_take.specs.Transfer.{Transfer}
 use Rattle.dz_fetch.specs.declared.fetched.Fetched.{Fetched}
@@ -16,32 +16,34 @@ pub record Joins (old new : Octets) (before after : Option Octets) : Type 0 wher
   pub joined : new ≡ old ++ more
   pub gains : Gains more before after
 
--- the same, until there were so many or the source ended
+-- more octets were given, until there were this many or the source ended
 pub record ReadsOn (want : ℕ) (old new : Octets) (before after left : Option Octets) : Type 0 where
   pub joins : Joins old new before after
   pub fits : length new ≤ want
   pub ends : length new < want → IsAtEnd left
 
--- octets are the frame of a message; or they are a part of one, and nothing is left
+-- octets are the frame of a message: its length and the message (RFC 1035 section 4.2.2)
 pub record IsFrame (octets : Octets) : Type 0 where
   pub long : LENGTH_OCTETS ≤ length octets
   pub is : octets ≡ frame (drop LENGTH_OCTETS octets)
   pub short : length (drop LENGTH_OCTETS octets) ≤ MESSAGE_OCTETS
 
+-- octets are a part of a frame, and nothing is left
 pub record IsPart (octets : Octets) (left : Option Octets) : Type 0 where
   pub part : first_size octets ≡ None
   pub ended : IsAtEnd left
 
+-- what was read next, by whether it is whole
 abbrev pub IsNext : Bool → Octets → Option Octets → Type 0
 IsNext true octets left = IsFrame octets
 IsNext false octets left = IsPart octets left
 
--- whole frames, and nothing behind them
+-- whole frames, and nothing after them
 pub record AreFrames (octets : Octets) : Type 0 where
   pub are : octets ≡ stream (messages_in octets)
   pub short : AreShort (messages_in octets)
 
--- whole frames were read of all octets that were given; they decide something, or a part of a frame stands behind them
+-- whole frames were read of all octets that were given; they decide something, or a part of a frame comes after them
 -- and nothing is left
 pub record HasTaken (transfer : Transfer) (read : Octets) (before after left : Option Octets) : Type 0 where
   pub frames : AreFrames read

@@ -12,10 +12,11 @@ use Rattle.dz_job.specs.Job.{JobOf}
 abbrev pub job_in : Flying → JobOf
 job_in f = record { flight = f.flight; held = option_map arc_value f.held.value; key = f.key.value }
 
--- the position of the entry that ended its incarnation is beside it
+-- the position of the entry that ended the incarnation of a job is noted with the job
 abbrev pub IsMarked : List Entry → Flying → Type 0
 IsMarked list f = f.ended ≡ ended list f.flight.zone f.flight.incarnation
 
--- with the position of the entry after which this state stands, where its incarnation stood before it and doesn't now
+-- a job in flight with the position of the entry after which this state holds, where its incarnation was current before
+-- that entry and isn't now
 abbrev pub marked : State → ℕ → Flying → Flying
 marked s position f = if not (is_some f.ended) && not (stands s f.flight.zone f.flight.incarnation) then record f { ended = Some position } else f

@@ -7,6 +7,7 @@ use Rattle.dz_fleet.specs.declared.weighed.Renewal.{Renewal}
 use Rattle.dz_fleet.specs.declared.weighed.Renewal.TheVariants.{Same, Taken, Relisted}
 use Rattle.dz_fleet.specs.Weighing.{Renewed}
 
+-- what is renewed, as contracts see it
 abbrev pub renewed_by : Renewal → Option Renewed
 renewed_by Same = None
 renewed_by (Taken holdings) = Some record { state = holdings; values = None }
@@ -17,6 +18,7 @@ abbrev pub IsStepOf : Step → Entry → Option Renewed → Type 0
 IsStepOf step entry (Some renewed) = (step.entry ≡ entry) × (arc_value step.table ≡ renewed.state.table)
 IsStepOf step entry None = ⊥
 
+-- the step, if it is still to be handed out, is that of the entry and of the table afterwards
 abbrev pub IsStep : Option Step → Entry → Option Renewed → Type 0
 IsStep (Some step) entry renewed = IsStepOf step entry renewed
 IsStep None entry renewed = ⊤

@@ -3,16 +3,16 @@ use Rattle.std.specs.Prelude.{◌≡◌, ℕ, true, List}
 use Rattle.dz_name.specs.Words.{Name}
 use Rattle.dz_record.specs.Record.{Record}
 use Rattle.dz_zone.specs.Version.{Zone}
-use Rattle.dz_form.specs.declared.fault.ShapeFault.TheVariants.{AfterEnd}
-use Rattle.dz_form.specs.Apex.{is_apex_soa, serial_of}
-use Rattle.dz_form.specs.Place.{Place, amid, ended, failed}
+use Rattle.dz_xfr.specs.declared.fault.ShapeFault.TheVariants.{AfterEnd}
+use Rattle.dz_xfr.specs.Apex.{is_apex_soa, serial_of}
+use Rattle.dz_xfr.specs.Place.{Place, amid, ended, failed}
 use Rattle.dz_ixfr.specs.declared.differences.Stage.{Stage}
 use Rattle.dz_ixfr.specs.declared.differences.Stage.TheVariants.{Begun, Deleting, Adding, Ended, Lost}
 use Rattle.dz_ixfr.specs.Incremental.{HasNoSoa}
 use Rattle.dz_ixfr.specs.Reading.{Amid, begun, deleting, adding, place_of}
 
--- the place of a stage, with the first SOA, what stands, and the records at the end. What was lost for want of memory
--- stands as behind a record too many
+-- the place of a stage, with the first SOA, what is left, and the records at the end. What was lost where memory ran
+-- out is as after a record too many
 abbrev pub place_in : Stage → Record → List Record → List Record → Place Amid
 place_in (Begun serial) first standing zone = amid (begun first serial standing)
 place_in Deleting first standing zone = amid (deleting first standing)

@@ -1,4 +1,4 @@
--- Inner: where records stand in a zone that is kept in order.
+-- Inner: the places of records in a zone that is kept in order.
 use Rattle.std.specs.Prelude.{◌≡◌, ℕ, ◌≤◌, List, true, false, length, Option, Some, None, slice_get, if◌then◌else◌}
 use Rattle.std.specs.List.Sorted.{IsNonDecreasingBy}
 use Rattle.dz_name.specs.declared.dns.TheConstants.{TYPE_DNAME}
@@ -10,10 +10,11 @@ use Rattle.dz_name.specs.Words.{Name, Kind}
 use Rattle.dz_name.specs.Name.{canonical_order, is_within}
 use Rattle.dz_record.specs.Record.{Record}
 
--- where a record stands seen from an owner, and from an owner and a type
+-- where a record comes in relation to an owner
 abbrev pub from_owner : Name → Record → Ordering
 from_owner name r = canonical_order r.owner name
 
+-- where a record comes in relation to an owner and a type
 abbrev pub from_key : Name → Kind → Record → Ordering
 from_key name kind r = ordering_then (canonical_order r.owner name) (nat_cmp r.kind kind)
 

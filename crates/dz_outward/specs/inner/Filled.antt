@@ -29,6 +29,7 @@ pub record Reaches (new : PieceState) (after : Octets) (id : ℕ) (questions : L
   pub holds : Holds new after id questions (current ++ more)
   pub same : (rest : List Record) → packed id questions current (filter is_other (drop start records) ++ rest) ≡ packed id questions (current ++ more) (filter is_other (drop end records) ++ rest)
 
+-- what adding records from one place to another makes of any message that was begun
 abbrev pub AddsUp : PieceState → Octets → PieceState → Octets → List Record → ℕ → ℕ → Type 0
 AddsUp old before new after records start end = (id : ℕ) (questions : List Question) (current : List Record) → Holds old before id questions current → Reaches new after id questions current records start end
 
@@ -36,13 +37,14 @@ AddsUp old before new after records start end = (id : ℕ) (questions : List Que
 abbrev pub IsStopped : PieceState → List Record → ℕ → Type 0
 IsStopped piece records place = (r : Record) → slice_get records place ≡ Some r → (is_other r ≡ true) × (has_room (piece.count == 0) piece.size (length (record_octets r)) ≡ false)
 
--- a message at the front of a buffer is the next one, and the others are left
+-- a message at the beginning of a buffer is the next one, and the others are left
 pub record Gives (before after : List Content) (count : ℕ) (out : Octets) : Type 0 where
   pub message : Content
   pub are : before ≡ message ∷ after
   pub octets : take count out ≡ message_octets message
   pub short : count ≤ MESSAGE_OCTETS
 
+-- the next message is in the buffer, and the others are left; none where no message is left
 abbrev pub GivesNext : Option (ℕ × Stage) → Zone → ℕ → Stage → Octets → Type 0
 GivesNext None zone id stage out = left_of zone id stage ≡ []
 GivesNext (Some next) zone id stage out = Gives (left_of zone id stage) (left_of zone id next.1) next.0 out

@@ -1,4 +1,4 @@
--- Inner: nodes that lie elsewhere, and how many records they have.
+-- Inner: nodes that are kept elsewhere, and how many records they have.
 use Rattle.std.specs.Prelude.{ℕ, ◌+◌, List, map, length, nat_lt, is_some, Option, Some, None, sum_by, if◌then◌else◌}
 use Rattle.std.specs.Borrow.{Bor}
 use Rattle.std.specs.Option.{ForSome}
@@ -6,7 +6,7 @@ use Rattle.dz_name.specs.Name.{IsName}
 use Rattle.dz_name.specs.Words.{Name}
 use Rattle.dz_member.specs.declared.listing.Node.{Node}
 
--- what a node leads to are names
+-- the zone of a node and the catalog that may take it over are names
 pub record IsLed (node : Node) : Type 0 where
   pub zone : IsName node.zone
   pub coo : ForSome node.coo IsName
@@ -15,11 +15,12 @@ pub record IsLed (node : Node) : Type 0 where
 abbrev pub values : List (Bor Node) → List Node
 values nodes = map (λ b. b.now) nodes
 
--- the records of a node: its PTR, its change of ownership and its groups
+-- how many records a change of ownership has
 abbrev pub coo_count : Option Name → ℕ
 coo_count None = 0
 coo_count (Some catalog) = 1
 
+-- how many records a node has: its PTR, its change of ownership and its groups
 abbrev pub record_count : Node → ℕ
 record_count node = 1 + (coo_count node.coo + length node.groups)
 

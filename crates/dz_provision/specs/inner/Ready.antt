@@ -6,7 +6,7 @@ use Rattle.dz_job.specs.declared.verdict.Verdict.TheVariants.{OutOfMemory}
 use Rattle.dz_fleet.specs.Core.{Core, failed_core}
 use Rattle.dz_fleet.specs.Weighing.{Fits}
 use Rattle.dz_report.specs.Lines.{verdict_lines}
-use Rattle.dz_provision.specs.declared.settling.Ready.{Ready}
+use Rattle.dz_provision.specs.declared.settle.Ready.{Ready}
 use Rattle.dz_provision.specs.Held.{Held}
 
 -- it fits this core and this job, and its lines are those of its verdict

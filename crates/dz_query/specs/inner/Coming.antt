@@ -10,10 +10,10 @@ use Rattle.dz_message.specs.Frame.{frame, stream, first_size, AreShort}
 use Rattle.dz_history.specs.declared.entry.Entry.{Entry}
 use Rattle.dz_query.specs.Served.{Served, requests, moments, framed, AreInTurn}
 use Rattle.dz_query.specs.Stream.{Flow}
-use Rattle.dz_query.specs.declared.coming.Filled.{Filled}
-use Rattle.dz_query.specs.declared.coming.Filled.TheVariants as filled
-use Rattle.dz_query.specs.declared.coming.Came.{Came}
-use Rattle.dz_query.specs.declared.coming.Came.TheVariants as came
+use Rattle.dz_query.specs.declared.came.Filled.{Filled}
+use Rattle.dz_query.specs.declared.came.Filled.TheVariants as filled
+use Rattle.dz_query.specs.declared.came.Came.{Came}
+use Rattle.dz_query.specs.declared.came.Came.TheVariants as came
 
 -- fewer octets were read than a buffer holds
 pub record FallsShort (room : ℕ) (before after : Option Octets) : Type 0 where
@@ -21,6 +21,7 @@ pub record FallsShort (room : ℕ) (before after : Option Octets) : Type 0 where
   pub short : length part < room
   pub gains : Gains part before after
 
+-- the whole buffer was read, or fewer octets, since the source ended or failed
 abbrev pub IsFilled : Filled → Octets → Option Octets → Option Octets → Option Octets → Type 0
 IsFilled filled.Whole buffer before after left = Gains buffer before after
 IsFilled filled.Ended buffer before after left = FallsShort (length buffer) before after × IsAtEnd left
@@ -32,7 +33,7 @@ pub record IsPart (before after : Option Octets) : Type 0 where
   pub none : first_size part ≡ None
   pub gains : Gains part before after
 
--- a message stands at the front of the buffer; or the link ended or failed before it was whole
+-- a message is at the front of the buffer; or the link ended or failed before it was whole
 abbrev pub HasCome : Came → Octets → Option Octets → Option Octets → Option Octets → Type 0
 HasCome (came.Message size) buffer before after left = (size ≤ MESSAGE_OCTETS) × Gains (frame (take size buffer)) before after
 HasCome came.Ended buffer before after left = IsPart before after × IsAtEnd left

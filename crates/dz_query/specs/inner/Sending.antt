@@ -37,10 +37,12 @@ abbrev pub texts_in : Sending → Writing → List Octets
 texts_in (sending.Reply answered) w = texts_of answered w
 texts_in (sending.Zone messages) w = written messages
 
+-- the fate of what goes out
 abbrev pub fate_in : Sending → Fate
 fate_in (sending.Reply answered) = fate_of answered
 fate_in (sending.Zone messages) = fate.Sent
 
+-- a reply that goes out fits after its length
 abbrev pub FitsFrame : Sending → Writing → Type 0
 FitsFrame (sending.Reply answered) w = IsShort answered w
 FitsFrame (sending.Zone messages) w = ⊤

@@ -6,6 +6,6 @@ use Rattle.dz_lookup.specs.Found.{Found, here}
 use Rattle.dz_lookup.specs.Chain.{Trail}
 use Rattle.dz_reply.specs.Secure.{authority_sets}
 
--- these records are found, and no RRset stands in the authority section, whatever the zone
+-- these records are found, and the authority section has no RRset, whatever the zone
 abbrev pub IsAlone : Trail → Found → Name → List Record → Type 0
 IsAlone trail found name rs = (found ≡ here rs) × ((zone : List Record) → [] ≡ authority_sets zone trail found name)

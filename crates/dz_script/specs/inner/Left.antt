@@ -4,11 +4,11 @@ use Rattle.dz_io.specs.declared.peer.Peer.{Peer}
 use Rattle.dz_name.specs.Words.{Octets}
 use Rattle.dz_script.specs.Fields.{parts_of}
 
--- none is left behind the last field, and the text behind a separator has one or more
+-- none is left after the last field, and the text after a separator has one or more
 abbrev pub parts_left : ℕ → Option Octets → List Octets
 parts_left separator None = []
 parts_left separator (Some text) = parts_of separator text
 
--- peers in front of those that are still to be read
+-- peers before those that are still to be read
 abbrev pub with_peers : List Peer → Option (List Peer) → Option (List Peer)
 with_peers peers more = option_map (λ others. peers ++ others) more

@@ -5,7 +5,7 @@ use Rattle.dz_message.specs.Frame.{stream}
 use Rattle.dz_message.specs.Message.{Content}
 use Rattle.dz_message.specs.Piece.{written}
 
--- the first messages were at the front of the octets; the others are to be compared with the rest
+-- the first messages were at the beginning of the octets; the others are to be compared with the rest
 pub record IsMatching (octets rest : Octets) (all left : List Content) : Type 0 where
   pub front : Octets
   pub octets_are : octets ≡ front ++ rest

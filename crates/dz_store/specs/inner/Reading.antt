@@ -5,7 +5,7 @@ use Rattle.dz_message.specs.Frame.{messages_in}
 use Rattle.dz_take.specs.Outcome.{decided}
 use Rattle.dz_take.specs.Transfer.{Transfer}
 
--- a front of the octets was read, some of their messages, after which the others follow; nothing is decided before
+-- a prefix of the octets was read, some of their messages, which the others follow; nothing is decided before
 pub record IsFront (octets read : Octets) (place : ℕ) : Type 0 where
   pub within : place ≤ length octets
   pub are : read ≡ take place octets

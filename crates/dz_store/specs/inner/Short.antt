@@ -1,4 +1,4 @@
--- Inner: no payload that reads is longer than the longest.
+-- Inner: no payload that can be read is longer than the longest.
 use Rattle.std.specs.Prelude.{◌≡◌, ◌≤◌, true, length, nat_le}
 use Rattle.std.proofs.lemmas.Bool.{and_parts, leb-true}
 use Rattle.dz_name.specs.Words.{Octets}

@@ -1,4 +1,4 @@
--- Inner: slots that are of a table.
+-- Inner: slots that a table has.
 use Rattle.std.specs.Prelude.{◌≡◌, List, Some}
 use Rattle.std.specs.List.{AllByRecursion}
 use Rattle.dz_table.specs.Slot.{SlotOf}

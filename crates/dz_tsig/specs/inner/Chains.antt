@@ -3,8 +3,8 @@ use Rattle.std.specs.Prelude.{◌≡◌, ℕ, List, Result, Ok, Err}
 use Rattle.dz_name.specs.Words.{Octets}
 use Rattle.dz_tsig.specs.Checking.{State, steps}
 use Rattle.dz_tsig.specs.inner.Hashing.{IsOf}
-use Rattle.dz_tsig.specs.declared.checking.Chain.{Chain}
-use Rattle.dz_member.specs.declared.key.Key.{Key}
+use Rattle.dz_tsig.specs.declared.check.Chain.{Chain}
+use Rattle.dz_settings.specs.declared.key.Key.{Key}
 use Rattle.dz_tsig.specs.declared.fault.TsigFault.{TsigFault}
 
 -- the state of a chain whose MAC is of these octets so far
@@ -17,7 +17,7 @@ pub record IsAt (secret : Octets) (state : State) (chain : Chain) : Type 0 where
   pub unsigned : chain.unsigned ≡ state.unsigned
   pub time : chain.time ≡ state.time
 
--- what a step gave is what it is to give
+-- what a step gave is what it has to give
 abbrev pub Leads : Octets → Result State TsigFault → Result Chain TsigFault → Type 0
 Leads secret (Ok state) (Ok chain) = IsAt secret state chain
 Leads secret (Ok state) (Err e) = ⊥

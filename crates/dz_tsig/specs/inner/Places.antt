@@ -11,6 +11,7 @@ pub record IsPlacedTsig (m : Octets) (tsig : Tsig) : Type 0 where
   pub after_header : HEADER_OCTETS ≤ tsig.at
   pub within : tsig.at ≤ length m
 
+-- the TSIG of a message, if it can be read, begins after the header
 abbrev pub IsPlaced : Octets → Signature → Type 0
 IsPlaced m Absent = ⊤
 IsPlaced m Malformed = ⊤

@@ -5,7 +5,7 @@ use Rattle.dz_name.specs.Words.{Octets}
 use Rattle.dz_name.specs.declared.dns.TheConstants.{MESSAGE_OCTETS}
 use Rattle.dz_message.specs.Frame.{frame, stream, messages_in, AreShort}
 use Rattle.dz_tsig.specs.Streams.{is_message, signed_from}
-use Rattle.dz_member.specs.declared.key.Key.{Key}
+use Rattle.dz_settings.specs.declared.key.Key.{Key}
 use Rattle.dz_tsig.specs.declared.streams.SignError.{SignError}
 use Rattle.dz_tsig.specs.declared.streams.SignError.TheVariants as errors
 
@@ -19,6 +19,7 @@ pub record IsAppended (m old new : Octets) : Type 0 where
   pub short : length m ≤ MESSAGE_OCTETS
   pub out : new ≡ old ++ frame m
 
+-- what an appending call gave: the frame of the message, or TooLong; running out of memory says nothing
 abbrev pub Appends : {A : Type 0} → Octets → Octets → Octets → Result A SignError → Type 0
 Appends m old new (Ok x) = IsAppended m old new
 Appends m old new (Err errors.BadFrames) = ⊥

@@ -1,4 +1,5 @@
--- Inner: a version as its fields: the records of a zone, the index of their owners, and whether there are cuts and DNAMEs.
+-- Inner: a version as its fields: the records of a zone, the index of their owners, whether there are cuts, DNAMEs and
+-- records of DNSSEC, and the places of NSEC records.
 use Rattle.std.specs.Prelude.{◌≡◌, ℕ, ◌-◌, ◌<◌, Bool, true, List, [], ◌∷◌, length, slice_index, slice_index_or}
 use Rattle.dz_name.specs.declared.dns.TheConstants.{TYPE_NSEC}
 use Rattle.std.specs.Ordering.{is_lt}
@@ -8,15 +9,16 @@ use Rattle.dz_record.specs.Record.{Record, record_order}
 use Rattle.dz_index.specs.inner.Rows.{Rows, IsIndex}
 use Rattle.dz_zone.specs.Version.{Zone, IsVersion, owners_of, has_cuts, has_dnames, is_secure}
 
--- the apex owns the first of the records
+-- the apex, which is the owner of the first record
 abbrev pub apex_in : List Record → Name
 apex_in [] = []
 apex_in (r ∷ rs) = r.owner
 
+-- the zone of such records
 abbrev pub zone_in : List Record → Zone
 zone_in records = record { apex = apex_in records; records = records }
 
--- the record at a place comes behind the one in front of it, if there is one
+-- the record at a place comes after the one before it, if there is one
 abbrev pub RisesAt : List Record → ℕ → Type 0
 RisesAt records place = 0 < place → (d : Record) → is_lt (record_order (slice_index_or records (place - 1) d) (slice_index_or records place d)) ≡ true
 
@@ -25,7 +27,7 @@ pub record IsRisen (records : List Record) (index : Rows) : Type 0 where
   pub rises : IsStrictlySortedBy record_order records
   pub indexed : IsIndex (owners_of records) index
 
--- the places of NSEC records: each is one, each stands there, and they rise
+-- the places of NSEC records: an NSEC record is at each of them, each NSEC record is at one of them, and they rise
 pub record AreNsecs (records : List Record) (nsecs : List ℕ) : Type 0 where
   pub sound : (i : ℕ) (d : Record) → i < length nsecs → (slice_index nsecs i < length records) × ((slice_index_or records (slice_index nsecs i) d).kind ≡ TYPE_NSEC)
   pub complete : (k : ℕ) (d : Record) → k < length records → (slice_index_or records k d).kind ≡ TYPE_NSEC → (i : ℕ) × (i < length nsecs) × (slice_index nsecs i ≡ k)
@@ -36,6 +38,7 @@ pub record Secure : Type 0 where
   pub is_secure : Bool
   pub nsecs : List ℕ
 
+-- the fields that are kept are those of this version
 pub record IsKept (zone : Zone) (index : Rows) (cuts dnames : Bool) (secure : Secure) : Type 0 where
   pub version : IsVersion zone
   pub indexed : IsIndex (owners_of zone.records) index

@@ -5,10 +5,11 @@ use Rattle.dz_name.specs.Words.{Kind}
 use Rattle.dz_name.specs.declared.dns.TheConstants.{TYPE_CNAME, TYPE_DNAME, TYPE_SOA}
 use Rattle.dz_record.specs.Record.{Record}
 
+-- SOA, CNAME and DNAME: an owner has at most one record of such a type
 abbrev pub is_singleton : Kind → Bool
 is_singleton kind = kind == TYPE_SOA || (kind == TYPE_CNAME || kind == TYPE_DNAME)
 
--- more than one record is of such a type
+-- there is more than one record of such types
 abbrev pub has_singletons : List Record → Bool
 has_singletons records = nat_lt 1 (count_by (λ r. is_singleton r.kind) records)
 

@@ -1,5 +1,5 @@
 use Rattle.std.proofs.Common.{◌≡◌, replicate}
-use Rattle.dz_schedule.specs.Values.{fresh}
+use Rattle.dz_timer.specs.Values.{fresh}
 use Rattle.dz_fleet.proofs.fleet.beginning.Given as goal
 
 abbrev pub invariant-zones : goal.invariant-zones

@@ -1,6 +1,6 @@
 use Rattle.std.proofs.Common.{◌≡◌, take, map, not}
 use Rattle.std.specs.Prelude.{filter}
-use Rattle.dz_form.specs.Apex.{is_apex_soa}
+use Rattle.dz_xfr.specs.Apex.{is_apex_soa}
 use Rattle.dz_ixfr.specs.inner.Overlay.{flagged}
 use Rattle.dz_ixfr.proofs.standing.shared.Given as goal
 

@@ -1,6 +1,6 @@
 use Rattle.std.proofs.Common.{length}
 use Rattle.std.specs.Vec.Iter.{into_iter_items}
-use Rattle.dz_form.specs.Feeding.{IsOpen}
+use Rattle.dz_xfr.specs.Feeding.{IsOpen}
 use Rattle.dz_ixfr.specs.Incremental.{IsIncremental, Blames}
 use Rattle.dz_low_tests.proofs.ixfr.feed_messages.Given as goal
 

@@ -30,16 +30,16 @@ returns-in-Ok-clause-serve g c =
 pub returns-in-Err-Read-clause-serve : goal.returns-in-Err-Read-clause-serve
 returns-in-Err-Read-clause-serve g c =
     let u = c.unserved.ensures in
-    not_served _ _ _ _ _ _ _ _ (ap (λ d. d.publisher.list) u.desk ∙ c.requires.publisher.0) (rw (u.end, u.output) c.requires.written) (λ is. cc (sym u.end ∙ is))
+    not_served _ _ _ _ _ _ _ _ _ (ap (λ d. d.publisher.list) u.desk ∙ c.requires.publisher.0) (rw (u.end, u.output) c.requires.written) (λ is. cc (sym u.end ∙ is))
 
 pub returns-in-Err-OutOfMemory-clause-serve : goal.returns-in-Err-OutOfMemory-clause-serve
 returns-in-Err-OutOfMemory-clause-serve g c =
     let u = c.unserved-in-Err-OutOfMemory.ensures in
-    not_served _ _ _ _ _ _ _ _ (ap (λ d. d.publisher.list) u.desk ∙ c.requires.publisher.0) (rw (u.end, u.output) c.requires.written) (λ is. cc (sym u.end ∙ is))
+    not_served _ _ _ _ _ _ _ _ _ (ap (λ d. d.publisher.list) u.desk ∙ c.requires.publisher.0) (rw (u.end, u.output) c.requires.written) (λ is. cc (sym u.end ∙ is))
 
 pub returns-in-Err-Bad-clause-serve : goal.returns-in-Err-Bad-clause-serve
 returns-in-Err-Bad-clause-serve g c =
     let b = c.say_bad.ensures in
     let fault = c.in-Err-Bad.fault in
-    bad_served _ _ _ _ _ _ _ fault _ _ (ap (λ d. d.publisher.list) b.desk ∙ c.requires.publisher.0)
+    bad_served _ _ _ _ _ _ _ _ fault _ _ (ap (λ d. d.publisher.list) b.desk ∙ c.requires.publisher.0)
     (λ octets told. rw c.in-Err-Bad.field-0-is at (c.in-Err-Bad.ensures.reads octets told)) c.requires.written (rw c.in-Err-Bad.field-0-is at b.said)

@@ -2,7 +2,7 @@ use Rattle.std.proofs.Common.{◌≡◌, sym, ◌∙◌, ap, refl, subst, None, 
 use Rattle.std.specs.Arc.{arc_value}
 use Rattle.std.specs.Prelude.{option_map, slice_set}
 use Rattle.std.proofs.lemmas.Option.{get_or_from_slice_get}
-use Rattle.dz_schedule.specs.Values.{fresh, departed}
+use Rattle.dz_timer.specs.Values.{fresh, departed}
 use Rattle.dz_job.specs.Job.{IsJob}
 use Rattle.dz_fleet.specs.declared.flight.Flying.{Flying}
 use Rattle.dz_fleet.specs.declared.due.Due.TheVariants as due
@@ -24,10 +24,12 @@ invariant_of-self c =
     let i = c.self.inside in
     let f : Flying = record { flight = c.flight.result.now; held = c.of.result; key = c.of-2.result; ended = None } in
     let own : job_in f ≡ c.args.job = flying_is c.args.job f c.flight.ensures (ap (option_map arc_value) c.of.ensures ∙ c.shared.ensures) (c.of-2.ensures ∙ c.shared_key.ensures) in
-    let v = get_or_from_slice_get i.schedule c.args.place c.at.result fresh c.at.ensures in
-    rw (c.in-Ok.ensures.items, c.change.ensures, c.departed-values.ensures, ← v)
-    (kept_due i.holdings i.history i.tickets i.flying.items i.schedule c.args.place c.args.job.flight.moment f c.self.invariant (rw (← c.self.view_is) at c.requires.room) (rw (← c.self.view_is) at c.requires.first)
-    (own ∙ (rw (← c.self.view_is) at c.requires.job)) (subst IsJob (sym own) c.held.ensures.valid) refl)
+    let v = get_or_from_slice_get i.schedule c.args.place c.at.result fresh c.at.ensures in (
+      rw (c.in-Ok.ensures.items, c.change.ensures, c.departed-values.ensures, ← v)
+          (kept_due i.holdings i.history i.tickets i.flying.items i.schedule c.args.place c.args.job.flight.moment f c.self.invariant.0 (rw (← c.self.view_is) at c.requires.room) (rw (← c.self.view_is) at c.requires.first)
+          (own ∙ (rw (← c.self.view_is) at c.requires.job)) (subst IsJob (sym own) c.held.ensures.valid) refl),
+      c.self.invariant.1,
+    )
 
 pub returns-clause-due : goal.returns-clause-due
 returns-clause-due c = elim c.match-push.branch [
@@ -52,7 +54,7 @@ returns-clause-flying c = elim c.match-push.branch [
       let f : Flying = record { flight = c.flight.result.now; held = c.of.result; key = c.of-2.result; ended = None } in
       let own : job_in f ≡ c.args.job = flying_is c.args.job f c.flight.ensures (ap (option_map arc_value) c.of.ensures ∙ c.shared.ensures) (c.of-2.ensures ∙ c.shared_key.ensures) in
       let v = get_or_from_slice_get i.schedule c.args.place w.at.result fresh w.at.ensures in
-      let k = kept_due i.holdings i.history i.tickets i.flying.items i.schedule c.args.place c.args.job.flight.moment f c.self.invariant (rw (← c.self.view_is) at c.requires.room) (rw (← c.self.view_is) at c.requires.first)
+      let k = kept_due i.holdings i.history i.tickets i.flying.items i.schedule c.args.place c.args.job.flight.moment f c.self.invariant.0 (rw (← c.self.view_is) at c.requires.room) (rw (← c.self.view_is) at c.requires.first)
       (own ∙ (rw (← c.self.view_is) at c.requires.job)) (subst IsJob (sym own) c.held.ensures.valid) refl in
       rw (w.result-is, w.self-is, w.in-Ok.ensures.items, w.change.ensures, w.departed-values.ensures, ← v)
       (handed_flies (core_in i.history (i.tickets + 1) (i.flying.items ++ f ∷ []) (slice_set i.schedule c.args.place (departed (value_at i.schedule c.args.place)))) (map job_in i.flying.items) c.args.job k.sound

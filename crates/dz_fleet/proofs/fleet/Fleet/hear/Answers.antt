@@ -5,10 +5,10 @@ pub returns-then-has_address : goal.returns-then-has_address
 returns-then-has_address c =
     let e = rw c.in-Some.is at c.primaries.ensures in
     let t = sym (rw c.as_slice.ensures at c.has_address.ensures) ∙ c.if-has_address.true in
-    rw (← c.self.view_is, ← c.self.invariant.after, ← e, t) refl
+    rw (← c.self.view_is, ← c.self.invariant.0.after, ← e, t) refl
 
 pub returns-else-has_address : goal.returns-else-has_address
 returns-else-has_address c =
     let e = rw c.in-Some.is at c.primaries.ensures in
     let f = sym (rw c.as_slice.ensures at c.has_address.ensures) ∙ c.if-has_address.false in
-    rw (← c.self.view_is, ← c.self.invariant.after, ← e, f) refl
+    rw (← c.self.view_is, ← c.self.invariant.0.after, ← e, f) refl

@@ -9,7 +9,7 @@ returns-then-is_among c =
     let flight = c.args.job.now.flight in
     let fs = c.self.inside.flying.items in
     let among : IsAmong flight (map job_in fs) = (among_decides flight fs).0 (rw (c.deref.ensures.value, c.flight.ensures) at (sym c.is_among.ensures ∙ c.if-is_among.true)) in
-    let d = rw c.self.invariant.after at c.is_as_held.ensures in
+    let d = rw c.self.invariant.0.after at c.is_as_held.ensures in
     rw (← c.self.view_is) (λ t. record { there = among; held = d.0 t }, λ f. d.1 f.held)
 
 pub returns-else-is_among : goal.returns-else-is_among

@@ -16,7 +16,7 @@ returns-then-not-approves-clause-verdict c =
 
 pub returns-clause-verdict : goal.returns-clause-verdict
 returns-clause-verdict c =
-    let k = c.self.invariant in
+    let k = c.self.invariant.0 in
     let i = c.self.inside in
     let zone = c.args.job.now.flight.zone in
     let new = rw c.requires.transfer at c.requires.new in

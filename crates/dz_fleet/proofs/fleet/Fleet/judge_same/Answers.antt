@@ -11,7 +11,7 @@ use Rattle.dz_fleet.proofs.fleet.Fleet.judge_same.Goals as goal
 
 pub returns-clause-verdict : goal.returns-clause-verdict
 returns-clause-verdict c =
-    let k = c.self.invariant in
+    let k = c.self.invariant.0 in
     let i = c.self.inside in
     let same = rw c.requires.transfer at c.requires.same in
     let none = rw (← c.self.view_is) at c.requires.standing in

@@ -12,7 +12,7 @@ use Rattle.dz_fleet.proofs.fleet.Fleet.take.Goals as goal
 
 pub take-requires-clause-assigned : goal.take-requires-clause-assigned
 take-requires-clause-assigned c =
-    let k = c.self.invariant in
+    let k = c.self.invariant.0 in
     let i = c.self.inside in
     let f = rw (← c.self.view_is) at c.requires.flying in
     let none = rw (← c.self.view_is) at c.requires.standing in
@@ -24,14 +24,14 @@ take-requires-clause-moment c = rw c.moment.ensures c.held.ensures.valid.moment
 
 pub take-requires-clause-room : goal.take-requires-clause-room
 take-requires-clause-room c =
-    let k = c.self.invariant in
+    let k = c.self.invariant.0 in
     let i = c.self.inside in
     let f = rw (← c.self.view_is) at c.requires.flying in
     omega (arith, room_more (core_in i.history i.tickets i.flying.items i.schedule) c.args.job.now k.sound f.there, count_is i.history k.sound.legal, ap (λ (s : State). s.count) k.after)
 
 pub renewal-requires : goal.renewal-requires
 renewal-requires c =
-    let k = c.self.invariant in
+    let k = c.self.invariant.0 in
     let i = c.self.inside in
     let j = c.args.job.now in
     let f = rw (← c.self.view_is) at c.requires.flying in
@@ -43,13 +43,13 @@ renewal-requires c =
 
 pub returns-clause-aftermath : goal.returns-clause-aftermath
 returns-clause-aftermath c =
-    let k = c.self.invariant in
+    let k = c.self.invariant.0 in
     let a = rw (c.requires.transfer, k.after) at c.in_ok-holdings.ensures.aftermath in
     rw (← c.self.view_is, c.requires.transfer) a
 
 pub returns-clause-renewed : goal.returns-clause-renewed
 returns-clause-renewed c =
-    let k = c.self.invariant in
+    let k = c.self.invariant.0 in
     let i = c.self.inside in
     let j = c.args.job.now in
     let f = rw (← c.self.view_is) at c.requires.flying in

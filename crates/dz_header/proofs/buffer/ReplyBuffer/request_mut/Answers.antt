@@ -2,7 +2,7 @@ use Rattle.std.proofs.Common.{rules, List, ℕ, ◌++◌, length, take, drop, re
 use Rattle.dz_header.specs.Buffer.{with_request}
 use Rattle.dz_header.proofs.buffer.ReplyBuffer.request_mut.Goals as goal
 
--- the vector keeps its length, whatever is left behind the slice
+-- the vector keeps its length, whatever is left after the slice
 pub returns : goal.returns
 returns c =
     let kept : (w : List ℕ) → _ = λ w.

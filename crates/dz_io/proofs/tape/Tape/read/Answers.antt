@@ -1,7 +1,7 @@
 -- The front of what was left joins what was given.
 use Rattle.std.proofs.Common.{ap, sym}
 use Rattle.dz_io.specs.Memory.{TapeOf}
-use Rattle.dz_io.proofs.WindowLemmas.{split_at, join_at}
+use Rattle.dz_io.proofs.TapeLemmas.{split_at, join_at}
 use Rattle.dz_io.proofs.tape.Tape.read.Goals as goal
 
 pub returns-clause-given : goal.returns-clause-given

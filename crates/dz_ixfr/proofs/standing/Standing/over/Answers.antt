@@ -2,7 +2,7 @@ use Rattle.std.proofs.Common.{not, ◌∙◌}
 use Rattle.std.specs.Prelude.{filter}
 use Rattle.dz_record.specs.Order.{record_total}
 use Rattle.dz_record.specs.Record.{record_order}
-use Rattle.dz_form.specs.Apex.{is_apex_soa}
+use Rattle.dz_xfr.specs.Apex.{is_apex_soa}
 use Rattle.dz_ixfr.proofs.OverlayLemmas.{fresh, fresh_left}
 use Rattle.dz_ixfr.proofs.standing.Standing.over.Goals as goal
 

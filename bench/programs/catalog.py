@@ -1,0 +1,5 @@
+print("catalog catalog.example. 1")
+for n in range(65536): print(f"member m{n} zone{n}.example. - edge")
+print("change 2")
+for n in range(10): print(f"drop m{n * 5000}")
+for n in range(10): print(f"member n{n} new{n}.example. other.example. g{n}")

@@ -1,4 +1,0 @@
-use Rattle.catzd.proofs.events.close_all.Given as goal
-
-abbrev pub decreases-jobs : goal.decreases-jobs
-decreases-jobs l = l.jobs.len

@@ -1,4 +1,0 @@
-use Rattle.catzd.proofs.running.run_replay.Given as goal
-
-abbrev pub ghosts-replay : goal.ghosts-replay
-ghosts-replay g a = record { publisher = a.ends.publisher.book }

@@ -1,0 +1,145 @@
+//! What to correct in a configuration.
+ghost use Rattle.std.specs.Prelude.{IfSome, Err};
+ghost use Rattle.dz_config.specs.Config.{Reads};
+
+use crate::config::read_config;
+use crate::fault::{ConfigError, ConfigFault};
+use crate::key::Key;
+use crate::keys::Place;
+use crate::lines::Lines;
+use std::alloc::Global;
+use std::fmt;
+use toml::de::Error;
+
+/// What was expected where a configuration can't be read.
+#[derive(Clone, Copy, Debug, PartialEq, Eq)]
+pub enum Expected {
+    /// TOML.
+    Toml(Error),
+    /// A key or a table that the place has.
+    Known(Place),
+    /// A value that the key takes.
+    Value(Key),
+    /// The key, which is missing in the table that begins there.
+    Present(Key),
+    /// Counts within their limits.
+    Within,
+    /// Each catalog once, and each word of a catalog once.
+    Once,
+    /// Secrets that can be used.
+    Secrets,
+}
+
+/// The line of a configuration at which something is to be corrected, and what was expected there. It contains nothing
+/// of the text, and so no secret.
+#[derive(Clone, Copy, Debug, PartialEq, Eq)]
+pub struct Advice {
+    /// The line, from 1.
+    pub line: usize,
+    pub expected: Expected,
+}
+
+impl fmt::Display for Advice {
+    /// Writes the line and what was expected there.
+    fn fmt<W: fmt::Write>(&self, f: &mut fmt::Formatter<W>) -> fmt::Result {
+        let line = self.line;
+        match self.expected {
+            Expected::Toml(error) => write!(f, "line {line}: this is no TOML: {}", error.message()),
+            Expected::Known(place) => write!(
+                f,
+                "line {line}: unknown key or table; expected {}",
+                place.keys()
+            ),
+            Expected::Value(key) => write!(
+                f,
+                "line {line}: {}: expected {}",
+                key.name(),
+                key.takes()
+            ),
+            Expected::Present(key) => write!(
+                f,
+                "line {line}: {} is missing: expected {}",
+                key.name(),
+                key.takes()
+            ),
+            Expected::Within => write!(
+                f,
+                "line {line}: expected 1 to 8 catalogs, at most 64 groups in each, 1 to 8 primaries in each, and at most 16 downstream addresses"
+            ),
+            Expected::Once => write!(
+                f,
+                "line {line}: expected each catalog once, and in each each word once"
+            ),
+            Expected::Secrets => write!(
+                f,
+                "line {line}: expected each secret to be {}",
+                Key::Secret.takes()
+            ),
+        }
+    }
+}
+
+/// What to correct in a configuration that can't be read. None where it can, or where memory runs out.
+pub fn advise(alloc: Global, text: &[u8]) -> Option<Advice>
+    ensures faulty { IfSome result
+        (λ _. (fault : ConfigFault) × Reads text.now (Err (ConfigError.Fault fault))) }
+{
+    match read_config(alloc, text) {
+        Ok(_) | Err(ConfigError::OutOfMemory) => None,
+        Err(ConfigError::Fault(ConfigFault::NotToml)) => of_toml(alloc, text),
+        Err(ConfigError::Fault(fault)) => of_lines(text, fault),
+    }
+}
+
+/// Where a text is no TOML, and why.
+fn of_toml(alloc: Global, text: &[u8]) -> Option<Advice> {
+    match toml::table_from_slice(alloc, text) {
+        Ok(_) => Some(Advice {
+            line: 1,
+            expected: Expected::Within,
+        }),
+        Err(error) => {
+            let place = error.span()?.start;
+            Some(Advice {
+                line: line_of(text, place),
+                expected: Expected::Toml(error),
+            })
+        }
+    }
+}
+
+/// The line, from 1, of the octet at a place.
+fn line_of(text: &[u8], place: usize) -> usize {
+    let before = text.get(..place).unwrap_or(&[]);
+    before.iter().fold(1, |line: usize, octet| {
+        if *octet == b'\n' {
+            line.saturating_add(1)
+        } else {
+            line
+        }
+    })
+}
+
+/// What to correct in the lines of a document that has this fault: the first line that isn't right, or else a missing
+/// key.
+fn of_lines(text: &[u8], fault: ConfigFault) -> Option<Advice> {
+    let Ok(text) = str::from_utf8(text) else {
+        return None;
+    };
+    let mut reading = Lines::new();
+    let mut line = 0_usize;
+    'lines: for piece in text.split('\n') {
+        line = line.saturating_add(1);
+        if let Some(expected) = reading.next(line, piece) {
+            return Some(expected);
+        }
+    }
+    reading.missing().or(Some(Advice {
+        line: 1,
+        expected: match fault {
+            ConfigFault::Twice => Expected::Once,
+            ConfigFault::BadSecret => Expected::Secrets,
+            _ => Expected::Within,
+        },
+    }))
+}

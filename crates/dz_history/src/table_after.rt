@@ -1,0 +1,93 @@
+//! The table after a listing.
+
+ghost use Rattle.std.specs.Prelude.{◌≡◌, map, IfOk};
+ghost use Rattle.dz_member.specs.Membership.{shown};
+ghost use Rattle.dz_member.specs.Fold.{IsFold};
+ghost use Rattle.std.specs.Option.{unwrap_or};
+ghost use Rattle.dz_table.specs.Table.{slot_of};
+ghost use Rattle.dz_history.specs.After.{slot_after, fresh};
+
+use crate::holdings::Holdings;
+use dz_member::{Fold, Membership};
+use dz_name::Name;
+use dz_table::{Ahead, SharedSlot, Slot, Table};
+use std::alloc::{AllocError, Global};
+
+/// The slots of the members of a fold: those of zones whose incarnation is unchanged stay, and others are fresh.
+/// `AllocError` where memory runs out.
+pub(crate) fn table_after(
+    alloc: Global,
+    before: &Holdings,
+    fold: &Fold,
+) -> Result<Table, AllocError>
+    ensures table { IfOk result (λ t. t ≡ map (slot_after before.now) fold.now.members) }
+    ensures fold { IsFold fold.now }
+{
+    fold.catalogs();
+    let slots = slots_after(alloc, before, fold.memberships())?;
+    Table::from_shared(alloc, slots)
+}
+
+/// The slots of these members, in their order. `AllocError` where memory runs out.
+fn slots_after(
+    alloc: Global,
+    before: &Holdings,
+    memberships: &[Membership],
+) -> Result<Vec<SharedSlot>, AllocError>
+    ensures { IfOk result (λ slots. slots.items
+        ≡ map (λ m. slot_after before.now (shown before.now.fold.config m)) memberships.now) }
+{
+    let mut slots = Vec::with_capacity(alloc, memberships.len())?;
+    let mut likely = 0;
+    let mut ahead = before.table().ahead();
+    'members: for membership in memberships {
+        let slot = slot_after(alloc, before, &mut likely, &mut ahead, membership)?;
+        slots.push(slot)?;
+    }
+    Ok(slots)
+}
+
+/// The slot of a member. Its earlier membership is looked for first at a likely place, and its earlier slot among those
+/// ahead. `AllocError` where memory runs out.
+fn slot_after(
+    alloc: Global,
+    before: &Holdings,
+    likely: &mut usize,
+    ahead: &mut Ahead,
+    membership: &Membership,
+) -> Result<SharedSlot, AllocError>
+    requires { ahead.old ≡ before.now.table }
+    ensures slot { IfOk result (λ slot. slot
+        ≡ slot_after before.now (shown before.now.fold.config membership.now)) }
+    ensures ahead { ahead.new ≡ ahead.old }
+{
+    match before.fold().find_near(likely, &membership.zone) {
+        Some(member) => {
+            if member.incarnation() == membership.incarnation {
+                same_slot(alloc, ahead, &membership.zone)
+            } else {
+                fresh(alloc, &membership.zone)
+            }
+        }
+        None => fresh(alloc, &membership.zone),
+    }
+}
+
+/// The slot of a zone, shared, or else a fresh one. `AllocError` where memory runs out.
+fn same_slot(alloc: Global, ahead: &mut Ahead, zone: &Name) -> Result<SharedSlot, AllocError>
+    ensures slot { IfOk result (λ slot. slot
+        ≡ unwrap_or (slot_of zone.now ahead.old) (fresh zone.now)) }
+    ensures ahead { ahead.new ≡ ahead.old }
+{
+    match ahead.slot(alloc, zone)? {
+        Some(slot) => Ok(slot),
+        None => fresh(alloc, zone),
+    }
+}
+
+/// The slot of a zone that begins. `AllocError` where memory runs out.
+fn fresh(alloc: Global, zone: &Name) -> Result<SharedSlot, AllocError>
+    ensures { IfOk result (λ slot. slot ≡ fresh zone.now) }
+{
+    SharedSlot::new(alloc, Slot::new(alloc, zone, 0, None)?)
+}

@@ -1,2 +1,0 @@
--- Inner: how the code keeps things.
-pub mod Window

@@ -1,6 +1,0 @@
-use Rattle.std.proofs.Common.{◌∙◌, sym}
-use Rattle.dz_member.proofs.NumberLemmas.{listing_back}
-use Rattle.dz_member.proofs.judging.listing_of.Goals as goal
-
-pub returns : goal.returns
-returns c = c.listing.ensures ∙ sym (listing_back c.args.fold.now c.args.member.now.catalog c.requires.fold.allowed c.requires.held.catalog)

@@ -1,6 +1,0 @@
-use Rattle.std.proofs.Common.{◌≡◌, min, take}
-use Rattle.dz_member.specs.Number.{value_of}
-use Rattle.dz_member.proofs.number.value_upto.Given as goal
-
-abbrev pub invariant-digits : goal.invariant-digits
-invariant-digits l = l.value ≡ min (value_of (take l.digit-index l.text)) 18446744073709551616

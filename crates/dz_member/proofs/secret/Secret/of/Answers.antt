@@ -1,5 +1,0 @@
-use Rattle.dz_member.proofs.SecretLemmas.{secret_kept}
-use Rattle.dz_member.proofs.secret.Secret.of.Goals as goal
-
-pub invariant_of-result : goal.invariant_of-result
-invariant_of-result c = secret_kept c.args.octets.now _ c.requires c.put_front.ensures

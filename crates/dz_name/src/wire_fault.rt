@@ -1,0 +1,119 @@
+ghost use Rattle.std.specs.Prelude.{◌≡◌, ℕ, ◌+◌, ◌<◌, ◌≤◌, ◌++◌, List, length, IfOk, IfSome, IsNone};
+ghost use Rattle.dz_name.specs.Name.{wire_of, IsName};
+ghost use Rattle.dz_name.specs.Words.{Name};
+ghost use Rattle.dz_name.specs.Reading.{Reading, Reads, name_at, IsNameBetween, canonical_end};
+ghost use Rattle.dz_name.specs.inner.Landings.{AreLandings};
+
+use crate::name::Name;
+use crate::wire::{Wire, landing};
+
+/// What is wrong with a name in a message: the first fault met in reading it.
+#[derive(Clone, Copy, Debug, PartialEq, Eq)]
+pub enum WireFault {
+    /// An octet of the name would be past the end of the message.
+    Short,
+    /// A length octet has the top bits 01 or 10.
+    BadLabelKind,
+    /// A pointer doesn't lead to before the first octet of the piece of the name that it ends.
+    BadPointer,
+    /// The name has more than 255 octets in wire form.
+    NameTooLong,
+}
+
+impl Name {
+    /// Reads the name at an offset of a message and follows its pointers (RFC 1035 sections 3.1 and 4.1.4). Its labels
+    /// are given in lower case, together with the offset after the name at the place where it was read.
+    ///
+    /// A pointer has to lead to before the first octet of the piece of the name that it ends, so each reading ends.
+    ///
+    /// # Errors
+    ///
+    /// The first fault met in reading. A label that is cut short is `Short`, even where it would also make the name too
+    /// long.
+    pub fn read_at(message: &[u8], at: usize) -> Result<(Name, usize), WireFault>
+        ensures relation { Reads message.now at 0 at result }
+        ensures value { result ≡ name_at message.now at }
+        ensures place { IfOk result (λ r. (at < r.1) × (r.1 ≤ length message.now)) }
+        ensures once { (other : Reading) → Reads message.now at 0 at other → other ≡ result }
+        ensures written { (end : ℕ) (labels : Name) → IsNameBetween message.now at end labels
+            → result ≡ Ok (labels, end) }
+    {
+        Name::read_in(&Wire::plain(message), at)
+    }
+
+    /// The same, with the same errors, without following any chain of pointers whose end the table of the message
+    /// gives.
+    pub fn read_in(message: &Wire<'_>, at: usize) -> Result<(Name, usize), WireFault>
+        ensures relation { Reads message.now at 0 at result }
+        ensures value { result ≡ name_at message.now at }
+        ensures place { IfOk result (λ r. (at < r.1) × (r.1 ≤ length message.now)) }
+        ensures once { (other : Reading) → Reads message.now at 0 at other → other ≡ result }
+        ensures written { (end : ℕ) (labels : Name) → IsNameBetween message.now at end labels
+            → result ≡ Ok (labels, end) }
+    {
+        read_name(message.octets(), message.landings(), at)
+    }
+}
+
+/// Reads the name at an offset, with this table of where chains of pointers end. The error is the first fault.
+fn read_name(message: &[u8], landings: &[u16], at: usize) -> Result<(Name, usize), WireFault>
+    requires { AreLandings message.now landings.now }
+    ensures { Reads message.now at 0 at result }
+{
+    let mut name = Name::root();
+    let mut piece = at;
+    let mut offset = at;
+    let mut used = 0;
+    let mut behind = None;
+    'octets: while offset < message.len() {
+        let first = message[offset] as usize;
+        if first == 0 {
+            return Ok((name, behind.unwrap_or(offset + 1)));
+        }
+        if first < 64 {
+            if message.len() - offset <= first {
+                return Err(WireFault::Short);
+            }
+            if 255 <= used + (first + 1) {
+                return Err(WireFault::NameTooLong);
+            }
+            name.push_label(&message[offset + 1..offset + (first + 1)]);
+            used += first + 1;
+            offset += first + 1;
+        } else if first < 192 {
+            return Err(WireFault::BadLabelKind);
+        } else {
+            if message.len() - offset <= 1 {
+                return Err(WireFault::Short);
+            }
+            let target = (first - 192) * 256 + message[offset + 1] as usize;
+            if piece <= target {
+                return Err(WireFault::BadPointer);
+            }
+            behind = Some(behind.unwrap_or(offset + 2));
+            piece = landing(landings, target);
+            offset = piece;
+        }
+    }
+    Err(WireFault::Short)
+}
+
+/// The offset after the name in canonical form that begins at an offset: a name without pointers and upper-case
+/// letters, of at most 255 octets (RFC 4034 section 6.2). None where there is no such name.
+pub fn canonical_name_end(octets: &[u8], at: usize) -> Option<usize>
+    ensures value { result ≡ canonical_end octets.now at }
+    ensures found { IfSome result
+        (λ end. (labels : Name) × IsNameBetween octets.now at end labels) }
+    ensures none { IsNone result → (end : ℕ) (labels : Name)
+        → ¬ IsNameBetween octets.now at end labels }
+{
+    let (name, end) = match Name::read_at(octets, at) {
+        Ok(found) => found,
+        Err(_) => return None,
+    };
+    if &octets[at..end] == name.wire() {
+        Some(end)
+    } else {
+        None
+    }
+}

@@ -1,0 +1,168 @@
+//! Calls under the lock, beside a reading that is shown the list.
+
+ghost use Rattle.std.specs.Prelude.{◌≡◌, ◌<◌, ◌^◌, false, true, length, Err, IsErr, IfOk, IfSome, MatchResult};
+ghost use mathlib.Core.List.{IsPrefix};
+ghost use Rattle.dz_io.specs.Counts.{HasRisen};
+ghost use Rattle.dz_desk.specs.Hearing.{IsHeard};
+ghost use Rattle.dz_job.specs.Job.{transfer_for};
+ghost use Rattle.dz_fleet.specs.Weighing.{is_taken};
+ghost use Rattle.dz_provision.specs.Keeping.{IsLastVerdict};
+ghost use Rattle.dz_provision.specs.Receipts.{IsHandedAt, IsSettledAt, IsFailedAt};
+
+use crate::naming::Naming;
+use crate::provisioner::{LogFault, Provisioner, Unmade};
+use crate::starved::starved_line;
+use dz_desk::{Hearing, Reading, Told};
+use dz_fleet::{Due, Failure, Job, Verdict};
+use dz_io::{Peer, Sink};
+use dz_name::Name;
+use dz_take::Finished;
+use std::alloc::Global;
+use std::sync::Wait;
+
+impl<K: Sink, J: Naming> Provisioner<K, J> {
+    /// Shows the list to a reading: whether it has seen this list and no longer one.
+    pub(crate) fn is_seen<R: Wait>(&self, rt: &R, reading: &mut Reading) -> bool
+        requires out { reading.old.is_out ≡ false }
+        requires own { reading.old.book ≡ J.publisher }
+        ensures same { reading.new ≡ record reading.old { list = reading.new.list } }
+        ensures seen { IsPrefix reading.old.list reading.new.list }
+        ensures whole { result ≡ true → reading.new.list ≡ self.now.core.list }
+    {
+        reading.learn(rt, self.tell());
+        reading.count() == self.count()
+    }
+
+    /// Hears a NOTIFY, once the reading has seen the list; none where it has seen a longer one.
+    pub(crate) fn hear_seen<R: Wait>(
+        &mut self,
+        rt: &R,
+        peer: &Peer,
+        zone: &Name,
+        reading: &mut Reading,
+    ) -> Option<Hearing>
+        requires out { reading.old.is_out ≡ false }
+        requires own { reading.old.book ≡ J.publisher }
+        ensures same { reading.new ≡ record reading.old { list = reading.new.list } }
+        ensures seen { IsPrefix reading.old.list reading.new.list }
+        ensures heard { IfSome result (λ hearing.
+            IsHeard ((k : K) × HasRisen 0 (K.faults k)) reading.new.list peer.now zone.now
+            hearing) }
+    {
+        if !self.is_seen(rt, reading) {
+            return None;
+        }
+        match self.hear(peer, zone) {
+            Ok((heard, told)) => {
+                drop(told);
+                Some(Hearing::Heard(heard))
+            }
+            Err(_) => Some(Hearing::LogFault),
+        }
+    }
+
+    /// Asks for a job, and answers by the list.
+    pub(crate) fn hand_out_now(&mut self, now: u64) -> Result<Due, LogFault>
+        requires moment { now < 2 ^ 40 }
+        ensures handed { IsHandedAt result self.old.core.list now }
+        ensures cause { IsErr result → (k : K) × HasRisen 0 (K.faults k) }
+    {
+        // what is known of a core is known of this one, and of a failed write where there was one
+        self.count();
+        let handed = self.hand_out(now);
+        self.has_failed();
+        handed
+    }
+
+    /// Ends a job by what came of its transfer, beside a reading that has seen the list and is shown a longer one. It says
+    /// want of memory.
+    pub(crate) fn settle_seen<R: Wait>(
+        &mut self,
+        rt: &R,
+        alloc: Global,
+        reading: &mut Reading,
+        job: Job,
+        finished: Finished,
+        now: u64,
+    ) -> Result<Verdict, Unmade>
+        requires out { reading.old.is_out ≡ false }
+        requires own { reading.old.book ≡ J.publisher }
+        requires list { reading.old.list ≡ self.old.core.list }
+        requires transfer { finished.transfer ≡ transfer_for job }
+        requires moment { now < 2 ^ 40 }
+        ensures same { reading.new ≡ record reading.old { list = reading.new.list } }
+        ensures seen { IsPrefix reading.old.list reading.new.list }
+        ensures settled { IsSettledAt result job finished.octets
+            (length reading.old.list) reading.new.list }
+        ensures last { IfOk result (λ v. is_taken v ≡ true
+            → IsLastVerdict self.new.core.list v) }
+        ensures cause { result ≡ Err Unmade.LogFault → (k : K) × HasRisen 0 (K.faults k) }
+    {
+        // all octets of a transfer are used
+        finished.octets();
+        let zone = *job.zone();
+        match self.settle(rt, alloc, job, finished, now) {
+            Err(unmade) => {
+                self.has_failed();
+                Err(unmade)
+            }
+            Ok((Verdict::OutOfMemory, told)) => {
+                drop(told);
+                self.say_starved(&zone)
+            }
+            Ok((verdict, told)) => {
+                show_taken(rt, reading, &verdict, told);
+                Ok(verdict)
+            }
+        }
+    }
+
+    /// Says that memory was wanting for the transfer of a zone.
+    fn say_starved(&mut self, zone: &Name) -> Result<Verdict, Unmade>
+        ensures answer { MatchResult result (λ verdict. verdict ≡ Verdict.OutOfMemory)
+            (λ unmade. unmade ≡ Unmade.LogFault) }
+        ensures cause { result ≡ Err Unmade.LogFault → (k : K) × HasRisen 0 (K.faults k) }
+    {
+        let line = starved_line(zone);
+        match self.say(line.as_slice()) {
+            Ok(()) => Ok(Verdict::OutOfMemory),
+            Err(_) => {
+                self.has_failed();
+                Err(Unmade::LogFault)
+            }
+        }
+    }
+
+    /// Ends a job that failed, and answers by the list.
+    pub(crate) fn fail_now(&mut self, job: Job, now: u64) -> Result<Failure, Unmade>
+        requires moment { now < 2 ^ 40 }
+        ensures failed { IsFailedAt result job (length self.old.core.list) self.old.core.list }
+        ensures cause { result ≡ Err Unmade.LogFault → (k : K) × HasRisen 0 (K.faults k) }
+    {
+        match self.fail(job, now) {
+            Err(unmade) => {
+                self.has_failed();
+                Err(unmade)
+            }
+            Ok((failure, told)) => {
+                drop(told);
+                Ok(failure)
+            }
+        }
+    }
+}
+
+/// Shows a reading the list that a transfer has joined; where none is taken, nothing.
+fn show_taken<R: Wait>(rt: &R, reading: &mut Reading, verdict: &Verdict, told: Told)
+    requires out { reading.old.is_out ≡ false }
+    requires own { told.book ≡ reading.old.book }
+    ensures same { reading.new ≡ record reading.old { list = reading.new.list } }
+    ensures seen { IsPrefix reading.old.list reading.new.list }
+    ensures taken { is_taken verdict.now ≡ true → IsPrefix told.list reading.new.list }
+    ensures untaken { is_taken verdict.now ≡ false → reading.new ≡ reading.old }
+{
+    match verdict {
+        Verdict::Published { .. } | Verdict::Confirmed { .. } => reading.learn(rt, told),
+        _ => drop(told),
+    }
+}

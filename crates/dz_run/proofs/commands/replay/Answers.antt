@@ -1,0 +1,25 @@
+-- How the run of the script ends is how the program ends.
+use Rattle.std.proofs.Common.{[], sym, ◌∙◌, ap, subst}
+use Rattle.dz_run.specs.Kept.{list_in}
+use Rattle.dz_run.specs.Running.{HasEnded}
+use Rattle.dz_run.specs.Replaying.{opening, replay_rules}
+use Rattle.dz_run.proofs.EndLemmas.{no_memory, done_leaves, ended_state}
+use Rattle.dz_run.proofs.ReplayLemmas.{replay_ends}
+use Rattle.dz_run.proofs.commands.replay.Goals as goal
+
+pub returns-in-Err-clause-ends : goal.returns-in-Err-clause-ends
+returns-in-Err-clause-ends g c octets told = no_memory replay_rules (opening []) octets _ _
+
+pub returns-in-Ok-clause-ends : goal.returns-in-Ok-clause-ends
+returns-in-Ok-clause-ends g c octets told =
+    (c.run_script-ended.result, c.run_script-ended.new.script.state, c.status_of.ensures, rw c.close.ensures.written (rw c.new-replaying.ensures at c.run_script-ended.ensures.ends octets told))
+
+pub returns-in-Ok-clause-published : goal.returns-in-Ok-clause-published
+returns-in-Ok-clause-published g c octets told is =
+    let run = rw c.new-replaying.ensures at c.run_script-ended.ensures.ends octets told in
+    c.close.ensures.ends.list ∙ ap list_in (ended_state replay_rules (opening []) octets c.run_script-ended.result c.run_script-ended.new.script.state _ _ _ run (subst HasEnded c.status_of.ensures is))
+
+pub returns-in-Ok-clause-done : goal.returns-in-Ok-clause-done
+returns-in-Ok-clause-done g c octets told is =
+    let run = rw c.new-replaying.ensures at c.run_script-ended.ensures.ends octets told in
+    done_leaves replay_rules replay_ends (opening []) octets c.run_script-ended.result c.run_script-ended.new.script.state (g.S.Source.left c.run_script-ended.new.input) _ _ run (sym c.status_of.ensures ∙ is)

@@ -1,0 +1,24 @@
+-- Meaning: what `rehearse` writes: a summary of what `replay` writes of the generated script.
+use Rattle.std.specs.Prelude.{◌≡◌, ℕ, [], Option}
+use Rattle.dz_io.specs.Device.{Gains, GainsPrefix}
+use Rattle.dz_script.specs.Run.{said_of}
+use Rattle.dz_gen.specs.Script.{script}
+use Rattle.dz_gen.specs.Summary.{summary}
+use Rattle.dz_name.specs.Words.{Octets}
+use Rattle.dz_run.specs.Replaying.{opening, replay_rules}
+use Rattle.dz_run.specs.declared.commands.Status.{Status}
+use Rattle.dz_run.specs.declared.commands.Status.TheVariants.{Done, WriteFault, NoMemory}
+
+-- what `replay` writes of the script with this many zones
+abbrev pub text_of : ℕ → Octets
+text_of number = (said_of replay_rules (opening []) (script number)).text
+
+-- the summary of a text was written, or a write failed after a prefix of it, or memory ran out and nothing was written
+abbrev pub SumsUp : Octets → Status → Option Octets → Option Octets → Type 0
+SumsUp text Done before after = Gains (summary text) before after
+SumsUp text WriteFault before after = GainsPrefix (summary text) before after
+SumsUp text status before after = (status ≡ NoMemory) × (after ≡ before)
+
+-- `rehearse` summed up the text of the script with this many zones
+abbrev pub Rehearses : ℕ → Status → Option Octets → Option Octets → Type 0
+Rehearses number status before after = SumsUp (text_of number) status before after

@@ -1,0 +1,16 @@
+//! The program's commands over a source and a sink, ports, a clock and a disk: `run`, and the parts of it for each
+//! command.
+#![tactic(auto)]
+
+mod answering;
+mod commands;
+mod ends;
+mod events;
+mod opening;
+mod rehearse;
+mod replaying;
+mod script;
+mod zone_line;
+
+pub use commands::{Ended, Played, Status, answer, produce, replay, run, run_kept, run_replay};
+pub use ends::Ends;

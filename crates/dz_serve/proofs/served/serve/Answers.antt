@@ -1,0 +1,68 @@
+-- A run that no worker began, and one over a list that begins with the configuration.
+use Rattle.std.proofs.Common.{◌≡◌, refl, sym, ap, ◌∙◌}
+use Rattle.dz_serve.specs.Ends.{is_write_fault}
+use Rattle.dz_serve.specs.Runs as runs
+use Rattle.dz_serve.proofs.RunLemmas.{no_log, none_used, both_used, begins_at, begun_of, err_not_ok, ok_same, first_opened, listed_as, ran_as, some_begun, some_is}
+use Rattle.dz_serve.proofs.served.serve.Goals as goal
+
+pub returns-in_default-clause-logged : goal.returns-in_default-clause-logged
+returns-in_default-clause-logged g c =
+    no_log _ _ _ _ (ap (λ d. d.publisher.list) c.unserved.ensures.desk ∙ c.requires.publisher.0)
+    (ap (λ o. g.K.Sink.held o) c.unserved.ensures.output) (ap is_write_fault c.unserved.ensures.end) c.requires.written
+
+pub returns-in_default-clause-unserved : goal.returns-in_default-clause-unserved
+returns-in_default-clause-unserved g c empty = (c.unserved.ensures.output, none_used _)
+
+pub returns-in_default-open_devices-clause-logged : goal.returns-in_default-open_devices-clause-logged
+returns-in_default-open_devices-clause-logged g c =
+    let u = c.unserved-in_default-open_devices.ensures in
+    no_log _ _ _ _ (ap (λ d. d.publisher.list) u.desk ∙ c.requires.publisher.0)
+    (ap (λ o. g.K.Sink.held o) u.output) (ap is_write_fault u.end) c.requires.written
+
+pub returns-in-Err-clause-logged : goal.returns-in-Err-clause-logged
+returns-in-Err-clause-logged g c =
+    let u = c.unserved-in-Err.ensures in
+    no_log _ _ _ _ (ap (λ d. d.publisher.list) u.desk ∙ (ap (λ p. p.list) c.in-Err.ensures.err.0 ∙ c.requires.publisher.0))
+    (ap (λ o. g.K.Sink.held o) (u.output ∙ c.in-Err.ensures.err.1)) (ap is_write_fault u.end) c.requires.written
+
+pub returns-in-Err-clause-unserved : goal.returns-in-Err-clause-unserved
+returns-in-Err-clause-unserved g c empty =
+    let o = c.in-Ok-open_devices.ensures in (
+      c.unserved-in-Err.ensures.output ∙ c.in-Err.ensures.err.1,
+      both_used _ _ _ _ _ _ _ _ _ o.datagram_one o.datagram_two o.acceptor_one o.acceptor_two o.dialer_one o.dialer_two
+          (rw o.datagrams at c.close_devices.ensures.datagrams) (rw o.acceptors at c.close_devices.ensures.acceptors) (rw o.dialers at c.close_devices.ensures.dialers),
+    )
+
+pub returns-in-Err-begin-clause-served : goal.returns-in-Err-begin-clause-served
+returns-in-Err-begin-clause-served g c some =
+    let o = c.in-Ok-open_devices.ensures in
+    let d = c.close_devices-in-Err-begin.ensures in
+    let first = c.begin.ensures.first _ (first_opened _ _ (ap (λ p. p.core.list) c.in-Ok-start.ensures.ok)) in (
+      listed_as _ _ _ c.halted.ensures.list c.begin.ensures.legal first,
+      runs.halted (some_is _ (λ none. err_not_ok _ _ (c.in-Err-begin.ensures.none (rw none refl)).0)) (rw c.halted.ensures.end c.in-Err-begin.ensures.halt)
+          (both_used _ _ _ _ _ _ _ _ _ o.datagram_one o.datagram_two o.acceptor_one o.acceptor_two o.dialer_one o.dialer_two
+          (rw o.datagrams at d.datagrams) (rw o.acceptors at d.acceptors) (rw o.dialers at d.dialers)),
+    )
+
+pub returns-in-Err-begin-clause-unserved : goal.returns-in-Err-begin-clause-unserved
+returns-in-Err-begin-clause-unserved g c empty =
+    let first = c.begin.ensures.first _ (first_opened _ _ (ap (λ p. p.core.list) c.in-Ok-start.ensures.ok)) in
+    absurd (begun_of _ _ first (sym c.halted.ensures.list ∙ empty))
+
+pub returns-in-Ok-begin-clause-served : goal.returns-in-Ok-begin-clause-served
+returns-in-Ok-begin-clause-served g c some =
+    let o = c.in-Ok-open_devices.ensures in
+    let first = c.begin.ensures.first _ (first_opened _ _ (ap (λ p. p.core.list) c.in-Ok-start.ensures.ok)) in (
+      record { legal = c.serve_over.ensures.legal; begins = begins_at _ _ _ first c.serve_over.ensures.begins },
+      ran_as c.args.disk c.in-Ok-begin.store _ _ _ _ _ _ _ _ _ _ _ (λ none. ok_same _ _ (c.in-Ok-begin.ensures.none (rw none refl)).0) o.datagrams o.acceptors o.dialers (c.serve_over.ensures.served (some_begun _ _ first)),
+    )
+
+pub returns-in-Ok-begin-clause-unserved : goal.returns-in-Ok-begin-clause-unserved
+returns-in-Ok-begin-clause-unserved g c empty =
+    let first = c.begin.ensures.first _ (first_opened _ _ (ap (λ p. p.core.list) c.in-Ok-start.ensures.ok)) in
+    absurd (begun_of _ _ (begins_at _ _ _ first c.serve_over.ensures.begins) empty)
+
+pub returns-in-Ok-begin-clause-done : goal.returns-in-Ok-begin-clause-done
+returns-in-Ok-begin-clause-done g c is =
+    let first = c.begin.ensures.first _ (first_opened _ _ (ap (λ p. p.core.list) c.in-Ok-start.ensures.ok)) in
+    (begun_of _ _ (begins_at _ _ _ first c.serve_over.ensures.begins), c.serve_over.ensures.done is)

@@ -1,4 +1,0 @@
-use Rattle.dz_serve.proofs.tests.play.Given as goal
-
-abbrev pub ghosts-serve_input : goal.ghosts-serve_input
-ghosts-serve_input g a = record { publisher = a.desk.publisher.book }

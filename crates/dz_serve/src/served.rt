@@ -1,0 +1,487 @@
+//! A server, from its devices' opening to their end.
+
+ghost use Rattle.std.specs.Prelude.{◌≡◌, ◌≢◌, ◌≤◌, ◌<◌, ◌-◌, [], length, is_none, is_some, None, true, IfSome, MatchBool, All};
+ghost use Rattle.std.specs.Mem.{manually_drop_value};
+ghost use mathlib.Core.List.{IsPrefix};
+ghost use Rattle.dz_io.specs.Counts.{HasRisen};
+ghost use Rattle.dz_io.specs.Ports.{exchange, accepts, dials, IsFreshExchange, IsFreshAccepts, IsFreshDials};
+ghost use Rattle.dz_settings.specs.Config.{IsAllowed};
+ghost use Rattle.dz_desk.specs.Seen.{IsFresh};
+ghost use Rattle.dz_history.specs.Legal.{IsLegal};
+ghost use Rattle.dz_provision.specs.Log.{IsLogged};
+ghost use Rattle.dz_serve.specs.Ends.{is_write_fault};
+ghost use Rattle.dz_serve.specs.Rows.{AreUnused, both_back, rows};
+ghost use Rattle.dz_serve.specs.Runs.{IsRun, HasRun, IsListOf};
+ghost use Rattle.dz_serve.specs.Workers.{IsSeated, AreSeated};
+
+use crate::begin::begin;
+use crate::close::{close_acceptors, close_datagrams, close_dialers};
+use crate::crew::{Gear, Seats, end_crew, run_crew, teach};
+use crate::devices::{Devices, open_devices};
+use crate::pair::Pair;
+use crate::sending::publishers_may_be_sent;
+use crate::status::{Ends, ServeEnd, judge};
+use crate::tcp_worker::Linked;
+use crate::together::Crew;
+use crate::tools::{Tools, make_tools};
+use crate::transfer_worker::Transferred;
+use crate::udp_worker::Listened;
+use dz_config::Downstream;
+use dz_desk::{Desk, Reading};
+use dz_disk::Disk;
+use dz_io::{Clock, Peer, Ports, Sink};
+use dz_provision::{Keeping, Naming, Parts, Provisioner, Shared, Unstarted};
+use dz_settings::Config;
+use dz_store::Store;
+use std::alloc::Global;
+use std::mem::ManuallyDrop;
+use std::sync::{Mutex, Wait};
+use std::thread::Threads;
+
+/// Where a server listens, what it serves, and the addresses to which it sends zones.
+#[derive(Drop)]
+pub struct Setting {
+    pub listen: Peer,
+    pub config: Config,
+    pub downstream: Downstream,
+}
+
+/// How serving ended, with the output and the desk.
+pub struct Served<K> {
+    pub end: ServeEnd,
+    pub output: K,
+    pub desk: Desk,
+}
+
+/// Opens two datagram devices, two acceptors and two dialers, serves each by a worker in a thread of its own, and gives
+/// the devices back. What is taken is published at the desk, whose list is empty and which has six readings. The log is
+/// written to the output, to which nothing was written. Where there is a disk, zones are kept on it: those that are
+/// kept are given back before a worker starts.
+pub fn serve<
+    K: Sink + Send,
+    J: Naming + Send + Sync,
+    P: Ports,
+    C: Clock + Send + Drop,
+    D: Disk + Send + Drop,
+    R: Threads + Wait + Sync,
+>(
+    rt: &R,
+    alloc: Global,
+    setting: Setting,
+    output: K,
+    desk: Desk,
+    ports: &mut P,
+    clock: &C,
+    disk: Option<&mut D>,
+) -> Served<K>
+    requires config { IsAllowed setting.config }
+    requires written { IfSome (K.held output) (λ text. text ≡ []) }
+    requires faultless { K.faults output ≡ 0 }
+    requires publisher { (desk.publisher.list ≡ []) × (desk.publisher.staged ≡ None)
+        × (desk.publisher.book ≡ J.publisher) }
+    requires readings { All (IsFresh J.publisher) desk.readings.items }
+    requires six { length desk.readings.items ≡ 6 }
+    ensures publisher { (result.desk.publisher.staged ≡ None)
+        × (result.desk.publisher.book ≡ desk.publisher.book) }
+    ensures logged { IsLogged result.desk.publisher.list (K.held result.output)
+        (is_write_fault result.end) }
+    ensures served { result.desk.publisher.list ≢ []
+        → IsListOf setting.config result.desk.publisher.list
+        × HasRun (is_some disk.entry) result.end setting.downstream
+        ((k : K) × HasRisen 0 (K.faults k)) (C.may_give clock.now)
+        result.desk.publisher.list setting.listen
+        (rows (P.datagrams ports.old) (P.acceptors ports.old) (P.dialers ports.old))
+        (rows (P.datagrams ports.new) (P.acceptors ports.new) (P.dialers ports.new)) }
+    ensures unserved { result.desk.publisher.list ≡ [] → (result.output ≡ output)
+        × AreUnused (rows (P.datagrams ports.old) (P.acceptors ports.old) (P.dialers ports.old))
+        (rows (P.datagrams ports.new) (P.acceptors ports.new) (P.dialers ports.new)) }
+    ensures input { (result.end ≢ ServeEnd.BadInput) × (result.end ≢ ServeEnd.ReadFault) }
+    ensures done { result.end ≡ ServeEnd.Done →
+        (result.desk.publisher.list ≢ []) × (C.may_stop clock.now ≡ true) }
+    ensures write { MatchBool (is_write_fault result.end) (HasRisen 0 (K.faults result.output))
+        (K.faults result.output ≡ 0) }
+    ensures port { result.end ≡ ServeEnd.PortFault
+        → HasRisen (P.faults ports.old) (P.faults ports.new) }
+    ensures later { P.faults ports.old ≤ P.faults ports.new }
+{
+    let Setting {
+        listen,
+        config,
+        downstream,
+    } = setting;
+    let Ok(tools) = make_tools(alloc, clock) else {
+        return unserved(ServeEnd::NoMemory, output, desk);
+    };
+    let Ok(devices) = open_devices(ports, &listen) else {
+        return unserved(ServeEnd::PortFault, output, desk);
+    };
+    let Desk {
+        publisher,
+        readings,
+    } = desk;
+    match Provisioner::<K, J>::start(rt, alloc, config, publisher, output) {
+        Err(unstarted) => {
+            close_devices(ports, devices);
+            let Unstarted { publisher, output } = unstarted;
+            let desk = Desk {
+                publisher,
+                readings,
+            };
+            unserved(ServeEnd::NoMemory, output, desk)
+        }
+        Ok(mut provisioner) => {
+            let (mut seats, readings) = seat_all::<J>(readings);
+            match begin(
+                rt,
+                alloc,
+                &mut provisioner,
+                &mut seats.transferring.first,
+                disk,
+            ) {
+                Err(end) => {
+                    close_devices(ports, devices);
+                    halted(end, provisioner, seats, readings)
+                }
+                Ok(store) => {
+                    let rig = Rig {
+                        seats,
+                        readings,
+                        devices,
+                        tools,
+                        downstream,
+                    };
+                    serve_over(rt, alloc, provisioner, store, rig, ports, clock)
+                }
+            }
+        }
+    }
+}
+
+/// The list has begun, and no worker was started.
+fn halted<K: Sink, J: Naming>(
+    end: ServeEnd,
+    provisioner: Provisioner<K, J>,
+    seats: Seats,
+    readings: Vec<Reading>,
+) -> Served<K>
+    requires { is_write_fault end ≡ provisioner.failed }
+    ensures end { result.end ≡ end }
+    ensures publisher { (result.desk.publisher.staged ≡ None)
+        × (result.desk.publisher.book ≡ J.publisher) }
+    ensures list { result.desk.publisher.list ≡ provisioner.core.list }
+    ensures logged { IsLogged result.desk.publisher.list (K.held result.output)
+        (is_write_fault end) }
+    ensures write { MatchBool (is_write_fault end) (HasRisen 0 (K.faults result.output))
+        (K.faults result.output ≡ 0) }
+{
+    let Parts {
+        fleet: _,
+        publisher,
+        output,
+        log_failed: _,
+    } = provisioner.close();
+    let desk = Desk {
+        publisher,
+        readings: unseated(seats, readings),
+    };
+    Served { end, output, desk }
+}
+
+/// No worker was started.
+pub(crate) fn unserved<K>(end: ServeEnd, output: K, desk: Desk) -> Served<K>
+    ensures end { result.end ≡ end }
+    ensures output { result.output ≡ output }
+    ensures desk { result.desk ≡ desk }
+{
+    Served { end, output, desk }
+}
+
+/// What a crew is made of.
+struct Rig<D, A, L, C> {
+    seats: Seats,
+    readings: Vec<Reading>,
+    devices: Devices<D, A, L>,
+    tools: Tools<C>,
+    downstream: Downstream,
+}
+
+/// Runs a crew over a provisioner that has begun, and gives the devices back. What is taken is kept in the store, where
+/// there is one.
+fn serve_over<
+    K: Sink + Send,
+    J: Naming + Send + Sync,
+    P: Ports,
+    C: Clock + Send + Drop,
+    D: Disk + Send + Drop,
+    R: Threads + Wait + Sync,
+>(
+    rt: &R,
+    alloc: Global,
+    provisioner: Provisioner<K, J>,
+    store: Option<Store<D>>,
+    rig: Rig<P::D, P::A, P::L, C>,
+    ports: &mut P,
+    clock: &C,
+) -> Served<K>
+    requires seated { AreSeated J.publisher rig.seats.listening.first rig.seats.listening.second
+        rig.seats.linking.first rig.seats.linking.second
+        rig.seats.transferring.first rig.seats.transferring.second }
+    requires out { (2 ≤ (P.datagrams ports.old).out) × (2 ≤ (P.acceptors ports.old).out)
+        × (2 ≤ (P.dialers ports.old).out) }
+    requires datagrams_one { IsFreshExchange
+        (exchange (P.D.received rig.devices.datagrams.first) (P.D.sent rig.devices.datagrams.first)
+        (P.D.is_closed rig.devices.datagrams.first) (P.D.faults rig.devices.datagrams.first)) }
+    requires datagrams_two { IsFreshExchange
+        (exchange (P.D.received rig.devices.datagrams.second)
+        (P.D.sent rig.devices.datagrams.second)
+        (P.D.is_closed rig.devices.datagrams.second) (P.D.faults rig.devices.datagrams.second)) }
+    requires acceptors_one { IsFreshAccepts
+        (accepts (P.A.links rig.devices.acceptors.first) (P.A.out rig.devices.acceptors.first)
+        (P.A.is_closed rig.devices.acceptors.first) (P.A.faults rig.devices.acceptors.first)) }
+    requires acceptors_two { IsFreshAccepts
+        (accepts (P.A.links rig.devices.acceptors.second) (P.A.out rig.devices.acceptors.second)
+        (P.A.is_closed rig.devices.acceptors.second) (P.A.faults rig.devices.acceptors.second)) }
+    requires dialers_one { IsFreshDials
+        (dials (P.L.links rig.devices.dialers.first) (P.L.out rig.devices.dialers.first)
+        (P.L.faults rig.devices.dialers.first)) }
+    requires dialers_two { IsFreshDials
+        (dials (P.L.links rig.devices.dialers.second) (P.L.out rig.devices.dialers.second)
+        (P.L.faults rig.devices.dialers.second)) }
+    requires listening_one { C.may_give rig.tools.listening.first.clock ≡ C.may_give clock.now }
+    requires listening_two { C.may_give rig.tools.listening.second.clock ≡ C.may_give clock.now }
+    requires linking_one { C.may_give rig.tools.linking.first.clock ≡ C.may_give clock.now }
+    requires linking_two { C.may_give rig.tools.linking.second.clock ≡ C.may_give clock.now }
+    requires transferring_one { C.may_stop rig.tools.transferring.first ≡ C.may_stop clock.now }
+    requires transferring_two { C.may_stop rig.tools.transferring.second ≡ C.may_stop clock.now }
+    ensures publisher { (result.desk.publisher.staged ≡ None)
+        × (result.desk.publisher.book ≡ J.publisher) }
+    ensures begins { IsPrefix provisioner.core.list result.desk.publisher.list }
+    ensures legal { IsLegal result.desk.publisher.list }
+    ensures logged { IsLogged result.desk.publisher.list (K.held result.output)
+        (is_write_fault result.end) }
+    ensures served { 0 < length provisioner.core.list →
+        IsRun (is_none store) result.end rig.downstream ((k : K) × HasRisen 0 (K.faults k))
+        (C.may_give clock.now) result.desk.publisher.list
+        (rows (P.datagrams ports.old) (P.acceptors ports.old) (P.dialers ports.old))
+        (rows (P.datagrams ports.new) (P.acceptors ports.new) (P.dialers ports.new)) }
+    ensures input { (result.end ≢ ServeEnd.BadInput) × (result.end ≢ ServeEnd.ReadFault) }
+    ensures done { result.end ≡ ServeEnd.Done → C.may_stop clock.now ≡ true }
+    ensures write { MatchBool (is_write_fault result.end) (HasRisen 0 (K.faults result.output))
+        (K.faults result.output ≡ 0) }
+    ensures port { result.end ≡ ServeEnd.PortFault
+        → HasRisen (P.faults ports.old) (P.faults ports.new) }
+    ensures later { P.faults ports.old ≤ P.faults ports.new }
+{
+    let Rig {
+        seats,
+        mut readings,
+        devices,
+        tools,
+        downstream,
+    } = rig;
+    let must_dial = store.is_none();
+    let seats = Seats {
+        listening: teach(rt, &provisioner, seats.listening),
+        linking: teach(rt, &provisioner, seats.linking),
+        transferring: teach(rt, &provisioner, seats.transferring),
+    };
+    // what the lock guards may be shared
+    publishers_may_be_sent();
+    let shared = Shared::over(provisioner);
+    let store = store.map(|store| Mutex::new(store));
+    let crew = run_crew(
+        rt,
+        alloc,
+        &Keeping::over(&shared, store.as_ref()),
+        Gear {
+            seats,
+            devices,
+            tools,
+            downstream,
+        },
+    );
+    let parts = end_crew(rt, shared, &crew);
+    let Crew {
+        datagrams,
+        links,
+        transfers,
+    } = crew;
+    let end = judge(
+        parts.log_failed,
+        &Ends {
+            sessions: Pair {
+                first: datagrams.first.end,
+                second: datagrams.second.end,
+            },
+            links: Pair {
+                first: links.first.end,
+                second: links.second.end,
+            },
+            transfers: Pair {
+                first: transfers.first.transfers,
+                second: transfers.second.transfers,
+            },
+        },
+        must_dial,
+    );
+    let datagrams = part_listened(datagrams, &mut readings);
+    let acceptors = part_linked(links, &mut readings);
+    let dialers = part_transferred(transfers, &mut readings);
+    close_datagrams(ports, datagrams);
+    close_acceptors(ports, acceptors);
+    close_dialers(ports, dialers);
+    let Parts {
+        fleet: _,
+        publisher,
+        output,
+        log_failed: _,
+    } = parts;
+    Served {
+        end,
+        output,
+        desk: Desk {
+            publisher,
+            readings,
+        },
+    }
+}
+
+/// A seat for each worker, and what is left of the readings.
+fn seat_all<J: Naming>(readings: Vec<Reading>) -> (Seats, Vec<Reading>)
+    requires fresh { All (IsFresh J.publisher) readings.items }
+    requires six { length readings.items ≡ 6 }
+    ensures { AreSeated J.publisher result.0.listening.first result.0.listening.second
+        result.0.linking.first result.0.linking.second
+        result.0.transferring.first result.0.transferring.second }
+{
+    let mut readings = readings;
+    let seats = Seats {
+        listening: take_pair::<J>(&mut readings),
+        linking: take_pair::<J>(&mut readings),
+        transferring: take_pair::<J>(&mut readings),
+    };
+    (seats, readings)
+}
+
+/// The readings, with those of all seats.
+fn unseated(seats: Seats, readings: Vec<Reading>) -> Vec<Reading> {
+    let mut readings = readings;
+    let Seats {
+        listening,
+        linking,
+        transferring,
+    } = seats;
+    give_both(&mut readings, listening);
+    give_both(&mut readings, linking);
+    give_both(&mut readings, transferring);
+    readings
+}
+
+/// Puts two readings after the others.
+fn give_both(readings: &mut Vec<Reading>, pair: Pair<Reading>) {
+    let Pair { first, second } = pair;
+    give_back(readings, first);
+    give_back(readings, second);
+}
+
+/// The last two readings.
+fn take_pair<J: Naming>(readings: &mut Vec<Reading>) -> Pair<Reading>
+    requires fresh { All (IsFresh J.publisher) readings.old.items }
+    requires two { 2 ≤ length readings.old.items }
+    ensures first { IsSeated J.publisher result.first }
+    ensures second { IsSeated J.publisher result.second }
+    ensures fresh { All (IsFresh J.publisher) readings.new.items }
+    ensures count { length readings.new.items ≡ length readings.old.items - 2 }
+{
+    let Some(first) = readings.pop() else {
+        unreachable!()
+    };
+    let Some(second) = readings.pop() else {
+        unreachable!()
+    };
+    Pair { first, second }
+}
+
+/// The devices of datagram workers, whose readings go back.
+fn part_listened<D, C: Drop>(pair: Pair<Listened<D, C>>, readings: &mut Vec<Reading>) -> Pair<D>
+    ensures first { result.first ≡ manually_drop_value pair.first.device }
+    ensures second { result.second ≡ manually_drop_value pair.second.device }
+{
+    let Pair { first, second } = pair;
+    give_back(readings, first.reading);
+    give_back(readings, second.reading);
+    Pair {
+        first: ManuallyDrop::into_inner(first.device),
+        second: ManuallyDrop::into_inner(second.device),
+    }
+}
+
+/// The same of link workers.
+fn part_linked<A, C: Drop>(pair: Pair<Linked<A, C>>, readings: &mut Vec<Reading>) -> Pair<A>
+    ensures first { result.first ≡ manually_drop_value pair.first.acceptor }
+    ensures second { result.second ≡ manually_drop_value pair.second.acceptor }
+{
+    let Pair { first, second } = pair;
+    give_back(readings, first.reading);
+    give_back(readings, second.reading);
+    Pair {
+        first: ManuallyDrop::into_inner(first.acceptor),
+        second: ManuallyDrop::into_inner(second.acceptor),
+    }
+}
+
+/// The same of transfer workers.
+fn part_transferred<L>(pair: Pair<Transferred<L>>, readings: &mut Vec<Reading>) -> Pair<L>
+    ensures first { result.first ≡ manually_drop_value pair.first.dialer }
+    ensures second { result.second ≡ manually_drop_value pair.second.dialer }
+{
+    let Pair { first, second } = pair;
+    give_back(readings, first.reading);
+    give_back(readings, second.reading);
+    Pair {
+        first: ManuallyDrop::into_inner(first.dialer),
+        second: ManuallyDrop::into_inner(second.dialer),
+    }
+}
+
+/// Puts a reading after the others.
+fn give_back(readings: &mut Vec<Reading>, reading: Reading) {
+    match readings.push(reading) {
+        Ok(()) => {}
+        Err(failed) => drop(failed.value),
+    }
+}
+
+/// Gives all devices back.
+fn close_devices<P: Ports>(ports: &mut P, devices: Devices<P::D, P::A, P::L>)
+    requires out { (2 ≤ (P.datagrams ports.old).out) × (2 ≤ (P.acceptors ports.old).out)
+        × (2 ≤ (P.dialers ports.old).out) }
+    ensures datagrams { P.datagrams ports.new ≡ both_back
+        (exchange (P.D.received devices.datagrams.first) (P.D.sent devices.datagrams.first)
+        (P.D.is_closed devices.datagrams.first) (P.D.faults devices.datagrams.first))
+        (exchange (P.D.received devices.datagrams.second) (P.D.sent devices.datagrams.second)
+        (P.D.is_closed devices.datagrams.second) (P.D.faults devices.datagrams.second))
+        (P.datagrams ports.old) }
+    ensures acceptors { P.acceptors ports.new ≡ both_back
+        (accepts (P.A.links devices.acceptors.first) (P.A.out devices.acceptors.first)
+        (P.A.is_closed devices.acceptors.first) (P.A.faults devices.acceptors.first))
+        (accepts (P.A.links devices.acceptors.second) (P.A.out devices.acceptors.second)
+        (P.A.is_closed devices.acceptors.second) (P.A.faults devices.acceptors.second))
+        (P.acceptors ports.old) }
+    ensures dialers { P.dialers ports.new ≡ both_back
+        (dials (P.L.links devices.dialers.first) (P.L.out devices.dialers.first)
+        (P.L.faults devices.dialers.first))
+        (dials (P.L.links devices.dialers.second) (P.L.out devices.dialers.second)
+        (P.L.faults devices.dialers.second))
+        (P.dialers ports.old) }
+    ensures later { P.faults ports.old ≤ P.faults ports.new }
+{
+    let Devices {
+        datagrams,
+        acceptors,
+        dialers,
+    } = devices;
+    close_datagrams(ports, datagrams);
+    close_acceptors(ports, acceptors);
+    close_dialers(ports, dialers);
+}

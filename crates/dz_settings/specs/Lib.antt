@@ -1,0 +1,6 @@
+pub mod Config
+pub mod Key
+pub mod Peer
+pub mod PeerExamples
+pub mod Twice
+pub mod inner

@@ -1,0 +1,2 @@
+-- Inner: how the code keeps a secret.
+pub mod Secrets

@@ -1,0 +1,5 @@
+use Rattle.dz_timer.proofs.LawLemmas.{first_is_least_lem}
+use Rattle.dz_timer.proofs.schedule_laws.first_is_least.Goals as goal
+
+pub returns : goal.returns
+returns c = first_is_least_lem
