@@ -4,6 +4,8 @@
 #   make check       the gate, `rt ci`: every proof, wrong bodies, tests, stored runs
 #   make install     installs what was built; builds nothing, and leaves an existing configuration alone
 #   make uninstall   removes what install put there, except the configuration
+#   make dist        makes out/catzd-VERSION.tar.gz of the sources, the same octets for the same files
+#   make deb         makes out/catzd_VERSION_ARCHITECTURE.deb of what was built, a Debian package; builds nothing (dpkg-deb)
 #   make check-man   compares the man pages with the program's definitions
 #   make docs        makes docs/DEFINITIONS.md from the comments of the definitions
 #   make check-docs  finds in the repository what the documents link to and name
@@ -13,6 +15,8 @@
 #   make validate    has unbound and delv validate the replies for signed zones (python3)
 #   make producer    has the servers that are installed serve a catalog that catzd makes (python3)
 #   make signed      has catzd take signed transfers from the servers that are installed (python3)
+#   make check-limits  brings catzd to its limits: records, members, octets, jobs (python3)
+#   make check-memory  refuses requests for memory of two runs, one after the other (python3)
 #   make kept        kills catzd at a thousand moments, spoils what it keeps, and measures its starts (python3)
 #
 # There is no `make clean`: crates/*/out has proofs, which took hours.
@@ -28,6 +32,10 @@ DESTDIR    =
 INSTALL = install
 PYTHON  = python3
 RT      = rt
+
+VERSION    = 0.1
+MAINTAINER = catzd <root@localhost>
+OUT        = out
 
 PROGRAM = crates/catzd/out/catzd
 CONFDIR = $(SYSCONFDIR)/catzd
@@ -70,6 +78,15 @@ uninstall:
 	for one in $(SCRIPTS); do rm -f "$(DESTDIR)$(DOCDIR)/contrib/$$one"; done
 	-rmdir "$(DESTDIR)$(DOCDIR)/samples" "$(DESTDIR)$(DOCDIR)/docs" "$(DESTDIR)$(DOCDIR)/contrib" "$(DESTDIR)$(DOCDIR)"
 
+dist:
+	distro/dist.sh $(VERSION) $(OUT)
+
+deb:
+	rm -rf $(OUT)/deb
+	$(MAKE) install DESTDIR=$(OUT)/deb PREFIX=/usr SYSCONFDIR=/etc UNITDIR=/usr/lib/systemd/system
+	distro/deb.sh $(OUT)/deb $(VERSION) "$(MAINTAINER)" $(OUT)
+	rm -rf $(OUT)/deb
+
 check-man:
 	$(PYTHON) tests/man/check.py
 	@if command -v mandoc > /dev/null; then echo mandoc -T lint man/catzd.8 man/catzd.toml.5; \
@@ -103,4 +120,10 @@ signed:
 kept:
 	$(PYTHON) tests/load/restarts.py
 
-.PHONY: all check install uninstall check-man docs check-docs bench interop downstream validate producer signed kept
+check-limits:
+	$(PYTHON) tests/limits/limits.py --catzd $(PROGRAM)
+
+check-memory:
+	$(PYTHON) tests/memory/refused.py
+
+.PHONY: all check install uninstall dist deb check-man docs check-docs bench interop downstream validate producer signed kept check-limits check-memory

@@ -225,11 +225,12 @@ class Steady:
 
 
 def idle_clients(port, owner, count):
-    """So many connections that asked once and are then left idle; fewer where the server accepts no more."""
+    """So many connections, forty from an address, that asked once and are then left idle; fewer where the server accepts
+    no more."""
     streams = []
     try:
-        for _ in range(count):
-            streams.append(socket.create_connection(("127.0.0.1", port), timeout=0.5))
+        for at in range(count):
+            streams.append(socket.create_connection(("127.0.0.1", port), 0.5, (f"127.0.1.{1 + at // 40}", 0)))
             streams[-1].sendall(wire.frame(wire.query(1, owner, wire.A)))
         for stream in streams:
             read_frame(stream)

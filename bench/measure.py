@@ -141,7 +141,7 @@ def cpu(bench):
     def measure(server, _primary, _held):
         settle(server, names)
         cells = []
-        for connections in (0, 2, 20, 200):
+        for connections in (0, 2, 20, 80):
             bursts = [ask.dnsperf(server, queries, bench.seconds, connections) for _ in range(BURSTS)]
             rate, cost = min(bursts, key=lambda burst: burst[1])
             cells.append(f"{cost:.2f} ({rate / 1000:.0f})")
@@ -149,7 +149,7 @@ def cpu(bench):
 
     plan = servers.Plan(CATALOG, PRIMARY_PORT, names)
     table("CPU a query, microseconds (thousand queries a second)",
-          ["UDP", "TCP, 2 connections", "20", "200", "MB at most / then"], bench.each(catalog_of(names), plan, measure))
+          ["UDP", "TCP, 2 connections", "20", "80", "MB at most / then"], bench.each(catalog_of(names), plan, measure))
 
 
 def steady(port, owner):

@@ -46,6 +46,7 @@ DIFFERENCES = {
      ("flags", "answer")): "it answers ANY over TCP alone",
     (("NSD", "PowerDNS"), ("DNAME to another member", "below an apex with a DNAME"), ("answer",)):
         "catzd follows a DNAME within its zone alone",
+    # Knot 3.4 shows it under its owner, as catzd does.
     (("Knot",), ("below a wildcard's DNAME",), ("answer",)): "it shows the DNAME under the name that was asked for",
     (("PowerDNS",), ("an address below a DNAME", "a cut below a DNAME", "below a cut below a DNAME"), "*"):
         "it looks for a name's own records before it looks for a DNAME above it",

@@ -211,8 +211,8 @@ zone:
 
 class Nsd(Peer):
     label, programs = "NSD", ("nsd", "nsd-control")
-    # It doesn't load a zone with names below a DNAME's owner; and its differences of a zone with an MX record add that
-    # record again, though it is in both versions.
+    # It doesn't load a zone with names below a DNAME's owner; and the differences of NSD 4.6 for a zone with an MX record
+    # add that record again, though it is in both versions. Those of NSD 4.12 don't.
     refusals = ("refused f.test. rcode 9", "refused a.test. shape add-present")
 
     def words(self):
@@ -258,6 +258,7 @@ remote-control:
 
 class Bind(Peer):
     label, programs = "BIND", ("named",)
+    # Without `lock-file none`, which BIND 9.20 refuses; no lock is the default of BIND 9.18 too.
 
     def words(self):
         zones = "".join(f'zone "{one}" {{ type primary; file "{one}.zone"; }};\n' for one in self.zones)
@@ -269,7 +270,6 @@ class Bind(Peer):
     listen-on-v6 {{ none; }};
     pid-file "{self.folder}/named.pid";
     session-keyfile "{self.folder}/session.key";
-    lock-file none;
     recursion no;
     dnssec-validation no;
     allow-transfer {{ {allowed}; }};

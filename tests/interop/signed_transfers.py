@@ -361,9 +361,9 @@ def try_keys(kind, folder, faults):
     with_peer(kind, folder / "p", KEY, same)
     with_peer(kind, folder / "p512", replace(KEY, algorithm="hmac-sha512"),
               lambda _: first("sha512", KEY, REFUSED.format("[59]"), "the key with hmac-sha512 at the peer"))
-    if kind is peers.Bind:  # whose answers then have a MAC as long as the query's
-        with_peer(kind, folder / "p128", replace(KEY, algorithm="hmac-sha256-128"),
-                  lambda _: first("half", KEY, TAKEN, "the key with hmac-sha256-128 at the peer"))
+    if kind is peers.Bind:  # BIND 9.18 answers with a MAC as long as the query's; to BIND 9.20 the query's is BADSIG
+        with_peer(kind, folder / "p128", replace(KEY, algorithm="hmac-sha256-128"), lambda _: first(
+            "half", KEY, f"{TAKEN}|{REFUSED.format(9)}", "the key with hmac-sha256-128 at the peer"))
     for size in (1, 64):
         key = replace(KEY, secret=bytes(range(0x80, 0x80 + size)))
         with_peer(kind, folder / f"p{size}", key,

@@ -12,6 +12,7 @@ SHARES = ((FAST, 0.1), (PIPELINING, 0.05), (SLOW, 0.55), (IDLE, 0.3))
 RESTS = {FAST: 0.05, PIPELINING: 0.5, SLOW: 0.5, IDLE: 3600.0}  # seconds from a reply to the next query
 TYPES = (("h0", wire.TXT), ("h3", wire.TXT), ("x.wild", wire.TXT), ("", wire.SOA), ("nothing", wire.A), ("h1", wire.MX))
 LIMIT = 10  # seconds that a fast client waits at the most
+ADDRESSES = 10  # from which clients connect in turn, since of one address there may be 100 connections
 
 
 class Client:
@@ -26,7 +27,8 @@ class Client:
         return self.kind in (FAST, PIPELINING)
 
     def connect(self):
-        self.stream = socket.create_connection(("127.0.0.1", self.crowd.port), timeout=5)
+        source = f"127.0.5.{self.crowd.connections % ADDRESSES + 1}"
+        self.stream = socket.create_connection(("127.0.0.1", self.crowd.port), timeout=5, source_address=(source, 0))
         self.stream.setblocking(False)
         self.crowd.selector.register(self.stream, selectors.EVENT_READ, self)
         self.unsent, self.heard, self.asked, self.cursors = b"", b"", [], {}

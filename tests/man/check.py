@@ -2,10 +2,10 @@
 """check.py: compares the man pages with what the program's definitions say, both ways.
 
 It reads each form of a line of the log from the definitions (crates/dz_report/specs/Lines.antt and Reason.antt,
-crates/dz_provision/specs/Log.antt, crates/dz_serve/specs/Command.antt), each exit status from crates/catzd/src, and the keys, faults, policies and limits of
-a configuration from crates/dz_config and crates/dz_member, and finds each in man/catzd.8 and man/catzd.toml.5; and it
-finds nothing there that the definitions don't have. It ends with status 1 where the two differ, or where it can't read a
-definition.
+crates/dz_provision/specs/Log.antt, crates/dz_serve/specs/Command.antt), each exit status from
+crates/dz_run/specs/Exit.antt, and the keys, faults, policies and limits of a configuration from crates/dz_config and
+crates/dz_member, and finds each in man/catzd.8 and man/catzd.toml.5; and it finds nothing there that the definitions
+don't have. It ends with status 1 where the two differ, or where it can't read a definition.
 """
 import pathlib
 import re
@@ -17,7 +17,7 @@ UNKEPT = "crates/dz_provision/specs/Log.antt"
 COMMAND, FAULTS = "crates/dz_serve/specs/Command.antt", "crates/dz_config/specs/Reading.antt"
 KEYS, LIMITS = "crates/dz_config/specs/Document.antt", "crates/dz_settings/src/limits.rt"
 POLICIES = "crates/dz_settings/src/peer.rt"
-STATUS, MAIN = "crates/dz_run/src/commands.rt", "crates/catzd/src/main.rt"
+STATUSES, USAGE = "crates/dz_run/specs/Exit.antt", "crates/dz_run/src/commands.rt"
 PROGRAM, CONFIGURATION = "man/catzd.8", "man/catzd.toml.5"
 # The crates whose code writes lines, and the page with the commands that the man page leaves out.
 WRITERS = ("catzd", "dz_serve", "dz_provision", "dz_report")
@@ -160,9 +160,9 @@ def log_forms():
 
 def statuses():
     """Each exit status."""
-    body = re.search(r"pub enum Status \{(.*?)\n\}", text_of(STATUS), re.S).group(1)
-    numbers = re.findall(r"^\s+\w+ = (\d+),$", body, re.M)
-    return set(numbers) | set(re.findall(r"^const NO_SEAT: u8 = (\d+);", text_of(MAIN), re.M))
+    found = equations(STATUSES)
+    rights = [right for name in ("number_of", "exit_number") for _, right in found[name]]
+    return {right for right in rights if right and right.isdigit()}
 
 
 def keys():
@@ -188,7 +188,7 @@ def limits():
 
 
 def commands():
-    return re.search(r"usage: catzd (.*?)\\n", text_of(STATUS)).group(1).split(" | ")
+    return re.search(r"usage: catzd (.*?)\\n", text_of(USAGE)).group(1).split(" | ")
 
 
 def written():

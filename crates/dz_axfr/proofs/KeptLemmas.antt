@@ -1,5 +1,5 @@
 -- What is kept of a whole form while it is fed.
-use Rattle.std.proofs.Common.{◌≡◌, ℕ, suc, ◌+◌, ◌<◌, ◌≤◌, true, false, List, [], ◌∷◌, ◌++◌, length, take, drop, get_or, refl, sym, ◌∙◌, ap, subst, arith, Some, None, Result, Ok, Err}
+use Rattle.std.proofs.Common.{◌≡◌, ℕ, suc, ◌+◌, ◌<◌, ◌≤◌, true, false, List, [], ◌∷◌, ◌++◌, length, take, drop, get_or, refl, sym, ◌∙◌, ap, subst, append_assoc, arith, Some, None, Result, Ok, Err}
 use Rattle.std.proofs.lemmas.List.{append-nil}
 use Rattle.std.proofs.lemmas.List.Quantifiers.{position-Some}
 use Rattle.std.specs.Str.{bytes_eq}
@@ -20,7 +20,7 @@ use Rattle.dz_xfr.proofs.ReadingLemmas.{stays_failed, read_pieces}
 use Rattle.dz_axfr.specs.Assembly.{Assembly}
 use Rattle.dz_axfr.specs.Whole.{IsWhole, Blames}
 use Rattle.dz_axfr.specs.Reading.{nothing, opened, one, place_of}
-use Rattle.dz_axfr.specs.inner.Kept.{kept_place, OpensAt, IsKept, Extends}
+use Rattle.dz_axfr.specs.inner.Kept.{kept_place, OpensAt, AreKept, IsKept, Extends}
 use Rattle.dz_axfr.proofs.ListLemmas.{front_fails, none_passes, some_behind, none_behind, cut_at}
 use Rattle.dz_axfr.proofs.WholeLemmas.{read_body, agrees, whole_stands, whole_stands_once}
 
@@ -64,13 +64,20 @@ module _ (apex : Name) where
       let m : bytes_eq x.rdata soa.rdata ≡ true = rw f at n in
       w.1 ∙ (rw (w.0, m, none_behind records (suc at) (omega arith)) refl)
 
+  pub ends_there : (kept records : List Record) (x : Record) (at : ℕ) → position (is_apex_soa apex) records ≡ Some at → x ≡ get_or records at x → length records ≤ at + 1
+      → (last : Record) × (kept ++ records ≡ (kept ++ take at records) ++ last ∷ [])
+  ends_there kept records x at e is n =
+      let w = position-Some (is_apex_soa apex) records at x e in
+      let cut : records ≡ take at records ++ x ∷ [] = cut_at records at x w.0 is ∙ ap (λ l. take at records ++ x ∷ l) (none_behind records (suc at) (omega arith)) in
+      (x, ap (λ l. kept ++ l) cut ∙ sym (append_assoc kept (take at records) (x ∷ [])))
+
   pub still_opens : (kept rest : List Record) → OpensAt apex kept → OpensAt apex (kept ++ rest)
   still_opens [] rest o = absurd o
   still_opens (first ∷ body) rest o = o
 
   -- the first SOA alone
   pub one_kept : (first : Record) → is_apex_soa apex first ≡ true → IsKept apex (first ∷ []) More (first ∷ [])
-  one_kept first t = record { opens = t; place = rw t refl }
+  one_kept first t = record { opens = t; place = rw t refl; are = refl }
 
   pub one_open : (first : Record) → is_apex_soa apex first ≡ true → IsOpen (IsWhole apex) Blames (first ∷ [])
   one_open first t = rw t at (whole_stands apex (first ∷ []))
@@ -115,9 +122,24 @@ module _ (apex : Name) where
       let e : kept_place progress kept ≡ ended w.0 = sym k.place ∙ (agrees apex).to_end fed w.0 w.1 in
       (agrees apex).from_end fed (distinct kept) (k.place ∙ ended_kept progress kept w.0 k.opens e)
 
+  -- and at its end there is the record that closes it
+  ended_are : (progress : Progress) (kept fed zone : List Record) → OpensAt apex kept → kept_place progress kept ≡ ended zone → AreKept progress kept fed → AreKept Ended kept fed
+  ended_are Ended kept fed zone o e are = are
+  ended_are More [] fed zone o e are = absurd o
+  ended_are More (first ∷ body) fed zone o e are = absurd (cc)
+
+  pub items_kept : (kept fed : List Record) (progress : Progress) → IsKept apex kept progress fed → IsComplete (IsWhole apex) fed → AreKept Ended kept fed
+  items_kept kept fed progress k w = ended_are progress kept fed w.0 k.opens (sym k.place ∙ (agrees apex).to_end fed w.0 w.1) k.are
+
   -- what `extend` left is kept of all records
   kept_on : (old new fed records : List Record) (before progress : Progress) → IsKept apex old before fed → IsOpen (IsWhole apex) Blames fed → Extends apex old records (Ok progress) new → IsKept apex new progress (fed ++ records)
-  kept_on old new fed records before progress k o x = record { opens = x.0; place = fed_on old fed records before k o ∙ x.1 }
+  kept_on old new fed records before progress k o x =
+      let all : fed ≡ old = subst (λ p. AreKept p old fed) (still_open old fed before k o) k.are in
+      record {
+        opens = x.0;
+        place = fed_on old fed records before k o ∙ x.1;
+        are = subst (λ l. AreKept progress new (l ++ records)) (sym all) x.2;
+      }
 
   -- the same of an assembler as contracts see it
   pub seen_kept : (seen : Assembly) (old new fed records : List Record) (before progress : Progress) → record { apex = apex; fed = fed } ≡ seen → IsKept apex old before fed
@@ -136,6 +158,11 @@ module _ (apex : Name) where
       → IsComplete (IsWhole seen.apex) seen.fed → IsWhole seen.apex seen.fed (distinct kept)
   seen_whole seen kept fed progress e k =
       subst (λ (s : Assembly). IsComplete (IsWhole s.apex) s.fed → IsWhole s.apex s.fed (distinct kept)) e (λ w. whole_kept kept fed progress k w)
+
+  pub seen_items : (seen : Assembly) (kept fed : List Record) (progress : Progress) → record { apex = apex; fed = fed } ≡ seen → IsKept apex kept progress fed
+      → IsComplete (IsWhole seen.apex) seen.fed → AreKept Ended kept seen.fed
+  seen_items seen kept fed progress e k =
+      subst (λ (s : Assembly). IsComplete (IsWhole s.apex) s.fed → AreKept Ended kept s.fed) e (λ w. items_kept kept fed progress k w)
 
 -- at the end the records that were fed are a whole form
 whole_of : (apex : Name) (fed zone : List Record) → Stands (IsWhole apex) Blames fed (complete zone) → IsWhole apex fed zone

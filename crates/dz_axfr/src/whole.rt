@@ -3,9 +3,10 @@
 ghost use Rattle.std.specs.Prelude.{◌≡◌, ◌∷◌, ◌++◌, [], IfOk, OnOk, OnErr};
 ghost use Rattle.std.specs.List.{position};
 ghost use Rattle.dz_name.specs.declared.dns.TheConstants.{TYPE_SOA};
+ghost use Rattle.dz_record.specs.Record.{Record};
 ghost use Rattle.dz_record.specs.Records.{distinct};
 ghost use Rattle.dz_xfr.specs.Apex.{is_apex_soa};
-ghost use Rattle.dz_xfr.specs.Feeding.{IsOpen, Says};
+ghost use Rattle.dz_xfr.specs.Feeding.{IsOpen, Says, progress_of};
 ghost use Rattle.dz_xfr.specs.Stands.{Stands, IsComplete};
 ghost use Rattle.dz_axfr.specs.Laws.{ReadingStands, NothingElse};
 ghost use Rattle.dz_axfr.specs.Whole.{IsWhole, Blames};
@@ -60,14 +61,29 @@ impl Whole {
         })
     }
 
-    /// Reads further records: whether the records that were fed are a whole form, or more is to come. Once it has ended
-    /// nothing more may be fed.
+    /// Reads further records: the form with them, and whether the records that were fed are a whole form, or more is to
+    /// come. Once it has ended nothing more may be fed; an error leaves no form that could be fed.
     ///
     /// # Errors
     ///
     /// The fault of the first record with which no whole form goes on, or `AfterEnd` where records follow one; or out
-    /// of memory. An error leaves the assembler as it was.
-    pub fn feed(&mut self, records: Vec<Rr>) -> Result<Progress, FeedError>
+    /// of memory.
+    pub fn feed(mut self, records: Vec<Rr>) -> Result<(Whole, Progress), FeedError>
+        requires { IsOpen (IsWhole self.apex) Blames self.fed }
+        ensures apex { IfOk result (λ r. r.0.apex ≡ self.apex) }
+        ensures fed { IfOk result (λ r. r.0.fed ≡ self.fed ++ records.items) }
+        ensures says { Says (progress_of result)
+            (Stands (IsWhole self.apex) Blames (self.fed ++ records.items)) }
+    {
+        match self.read(records) {
+            Ok(progress) => Ok((self, progress)),
+            Err(error) => Err(error),
+        }
+    }
+
+    /// Reads further records, in place. An error leaves what was read as it was; the errors are those of
+    /// [`Whole::feed`].
+    fn read(&mut self, records: Vec<Rr>) -> Result<Progress, FeedError>
         requires { IsOpen (IsWhole self.old.apex) Blames self.old.fed }
         ensures apex { self.new.apex ≡ self.old.apex }
         ensures fed { OnOk result (self.new.fed ≡ self.old.fed ++ records.items) }
@@ -86,10 +102,11 @@ impl Whole {
         }
     }
 
-    /// The records of the zone, as they came: the first SOA and the body.
+    /// The records of the zone, as they came: the first SOA and the body, which are all that were fed but the last.
     pub fn finish(self) -> Vec<Rr>
         requires { IsComplete (IsWhole self.apex) self.fed }
-        ensures { IsWhole self.apex self.fed (distinct result.items) }
+        ensures whole { IsWhole self.apex self.fed (distinct result.items) }
+        ensures items { (last : Record) × (self.fed ≡ result.items ++ last ∷ []) }
     {
         self.records
     }

@@ -13,7 +13,8 @@ use Rattle.std.proofs.lemmas.Bool.{false≢true, cases_Bool}
 use Rattle.std.proofs.lemmas.List.{take_all}
 use Rattle.std.proofs.lemmas.List.Elements.{filter-append}
 use Rattle.dz_chunks.specs.Map.{without_key}
-use Rattle.dz_chunks.specs.inner.Chunked.{flat, AllBefore, AllBehind, ends_before, AreChunks, IsChunked}
+use Rattle.dz_chunks.specs.Chunked.{flat, AreChunks}
+use Rattle.dz_chunks.specs.inner.Chunked.{AllBefore, AllBehind, ends_before, IsChunked}
 use Rattle.dz_chunks.proofs.EntryLemmas.{less_of, reversed_not_gt, greater_back, first_of_both, second_of_both, both_of, true_of, behind_of_below, before_kept, behind_kept}
 
 pub drop_none : {A : Type 0} (n : ℕ) → drop {A = A} n [] ≡ []

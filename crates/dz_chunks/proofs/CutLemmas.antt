@@ -3,7 +3,8 @@ use Rattle.std.proofs.Common.{◌≡◌, ℕ, ◌≤◌, List, [], ◌∷◌, �
 use Rattle.std.specs.Prelude.{◌==◌, false}
 use Rattle.std.proofs.lemmas.Bool.Decides.{nat_tests}
 use Rattle.std.proofs.lemmas.List.{reverse-append, map-append, take-append-drop}
-use Rattle.dz_chunks.specs.inner.Chunked.{flat, Joined, AreChunks, AreFull}
+use Rattle.dz_chunks.specs.Chunked.{flat, Joined, AreChunks}
+use Rattle.dz_chunks.specs.inner.Chunked.{AreFull}
 
 -- one more behind the others is one more in front when they are turned round
 turned : {X : Type 0} (xs : List X) (x : X) → reverse (xs ++ x ∷ []) ≡ x ∷ reverse xs

@@ -3,7 +3,8 @@
 use Rattle.std.proofs.Common.{◌≡◌, ℕ, zero, suc, ◌+◌, ◌-◌, ◌*◌, ◌<◌, ◌≤◌, List, [], ◌∷◌, ◌++◌, length, take, drop, get_or, append_assoc, length-append, refl, sym, ◌∙◌, ap, arith}
 use Rattle.std.specs.Prelude.{◌/◌}
 use Rattle.std.proofs.lemmas.List.{append-nil, take-append-drop, take_rest, take_more}
-use Rattle.dz_chunks.specs.inner.Chunked.{flat, Joined, AreChunks, length_at, length_before}
+use Rattle.dz_chunks.specs.Chunked.{flat, Joined, AreChunks}
+use Rattle.dz_chunks.specs.inner.Chunked.{length_at, length_before}
 use Rattle.dz_chunks.proofs.ChunkLemmas.{drop_none}
 
 -- the last of these chunks and one more

@@ -13,7 +13,8 @@ use Rattle.std.proofs.lemmas.Bool.{false≢true, cases_Bool}
 use Rattle.std.proofs.lemmas.Cmp.{alike_right}
 use Rattle.std.proofs.lemmas.List.Elements.{filter-append}
 use Rattle.dz_chunks.specs.Map.{is_upto, last_upto}
-use Rattle.dz_chunks.specs.inner.Chunked.{flat, begins_upto, IsUptoAt, IsBehindAt, AreChunks, IsChunked}
+use Rattle.dz_chunks.specs.Chunked.{flat, AreChunks}
+use Rattle.dz_chunks.specs.inner.Chunked.{begins_upto, IsUptoAt, IsBehindAt, IsChunked}
 use Rattle.dz_chunks.proofs.EntryLemmas.{less_of, first_of_both, second_of_both, true_of, below_at}
 
 last_append : {A : Type 0} (o : Option A) (xs ys : List A) → last_or o (xs ++ ys) ≡ last_or (last_or o xs) ys

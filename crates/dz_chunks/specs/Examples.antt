@@ -3,7 +3,8 @@ use Rattle.std.specs.Prelude.{◌≡◌, ℕ, Some, None, [], ◌∷◌, refl}
 use Rattle.std.specs.Ordering.{nat_cmp}
 use Rattle.std.specs.FinMap.{find, put}
 use Rattle.dz_chunks.specs.Map.{last_upto, without_key}
-use Rattle.dz_chunks.specs.inner.Chunked.{flat, length_at, length_before}
+use Rattle.dz_chunks.specs.Chunked.{flat}
+use Rattle.dz_chunks.specs.inner.Chunked.{length_at, length_before}
 
 -- a key is put in its place, and takes the value of an equal one
 pub put_between : put {X = ℕ} nat_cmp 3 30 ((1, 10) ∷ (5, 50) ∷ []) ≡ (1, 10) ∷ (3, 30) ∷ (5, 50) ∷ []

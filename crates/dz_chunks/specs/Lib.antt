@@ -1,3 +1,4 @@
+pub mod Chunked
 pub mod Examples
 pub mod Laws
 pub mod Map

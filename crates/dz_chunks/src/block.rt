@@ -1,4 +1,4 @@
-//! Blocks: entries behind the first octets of some of their keys.
+//! Blocks: entries after the first octets of some of their keys.
 
 ghost use Rattle.std.specs.Prelude.{◌≡◌, ◌+◌, ◌%◌, ◌<◌, ◌≤◌, length, slice_index_or, T, true, Some};
 ghost use Rattle.std.specs.FinMap.{is_sorted};
@@ -12,10 +12,10 @@ use crate::lead::{Lead, compare_leads};
 use std::cmp::Ordering;
 use std::marker::Model;
 
-/// How many keys behind the first have their first octets in front of the entries.
+/// How many keys after the first have their first octets before the entries.
 const MARKS: usize = 7;
 
-/// Entries that stand together. In front of them stand the first octets of each sixteenth key behind the first: a search
+/// Entries that are together. Before them are the first octets of each sixteenth key after the first: a search
 /// reads these, which lie together, and then sixteen entries.
 #[derive(Drop)]
 pub(crate) struct Block<K: Lead, V: Keyed<K>> {
@@ -51,7 +51,7 @@ impl<K: Lead + Copy, V: Keyed<K>> Block<K, V> {
         self.entries.as_slice()
     }
 
-    /// How the key at a mark stands to a key. The entries are read only where the first octets are alike.
+    /// How the key at a mark compares with a key. The entries are read only where the first octets are alike.
     fn compare_mark(&self, place: usize, key: &K) -> Ordering
         requires behind { 0 < place }
         requires mark { place % 16 ≡ 0 }
@@ -110,7 +110,7 @@ fn lead_at<K: Lead + Copy, V: Keyed<K>>(entries: &[Entry<K, V>], place: usize) -
     }
 }
 
-/// The first octets of each sixteenth key behind the first, and zeros where there are none.
+/// The first octets of each sixteenth key after the first, and zeros where there are none.
 fn marks_of<K: Lead + Copy, V: Keyed<K>>(entries: &[Entry<K, V>]) -> [[u8; 16]; MARKS]
     ensures marks { AreMarks K.lead result 16 entries.now }
     ensures count { length result ≡ 7 }

@@ -4,9 +4,12 @@ ghost use Rattle.std.specs.Prelude.{◌≡◌, ℕ, ◌+◌, ◌-◌, ◌*◌, �
 ghost use Rattle.std.specs.FinMap.{is_sorted, find, put};
 ghost use Rattle.std.specs.Option.{option_map};
 ghost use Rattle.dz_chunks.specs.Map.{last_upto, without_key};
-ghost use Rattle.dz_chunks.specs.inner.Chunked.{flat, IsChunked};
+ghost use Rattle.dz_chunks.specs.Chunked.{flat};
+ghost use Rattle.dz_chunks.specs.inner.Chunked.{IsChunked};
 
-use crate::chunk::{Chunk, chunk_for, count_entries, last_among, push_chunk, value_among};
+use crate::among::{chunk_for, last_among, push_chunk, value_among};
+use crate::chunk::Chunk;
+use crate::copies::Copies;
 use crate::cut::cut;
 use crate::entries::{with_entry, without_entry};
 use crate::entry::Entry;
@@ -14,7 +17,6 @@ use crate::joins::rebuilt;
 use crate::keyed::Keyed;
 use crate::lead::Lead;
 use crate::walk::Walk;
-use dz_steps::Steps;
 use std::alloc::{AllocError, Global};
 use std::marker::Model;
 use std::sync::Arc;
@@ -35,47 +37,55 @@ fn first_chunk<K: Lead + Copy, V: Keyed<K> + Drop>(
 }
 
 /// The chunks with a value at its key.
-fn chunks_with<K: Lead + Copy, V: Keyed<K> + Drop, L: Ledger>(
+fn chunks_with<K: Lead + Copy, V: Keyed<K> + Drop, E: Ledger, R: Ledger>(
     alloc: Global,
     chunks: &[Chunk<K, V>],
     value: V,
-    steps: &mut Steps<L>,
+    copies: &mut Copies<E, R>,
 ) -> Result<Vec<Chunk<K, V>>, AllocError>
     requires { IsChunked K.cmp chunks.now }
     ensures map { IfOk result (λ v.
         flat v.items ≡ put K.cmp (V.key value) value (flat chunks.now)) }
     ensures chunked { IfOk result (λ v. IsChunked K.cmp v.items) }
-    ensures cost { steps.new ≤ steps.old + (256 + length chunks.now) }
+    ensures entry_cost { copies.new.entries ≤ copies.old.entries + 256 }
+    ensures reference_cost { copies.new.references ≤ copies.old.references + length chunks.now }
 {
     if chunks.is_empty() {
         return first_chunk(alloc, value);
     }
     let key = value.key();
     let at = chunk_for(chunks, &key);
-    let entries = with_entry(alloc, chunks[at].entries(), &key, value, steps)?;
-    rebuilt(alloc, chunks, at, entries, steps)
+    let entries = with_entry(
+        alloc,
+        chunks[at].entries(),
+        &key,
+        value,
+        &mut copies.entries,
+    )?;
+    rebuilt(alloc, chunks, at, entries, copies)
 }
 
 /// The chunks but the entry at a key.
-fn chunks_without<K: Lead + Copy, V: Keyed<K> + Drop, L: Ledger>(
+fn chunks_without<K: Lead + Copy, V: Keyed<K> + Drop, E: Ledger, R: Ledger>(
     alloc: Global,
     chunks: &[Chunk<K, V>],
     key: &K,
-    steps: &mut Steps<L>,
+    copies: &mut Copies<E, R>,
 ) -> Result<Vec<Chunk<K, V>>, AllocError>
     requires { IsChunked K.cmp chunks.now }
     ensures map { IfOk result (λ v.
         flat v.items
         ≡ without_key K.cmp key.now (flat chunks.now)) }
     ensures chunked { IfOk result (λ v. IsChunked K.cmp v.items) }
-    ensures cost { steps.new ≤ steps.old + (256 + length chunks.now) }
+    ensures entry_cost { copies.new.entries ≤ copies.old.entries + 256 }
+    ensures reference_cost { copies.new.references ≤ copies.old.references + length chunks.now }
 {
     if chunks.is_empty() {
         return Ok(Vec::new(alloc));
     }
     let at = chunk_for(chunks, key);
-    let entries = without_entry(alloc, chunks[at].entries(), key, steps)?;
-    rebuilt(alloc, chunks, at, entries, steps)
+    let entries = without_entry(alloc, chunks[at].entries(), key, &mut copies.entries)?;
+    rebuilt(alloc, chunks, at, entries, copies)
 }
 
 /// A finite map. A changed map is a new one, which shares with the old one all chunks of entries but the few that the
@@ -87,7 +97,8 @@ pub struct Chunks<K: Lead, V: Keyed<K>> {
 
 impl<K: Lead, V: Keyed<K>> Model for Chunks<K, V> {
     ghost use Rattle.std.specs.Prelude.{List, map};
-    ghost use Rattle.dz_chunks.specs.inner.Chunked.{flat, IsChunked};
+    ghost use Rattle.dz_chunks.specs.Chunked.{flat};
+    ghost use Rattle.dz_chunks.specs.inner.Chunked.{IsChunked};
 
     ghost Value = { List (K × V) };
 
@@ -120,13 +131,6 @@ impl<K: Lead + Copy, V: Keyed<K>> Chunks<K, V> {
         Ok(Chunks { chunks })
     }
 
-    /// How many keys there are; past the end of `usize` it is that end.
-    pub fn len(&self) -> usize
-        ensures { result ≡ min (length self.now) (2 ^ 64 - 1) }
-    {
-        count_entries(self.chunks.as_slice())
-    }
-
     /// The values, in ascending order of their keys.
     pub fn walk(&self) -> Walk<'_, K, V>
         ensures entries { result ≡ self.now }
@@ -152,33 +156,37 @@ impl<K: Lead + Copy, V: Keyed<K>> Chunks<K, V> {
 }
 
 impl<K: Lead + Copy, V: Keyed<K> + Drop> Chunks<K, V> {
-    /// The map with a value at its key, in place of the one that is there. The error is want of memory. A step is an entry
-    /// or a reference to a chunk copied: at most 256 entries and one reference for each chunk.
-    pub fn with<L: Ledger>(
+    /// The map with a value at its key, in place of the one that is there. The error is want of memory. It copies at most
+    /// 256 entries, and one reference at most for each chunk.
+    pub fn with<E: Ledger, R: Ledger>(
         &self,
         alloc: Global,
         value: V,
-        steps: &mut Steps<L>,
+        copies: &mut Copies<E, R>,
     ) -> Result<Chunks<K, V>, AllocError>
         ensures map { IfOk result (λ changed. changed ≡ put K.cmp (V.key value) value self.now) }
-        ensures cost { steps.new ≤ steps.old + 256 + (length self.now / 64 + 1) }
+        ensures entries { copies.new.entries ≤ copies.old.entries + 256 }
+        ensures references { copies.new.references
+            ≤ copies.old.references + (length self.now / 64 + 1) }
     {
-        let chunks = chunks_with(alloc, self.chunks.as_slice(), value, steps)?;
+        let chunks = chunks_with(alloc, self.chunks.as_slice(), value, copies)?;
         Ok(Chunks { chunks })
     }
 
     /// The map without a key. Where the key isn't there it is an equal map. The error is want of memory. It copies no
     /// more than [`Chunks::with`].
-    pub fn without<L: Ledger>(
+    pub fn without<E: Ledger, R: Ledger>(
         &self,
         alloc: Global,
         key: &K,
-        steps: &mut Steps<L>,
+        copies: &mut Copies<E, R>,
     ) -> Result<Chunks<K, V>, AllocError>
         ensures map { IfOk result (λ changed. changed ≡ without_key K.cmp key.now self.now) }
-        ensures cost { steps.new ≤ steps.old + 256 + (length self.now / 64 + 1) }
+        ensures entries { copies.new.entries ≤ copies.old.entries + 256 }
+        ensures references { copies.new.references
+            ≤ copies.old.references + (length self.now / 64 + 1) }
     {
-        let chunks = chunks_without(alloc, self.chunks.as_slice(), key, steps)?;
+        let chunks = chunks_without(alloc, self.chunks.as_slice(), key, copies)?;
         Ok(Chunks { chunks })
     }
 }

@@ -1,9 +1,11 @@
 //! Chunks of many entries at once.
 
 ghost use Rattle.std.specs.Prelude.{◌≡◌, ◌≤◌, [], ◌++◌, length, reverse, OnOk, IfOk};
-ghost use Rattle.dz_chunks.specs.inner.Chunked.{flat, AreChunks, AreFull};
+ghost use Rattle.dz_chunks.specs.Chunked.{flat, AreChunks};
+ghost use Rattle.dz_chunks.specs.inner.Chunked.{AreFull};
 
-use crate::chunk::{CHUNK, Chunk, push_chunk};
+use crate::among::push_chunk;
+use crate::chunk::{CHUNK, Chunk};
 use crate::entry::Entry;
 use crate::keyed::Keyed;
 use crate::lead::Lead;
@@ -26,7 +28,7 @@ pub(crate) fn cut<K: Lead + Copy, V: Keyed<K> + Drop>(
     Ok(chunks)
 }
 
-/// Takes full chunks away from the end of entries, and puts them behind one another, the last first.
+/// Takes full chunks away from the end of entries, and puts them one after another, the last first.
 fn cut_full<K: Lead + Copy, V: Keyed<K> + Drop>(
     alloc: Global,
     rest: &mut Vec<Entry<K, V>>,
@@ -45,7 +47,7 @@ fn cut_full<K: Lead + Copy, V: Keyed<K> + Drop>(
     Ok(())
 }
 
-/// A chunk of the entries in front, if there are some, behind full ones that stand the last first.
+/// A chunk of the first entries, if there are some, after full ones, of which the last comes first.
 fn push_first<K: Lead + Copy, V: Keyed<K> + Drop>(
     alloc: Global,
     mut first: Vec<Entry<K, V>>,

@@ -9,15 +9,14 @@ ghost use Rattle.dz_chunks.specs.inner.Chunked.{AllBefore, NotBefore, begins_at,
 use crate::entry::Entry;
 use crate::keyed::Keyed;
 use crate::lead::Lead;
-use crate::share::Share;
 use dz_steps::Steps;
 use std::alloc::{AllocError, Global};
 use std::sync::ledger::Ledger;
 
-/// How many entries stand from one whose first octets stand beside the chunk to the next.
+/// How many entries there are from one whose first octets are beside the chunk to the next.
 pub(crate) const RUN: usize = 16;
 
-/// Copies entries behind others. All entries are copied here, and each is counted.
+/// Copies entries after others, as long as there is memory.
 pub(crate) fn copy_entries<K: Lead + Copy, V: Keyed<K> + Drop, L: Ledger>(
     copies: &mut Vec<Entry<K, V>>,
     entries: &[Entry<K, V>],
@@ -28,8 +27,7 @@ pub(crate) fn copy_entries<K: Lead + Copy, V: Keyed<K> + Drop, L: Ledger>(
     ensures cost { steps.new ≤ steps.old + length entries.now }
 {
     for entry in entries {
-        steps.tick();
-        copies.push(entry.share()?)?;
+        copies.push(entry.copied(steps)?)?;
     }
     Ok(())
 }
@@ -44,7 +42,7 @@ fn place_of<K: Lead + Copy, V: Keyed<K>>(entries: &[Entry<K, V>], key: &K) -> us
     entries.partition_point(|entry| entry.compare(key).is_lt())
 }
 
-/// Whether a key stands at a place.
+/// Whether a key is at a place.
 fn is_at<K: Lead + Copy, V: Keyed<K>>(entries: &[Entry<K, V>], place: usize, key: &K) -> bool
     ensures { result ≡ begins_at K.cmp key.now (drop place entries.now) }
 {
@@ -67,7 +65,7 @@ pub(crate) fn value_of<'a, K: Lead + Copy, V: Keyed<K>>(
     }
 }
 
-/// The last of the places from `begin` on in front of `end` whose key doesn't come after a key. It reads all of them,
+/// The last of the places from `begin` up to `end` whose key doesn't come after a key. It reads all of them,
 /// without waiting for one to know which comes next: what is not in the cache comes at once.
 fn last_between<K: Lead + Copy, V: Keyed<K>>(
     entries: &[Entry<K, V>],

@@ -1,16 +1,17 @@
 //! An entry as chunks keep it.
 
-ghost use Rattle.std.specs.Prelude.{◌≡◌, IfOk};
+ghost use Rattle.std.specs.Prelude.{◌≡◌, ◌+◌, IfOk};
 
 use crate::keyed::Keyed;
 use crate::lead::{Lead, compare_leads};
-use crate::share::Share;
+use dz_steps::Steps;
 use std::alloc::{AllocError, Global};
 use std::cmp::Ordering;
 use std::marker::{Model, PhantomData};
 use std::sync::Arc;
+use std::sync::ledger::Ledger;
 
-/// A value, which maps share, behind the first octets of its key. Contracts see it behind its key.
+/// A value, which maps share, after the first octets of its key. Contracts see it with its key.
 #[derive(Drop)]
 pub struct Entry<K: Lead, V: Keyed<K>> {
     lead: [u8; 16],
@@ -43,6 +44,20 @@ impl<K: Lead + Copy, V: Keyed<K>> Entry<K, V> {
         })
     }
 
+    /// The same entry once more: a second owner of the value, and the one way to it. It is one step. The error is want of
+    /// memory.
+    pub fn copied<L: Ledger>(&self, steps: &mut Steps<L>) -> Result<Entry<K, V>, AllocError>
+        ensures copied { IfOk result (λ entry. entry ≡ self.now) }
+        ensures counted { steps.new ≡ steps.old + 1 }
+    {
+        steps.tick();
+        Ok(Entry {
+            lead: self.lead,
+            value: Arc::try_clone(&self.value)?,
+            key: PhantomData,
+        })
+    }
+
     /// The first octets of the key.
     pub(crate) fn lead(&self) -> [u8; 16]
         ensures { result ≡ K.lead self.now.0 }
@@ -58,7 +73,7 @@ impl<K: Lead + Copy, V: Keyed<K>> Entry<K, V> {
         &self.value
     }
 
-    /// How the key stands to another one. The value is read only where the first octets are alike.
+    /// How the key compares with another one. The value is read only where the first octets are alike.
     #[inline(always)]
     pub(crate) fn compare(&self, key: &K) -> Ordering
         ensures { result ≡ K.Ord.cmp self.now.0 key.now }
@@ -69,22 +84,11 @@ impl<K: Lead + Copy, V: Keyed<K>> Entry<K, V> {
         }
     }
 
-    /// The same by the value. It stands apart, so that a loop over first octets is short.
+    /// The same by the value. It is apart, so that a loop over first octets is short.
     #[inline(never)]
     fn compare_value(&self, key: &K) -> Ordering
         ensures { result ≡ K.Ord.cmp self.now.0 key.now }
     {
         self.value.compare(key)
-    }
-}
-
-impl<K: Lead, V: Keyed<K>> Share for Entry<K, V> {
-    /// One more reference to the value.
-    fn share(&self) -> Result<Entry<K, V>, AllocError> {
-        Ok(Entry {
-            lead: self.lead,
-            value: Arc::try_clone(&self.value)?,
-            key: PhantomData,
-        })
     }
 }

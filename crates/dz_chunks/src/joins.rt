@@ -1,9 +1,12 @@
 //! Chunks with other entries in place of one: split where they are too many, joined with a neighbour where they are few.
 
 ghost use Rattle.std.specs.Prelude.{◌≡◌, ℕ, ◌+◌, ◌-◌, ◌<◌, ◌≤◌, List, [], ◌∷◌, ◌++◌, length, take, drop, map, OnOk, IfOk};
-ghost use Rattle.dz_chunks.specs.inner.Chunked.{flat, length_at, length_before, AreChunks};
+ghost use Rattle.dz_chunks.specs.Chunked.{flat, AreChunks};
+ghost use Rattle.dz_chunks.specs.inner.Chunked.{length_at, length_before};
 
-use crate::chunk::{CHUNK, Chunk, copy_chunks, length_at, length_before, push_chunk};
+use crate::among::{copy_chunks, length_at, length_before, push_chunk};
+use crate::chunk::{CHUNK, Chunk};
+use crate::copies::Copies;
 use crate::entries::copy_entries;
 use crate::entry::Entry;
 use crate::keyed::Keyed;
@@ -16,14 +19,14 @@ use std::sync::ledger::Ledger;
 /// The first part of a split.
 const HALF: usize = 64;
 
-/// Entries, and the place in front of which, or behind which, they stand.
+/// Entries, and the place before which, or after which, they are.
 #[derive(Drop)]
 struct Part<K: Lead, V: Keyed<K>> {
     place: usize,
     entries: Vec<Entry<K, V>>,
 }
 
-/// Copies of entries in front of others.
+/// Copies of entries before others.
 fn prepended<K: Lead + Copy, V: Keyed<K> + Drop, L: Ledger>(
     alloc: Global,
     first: &[Entry<K, V>],
@@ -74,7 +77,7 @@ fn joined_before<K: Lead + Copy, V: Keyed<K> + Drop, L: Ledger>(
     })
 }
 
-/// Entries together with the chunk at a place behind them, if they are fewer than 128 together.
+/// Entries together with the chunk at a place after them, if they are fewer than 128 together.
 fn joined_behind<K: Lead + Copy, V: Keyed<K> + Drop, L: Ledger>(
     chunks: &[Chunk<K, V>],
     at: usize,
@@ -132,12 +135,12 @@ fn without_chunk<K: Lead + Copy, V: Keyed<K> + Drop, L: Ledger>(
 }
 
 /// The chunks with these entries in place of one, joined with its neighbours where they are few.
-fn with_chunk<K: Lead + Copy, V: Keyed<K> + Drop, L: Ledger>(
+fn with_chunk<K: Lead + Copy, V: Keyed<K> + Drop, E: Ledger, R: Ledger>(
     alloc: Global,
     chunks: &[Chunk<K, V>],
     at: usize,
     entries: Vec<Entry<K, V>>,
-    steps: &mut Steps<L>,
+    copies: &mut Copies<E, R>,
 ) -> Result<Vec<Chunk<K, V>>, AllocError>
     requires within { at < length chunks.now }
     requires sized { AreChunks chunks.now }
@@ -148,25 +151,26 @@ fn with_chunk<K: Lead + Copy, V: Keyed<K> + Drop, L: Ledger>(
         ≡ flat (take at chunks.now) ++ (entries.items
         ++ flat (drop (at + 1) chunks.now))) }
     ensures sized { IfOk result (λ v. AreChunks v.items) }
-    ensures cost { steps.new ≤ steps.old + (128 + length chunks.now) }
+    ensures entry_cost { copies.new.entries ≤ copies.old.entries + 128 }
+    ensures reference_cost { copies.new.references ≤ copies.old.references + length chunks.now }
 {
-    let before = joined_before(alloc, chunks, at, entries, steps)?;
-    let behind = joined_behind(chunks, at + 1, before.entries, steps)?;
-    let mut copies = Vec::with_capacity(alloc, chunks.len())?;
-    copy_chunks(&mut copies, &chunks[..before.place], steps)?;
-    push_chunk(alloc, &mut copies, behind.entries)?;
-    copy_chunks(&mut copies, &chunks[behind.place..], steps)?;
-    Ok(copies)
+    let before = joined_before(alloc, chunks, at, entries, &mut copies.entries)?;
+    let behind = joined_behind(chunks, at + 1, before.entries, &mut copies.entries)?;
+    let mut made = Vec::with_capacity(alloc, chunks.len())?;
+    copy_chunks(&mut made, &chunks[..before.place], &mut copies.references)?;
+    push_chunk(alloc, &mut made, behind.entries)?;
+    copy_chunks(&mut made, &chunks[behind.place..], &mut copies.references)?;
+    Ok(made)
 }
 
 /// The chunks with 129 entries in place of one: split into 64 and 65, each of which is joined with its neighbour where
 /// they are few.
-fn with_split<K: Lead + Copy, V: Keyed<K> + Drop, L: Ledger>(
+fn with_split<K: Lead + Copy, V: Keyed<K> + Drop, E: Ledger, R: Ledger>(
     alloc: Global,
     chunks: &[Chunk<K, V>],
     at: usize,
     entries: Vec<Entry<K, V>>,
-    steps: &mut Steps<L>,
+    copies: &mut Copies<E, R>,
 ) -> Result<Vec<Chunk<K, V>>, AllocError>
     requires within { at < length chunks.now }
     requires sized { AreChunks chunks.now }
@@ -176,17 +180,18 @@ fn with_split<K: Lead + Copy, V: Keyed<K> + Drop, L: Ledger>(
         ≡ flat (take at chunks.now) ++ (entries.items
         ++ flat (drop (at + 1) chunks.now))) }
     ensures sized { IfOk result (λ v. AreChunks v.items) }
-    ensures cost { steps.new ≤ steps.old + (128 + length chunks.now) }
+    ensures entry_cost { copies.new.entries ≤ copies.old.entries + 128 }
+    ensures reference_cost { copies.new.references ≤ copies.old.references + length chunks.now }
 {
     let (first, second) = halves(entries)?;
-    let before = joined_before(alloc, chunks, at, first, steps)?;
-    let behind = joined_behind(chunks, at + 1, second, steps)?;
-    let mut copies = Vec::with_capacity(alloc, chunks.len())?;
-    copy_chunks(&mut copies, &chunks[..before.place], steps)?;
-    push_chunk(alloc, &mut copies, before.entries)?;
-    push_chunk(alloc, &mut copies, behind.entries)?;
-    copy_chunks(&mut copies, &chunks[behind.place..], steps)?;
-    Ok(copies)
+    let before = joined_before(alloc, chunks, at, first, &mut copies.entries)?;
+    let behind = joined_behind(chunks, at + 1, second, &mut copies.entries)?;
+    let mut made = Vec::with_capacity(alloc, chunks.len().saturating_add(1))?;
+    copy_chunks(&mut made, &chunks[..before.place], &mut copies.references)?;
+    push_chunk(alloc, &mut made, before.entries)?;
+    push_chunk(alloc, &mut made, behind.entries)?;
+    copy_chunks(&mut made, &chunks[behind.place..], &mut copies.references)?;
+    Ok(made)
 }
 
 /// 129 entries split into 64 and 65.
@@ -200,16 +205,17 @@ fn halves<K: Lead + Copy, V: Keyed<K> + Drop>(
     ensures second { IfOk result (λ halves. halves.1.items ≡ drop 64 entries.items) }
 {
     let second = entries.split_off(HALF)?;
+    entries.shrink_to_fit();
     Ok((entries, second))
 }
 
-/// The chunks with these entries in place of those of one. A step is an entry or a reference copied.
-pub(crate) fn rebuilt<K: Lead + Copy, V: Keyed<K> + Drop, L: Ledger>(
+/// The chunks with these entries in place of those of one.
+pub(crate) fn rebuilt<K: Lead + Copy, V: Keyed<K> + Drop, E: Ledger, R: Ledger>(
     alloc: Global,
     chunks: &[Chunk<K, V>],
     at: usize,
     entries: Vec<Entry<K, V>>,
-    steps: &mut Steps<L>,
+    copies: &mut Copies<E, R>,
 ) -> Result<Vec<Chunk<K, V>>, AllocError>
     requires within { at < length chunks.now }
     requires sized { AreChunks chunks.now }
@@ -220,13 +226,14 @@ pub(crate) fn rebuilt<K: Lead + Copy, V: Keyed<K> + Drop, L: Ledger>(
         ≡ flat (take at chunks.now) ++ (entries.items
         ++ flat (drop (at + 1) chunks.now))) }
     ensures sized { IfOk result (λ v. AreChunks v.items) }
-    ensures cost { steps.new ≤ steps.old + (128 + length chunks.now) }
+    ensures entry_cost { copies.new.entries ≤ copies.old.entries + 128 }
+    ensures reference_cost { copies.new.references ≤ copies.old.references + length chunks.now }
 {
     if entries.is_empty() {
-        without_chunk(alloc, chunks, at, steps)
+        without_chunk(alloc, chunks, at, &mut copies.references)
     } else if entries.len() > CHUNK {
-        with_split(alloc, chunks, at, entries, steps)
+        with_split(alloc, chunks, at, entries, copies)
     } else {
-        with_chunk(alloc, chunks, at, entries, steps)
+        with_chunk(alloc, chunks, at, entries, copies)
     }
 }

@@ -14,7 +14,7 @@ pub trait Keyed<K: Lead> {
     fn key(&self) -> K
         ensures { result ≡ key self.now };
 
-    /// How the key stands to another one.
+    /// How the key compares with another one.
     fn compare(&self, asked: &K) -> Ordering
         ensures { result ≡ K.Ord.cmp (key self.now) asked.now };
 }

@@ -2,7 +2,10 @@
 
 ghost use Rattle.dz_chunks.specs.Laws.{FewChunks};
 
-/// So many entries stand in at most one chunk for each 64 of them and one more.
-pub fn few_chunks()
-    ensures { FewChunks }
+use crate::keyed::Keyed;
+use crate::lead::Lead;
+
+/// So many entries of a map are in at most one chunk for each 64 of them and one more.
+pub fn few_chunks<K: Lead, V: Keyed<K>>()
+    ensures { FewChunks (K × V) }
 {}

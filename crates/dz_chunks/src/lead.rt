@@ -7,7 +7,7 @@ ghost use Rattle.std.specs.declared.cmp.Ordering.TheVariants.{Equal};
 
 use std::cmp::Ordering;
 
-/// A key with first octets, which stand beside it in a map and tell most keys apart, so that few searches read keys.
+/// A key with first octets, which are beside it in a map and tell most keys apart, so that few searches read keys.
 pub trait Lead: Ord {
     /// The first octets.
     ghost lead: { Self → List ℕ };
@@ -16,7 +16,7 @@ pub trait Lead: Ord {
     fn lead(&self) -> [u8; 16]
         ensures { result ≡ lead self.now };
 
-    /// Where the first octets of two keys differ, the keys stand as these do.
+    /// Where the first octets of two keys differ, the keys compare as these do.
     ghost decides: { (a b : Self) → slice_cmp nat_cmp (lead a) (lead b) ≢ Equal
         → Self.Ord.cmp a b ≡ slice_cmp nat_cmp (lead a) (lead b) };
 
@@ -24,7 +24,7 @@ pub trait Lead: Ord {
     ghost one: { (a b : Self) → Self.Ord.cmp a b ≡ Equal → a ≡ b };
 }
 
-/// How first octets stand to others. They are compared as numbers, so that a search has no branch for each octet.
+/// How first octets compare with others. They are compared as numbers, so that a search has no branch for each octet.
 pub(crate) fn compare_leads(left: &[u8; 16], right: &[u8; 16]) -> Ordering
     ensures { result ≡ slice_cmp nat_cmp left.now right.now }
 {

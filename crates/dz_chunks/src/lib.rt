@@ -1,9 +1,11 @@
 //! A finite map in shared chunks: a changed map shares all but a few chunks with the map that it was made from.
 #![tactic(auto)]
 
+mod among;
 mod block;
 mod chunk;
 mod chunks;
+mod copies;
 mod cut;
 mod entries;
 mod entry;
@@ -15,6 +17,7 @@ mod share;
 mod walk;
 
 pub use chunks::Chunks;
+pub use copies::Copies;
 pub use entry::Entry;
 pub use keyed::Keyed;
 pub use laws::few_chunks;

@@ -2,7 +2,7 @@
 
 ghost use Rattle.std.specs.Prelude.{◌≡◌, List, [], ◌∷◌, map, MatchOption};
 ghost use Rattle.std.specs.Iterator.{YieldsFirstBy, item_count};
-ghost use Rattle.dz_chunks.specs.inner.Chunked.{flat, AreChunks};
+ghost use Rattle.dz_chunks.specs.Chunked.{flat, AreChunks};
 
 use crate::chunk::Chunk;
 use crate::entry::Entry;
@@ -21,7 +21,7 @@ pub struct Walk<'a, K: Lead, V: Keyed<K>> {
 
 impl<'a, K: Lead, V: Keyed<K>> Model for Walk<'a, K, V> {
     ghost use Rattle.std.specs.Prelude.{List, map, ◌++◌};
-    ghost use Rattle.dz_chunks.specs.inner.Chunked.{flat, AreChunks};
+    ghost use Rattle.dz_chunks.specs.Chunked.{flat, AreChunks};
 
     ghost Value = { List (K × V) };
 

@@ -2,7 +2,8 @@
 ghost use Rattle.std.specs.Prelude.{IfSome, Err};
 ghost use Rattle.dz_config.specs.Config.{Reads};
 
-use crate::config::read_config;
+use crate::config::{TEXT_OCTETS, read_config};
+use crate::entry::Found;
 use crate::fault::{ConfigError, ConfigFault};
 use crate::key::Key;
 use crate::keys::Place;
@@ -16,6 +17,14 @@ use toml::de::Error;
 pub enum Expected {
     /// TOML.
     Toml(Error),
+    /// A text of at most `TEXT_OCTETS` octets.
+    Shorter,
+    /// The table, which begins with two brackets.
+    TwoBrackets(Place),
+    /// A value of the kind that the key takes, in place of one of another kind.
+    Kind(Key, Found),
+    /// No such fault, whose line isn't known.
+    Without(ConfigFault),
     /// A key or a table that the place has.
     Known(Place),
     /// A value that the key takes.
@@ -44,38 +53,57 @@ impl fmt::Display for Advice {
     fn fmt<W: fmt::Write>(&self, f: &mut fmt::Formatter<W>) -> fmt::Result {
         let line = self.line;
         match self.expected {
-            Expected::Toml(error) => write!(f, "line {line}: this is no TOML: {}", error.message()),
-            Expected::Known(place) => write!(
-                f,
-                "line {line}: unknown key or table; expected {}",
-                place.keys()
-            ),
-            Expected::Value(key) => write!(
-                f,
-                "line {line}: {}: expected {}",
-                key.name(),
-                key.takes()
-            ),
-            Expected::Present(key) => write!(
-                f,
-                "line {line}: {} is missing: expected {}",
-                key.name(),
-                key.takes()
-            ),
-            Expected::Within => write!(
-                f,
-                "line {line}: expected 1 to 8 catalogs, at most 64 groups in each, 1 to 8 primaries in each, and at most 16 downstream addresses"
-            ),
-            Expected::Once => write!(
-                f,
-                "line {line}: expected each catalog once, and in each each word once"
-            ),
-            Expected::Secrets => write!(
-                f,
-                "line {line}: expected each secret to be {}",
-                Key::Secret.takes()
-            ),
+            Expected::Without(fault) => write!(f, "at a line that isn't known: {}", wrong(fault)),
+            expected => write!(f, "line {line}: {expected}"),
         }
+    }
+}
+
+impl fmt::Display for Expected {
+    /// Writes what was expected.
+    fn fmt<W: fmt::Write>(&self, f: &mut fmt::Formatter<W>) -> fmt::Result {
+        match *self {
+            Expected::Toml(error) => write!(f, "this is no TOML: {}", error.message()),
+            Expected::Shorter => write!(f, "the text has more than {TEXT_OCTETS} octets"),
+            Expected::TwoBrackets(place) => {
+                let header = place.header();
+                write!(f, "expected {header}, found one bracket on each side")
+            }
+            Expected::Known(place) => {
+                write!(f, "unknown key or table; expected {}", place.keys())
+            }
+            Expected::Kind(key, found) => {
+                let (name, takes, found) = (key.name(), key.takes(), found.name());
+                write!(f, "{name}: expected {takes}, found {found}")
+            }
+            Expected::Value(key) => write!(f, "{}: expected {}", key.name(), key.takes()),
+            Expected::Present(key) => {
+                write!(f, "{} is missing: expected {}", key.name(), key.takes())
+            }
+            Expected::Without(fault) => write!(f, "{}", wrong(fault)),
+            Expected::Within => write!(f, "{WITHIN}"),
+            Expected::Once => write!(f, "expected each catalog once, and in each each word once"),
+            Expected::Secrets => { write!(f, "expected each secret to be {}", Key::Secret.takes()) }
+        }
+    }
+}
+
+/// What is told of counts.
+const WITHIN: &str =
+    "expected 1 to 8 catalogs, at most 64 groups in each, 1 to 8 primaries in each, and at most 16 downstream addresses";
+
+/// What is wrong in words.
+fn wrong(fault: ConfigFault) -> &'static str {
+    match fault {
+        ConfigFault::NotToml => "this is no TOML",
+        ConfigFault::UnknownKey => "a key or a table isn't known",
+        ConfigFault::MissingValue => "a key is missing, or its value is of another kind",
+        ConfigFault::BadName => "a name or a key's name is no domain name",
+        ConfigFault::UnknownPolicy => "a policy is none of \"off\", \"present\" and \"require\"",
+        ConfigFault::BadPeer => "an address is none of IPv4, or its port is wrong",
+        ConfigFault::OutOfLimits => WITHIN,
+        ConfigFault::Twice => "a catalog, or a word of a catalog, appears twice",
+        ConfigFault::BadSecret => "a secret isn't 1 to 64 octets in hexadecimal",
     }
 }
 
@@ -86,6 +114,10 @@ pub fn advise(alloc: Global, text: &[u8]) -> Option<Advice>
 {
     match read_config(alloc, text) {
         Ok(_) | Err(ConfigError::OutOfMemory) => None,
+        Err(ConfigError::Fault(ConfigFault::NotToml)) if text.len() > TEXT_OCTETS => Some(Advice {
+            line: 1,
+            expected: Expected::Shorter,
+        }),
         Err(ConfigError::Fault(ConfigFault::NotToml)) => of_toml(alloc, text),
         Err(ConfigError::Fault(fault)) => of_lines(text, fault),
     }
@@ -137,9 +169,11 @@ fn of_lines(text: &[u8], fault: ConfigFault) -> Option<Advice> {
     reading.missing().or(Some(Advice {
         line: 1,
         expected: match fault {
+            ConfigFault::OutOfLimits => Expected::Within,
+            ConfigFault::MissingValue => Expected::Within,
             ConfigFault::Twice => Expected::Once,
             ConfigFault::BadSecret => Expected::Secrets,
-            _ => Expected::Within,
+            fault => Expected::Without(fault),
         },
     }))
 }

@@ -4,12 +4,21 @@ use dz_name::Name;
 use dz_settings::{SECRET_OCTETS, is_word, read_host, read_peer, read_policy};
 
 impl Place {
-    /// The table that a line in brackets begins; none where it isn't known.
-    pub(crate) fn of_header(line: &str) -> Option<Place> {
-        match line.trim_ascii() {
-            "[[catalog]]" => Some(Place::Catalog),
-            "[[catalog.group]]" => Some(Place::Group),
+    /// The table whose name this is; none where it isn't known.
+    pub(crate) fn of_name(name: &str) -> Option<Place> {
+        match name.trim_ascii() {
+            "catalog" => Some(Place::Catalog),
+            "catalog.group" => Some(Place::Group),
             _ => None,
+        }
+    }
+
+    /// The line that begins it.
+    pub(crate) fn header(self) -> &'static str {
+        match self {
+            Place::Document => "a key",
+            Place::Catalog => "[[catalog]]",
+            Place::Group => "[[catalog.group]]",
         }
     }
 
@@ -81,6 +90,11 @@ impl Key {
                 "1 to 64 octets in hexadecimal in quotes; base64, as other servers write it, is converted by base64 -d | xxd -p -c 256",
             Key::Word => "1 to 255 octets of visible ASCII in quotes",
         }
+    }
+
+    /// Whether it takes a list of texts, and not one text.
+    pub(crate) fn is_list(self) -> bool {
+        matches!(self, Key::Primaries | Key::Downstream)
     }
 
     /// Whether a text in quotes is one that it takes.

@@ -18,6 +18,7 @@ mod tree;
 pub use advice::{Advice, Expected, advise};
 pub use config::{TEXT_OCTETS, read_config, read_downstream};
 pub use downstream::{DOWNSTREAM, Downstream};
+pub use entry::Found;
 pub use fault::{ConfigError, ConfigFault};
 pub use kept::Kept;
 pub use key::Key;

@@ -1,6 +1,6 @@
 //! The lines of a configuration, one after the other.
 use crate::advice::{Advice, Expected};
-use crate::entry::{Entry, is_well};
+use crate::entry::{Entry, Found, is_well};
 use crate::key::Key;
 use crate::keys::Place;
 
@@ -45,6 +45,10 @@ impl Lines {
                 self.begin(place, line);
                 missing
             }
+            Entry::OneBracket(place) => Some(Advice {
+                line,
+                expected: Expected::TwoBrackets(place),
+            }),
             Entry::Unknown => Some(Advice {
                 line,
                 expected: Expected::Known(self.place),
@@ -52,7 +56,7 @@ impl Lines {
             Entry::Value(key, text) => {
                 self.key = Some(key);
                 self.mark(key);
-                judged(line, key, text)
+                kind_of(line, key, text).or(judged(line, key, text))
             }
             Entry::Rest(text) => judged(line, self.key?, text),
         }
@@ -102,9 +106,27 @@ impl Lines {
     }
 }
 
+/// What is to be corrected where a value is of another kind than the key takes; none where it is of that kind.
+fn kind_of(line: usize, key: Key, text: &str) -> Option<Advice> {
+    let found = Found::of(text);
+    let takes = if key.is_list() {
+        Found::List
+    } else {
+        Found::Text
+    };
+    if found == takes {
+        return None;
+    }
+    Some(Advice {
+        line,
+        expected: Expected::Kind(key, found),
+    })
+}
+
 /// What is to be corrected where a text isn't one that the key takes; none where it is.
 fn judged(line: usize, key: Key, text: &str) -> Option<Advice> {
-    if is_well(key, text) {
+    let is_empty = key == Key::Primaries && text == "[]";
+    if is_well(key, text) && !is_empty {
         None
     } else {
         Some(Advice {

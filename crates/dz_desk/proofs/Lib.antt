@@ -1,3 +1,4 @@
 pub mod LedgerLemmas
 pub mod PrefixLemmas
 pub mod RuleLemmas
+mod KindLemmas

@@ -19,15 +19,15 @@ seen_later : (seen : Option Page) (x y : Page) → WasSeen seen x → Goes x y �
 seen_later None x y was goes = tt
 seen_later (Some page) x y was goes = goes_trans page x y was goes
 
-keeps_later : (x y : Page) (seats : List (Option Page)) → Keeps x seats → Goes x y → Keeps y seats
+pub keeps_later : (x y : Page) (seats : List (Option Page)) → Keeps x seats → Goes x y → Keeps y seats
 keeps_later x y seats keeps goes n seen at = seen_later seen x y (keeps n seen at) goes
 
 -- ---- a seat that comes to see what fits, and a further seat
-seat_sees : (x : Page) (seats : List (Option Page)) (n : ℕ) (seen : Option Page) → Keeps x seats → WasSeen seen x → Keeps x (set seats n seen)
+pub seat_sees : (x : Page) (seats : List (Option Page)) (n : ℕ) (seen : Option Page) → Keeps x seats → WasSeen seen x → Keeps x (set seats n seen)
 seat_sees x seats n seen keeps fits j other at =
     ⊎_elim (λ (own : (j ≡ n) × (seen ≡ other)). subst (λ (o : Option Page). WasSeen o x) own.1 fits) (λ (else : (j ≢ n) × (get_elem? seats j ≡ some other)). keeps j other else.1) (at_set seats n j seen other at)
 
-seat_more : (x : Page) (seats : List (Option Page)) (seen : Option Page) → Keeps x seats → WasSeen seen x → Keeps x (seats ++ seen ∷ [])
+pub seat_more : (x : Page) (seats : List (Option Page)) (seen : Option Page) → Keeps x seats → WasSeen seen x → Keeps x (seats ++ seen ∷ [])
 seat_more x seats seen keeps fits j other at = ⊎_elim (keeps j other) (λ (own : seen ≡ other). subst (λ (o : Option Page). WasSeen o x) own fits) (at_snoc seats seen other j at)
 
 -- ---- the steps

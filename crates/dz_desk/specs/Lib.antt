@@ -1,4 +1,5 @@
 pub mod Hearing
+pub mod Kinds
 pub mod Rule
 pub mod Seen
 pub mod Steps

@@ -32,6 +32,10 @@ pub record Viewed : Type 0 where
 abbrev pub IsFresh : Book → Viewed → Type 0
 IsFresh book r = (r.list ≡ []) × (r.is_out ≡ false) × (r.sights ≡ 0) × (r.refusals ≡ 0) × (r.book ≡ book)
 
+-- a reading of this book, of which no sight is out
+abbrev pub IsAtRest : Book → Viewed → Type 0
+IsAtRest book r = (r.is_out ≡ false) × (r.book ≡ book)
+
 -- a page is continued by another: of the same book, with a list that begins with its own
 abbrev pub Goes : Page → Page → Type 0
 Goes x y = IsPrefix x.list y.list × (y.book ≡ x.book)

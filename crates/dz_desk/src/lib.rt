@@ -14,7 +14,7 @@ mod show;
 mod told;
 
 pub use ear::{Ear, Hearing};
-pub use laws::steps_keep;
+pub use laws::{each_keeps, steps_keep};
 pub use open::{Desk, DeskError, open_desk};
 pub use publisher::Publisher;
 pub use reading::{Reading, Sight};

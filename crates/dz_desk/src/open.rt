@@ -1,7 +1,7 @@
 //! Opening a desk.
 
 ghost use Rattle.std.specs.Prelude.{◌≡◌, ◌<◌, [], None, length, All, IfOk};
-ghost use Rattle.dz_desk.specs.Seen.{IsFresh};
+ghost use Rattle.dz_desk.specs.Seen.{IsFresh, IsAtRest};
 
 use crate::board::Look;
 use crate::edition::Edition;
@@ -38,6 +38,7 @@ pub fn open_desk<R: Wait>(rt: &R, alloc: Global, readers: u8) -> Result<Desk, De
     ensures staged { IfOk result (λ desk. desk.publisher.staged ≡ None) }
     ensures count { IfOk result (λ desk. length desk.readings.items ≡ readers) }
     ensures fresh { IfOk result (λ desk. All (IsFresh desk.publisher.book) desk.readings.items) }
+    ensures rest { IfOk result (λ desk. All (IsAtRest desk.publisher.book) desk.readings.items) }
 {
     let Ok(publisher) = open_publisher(rt, alloc, readers) else {
         return Err(DeskError::OutOfMemory);

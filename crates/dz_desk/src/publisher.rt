@@ -1,10 +1,11 @@
 //! The end that publishes.
 
-ghost use Rattle.std.specs.Prelude.{◌≡◌, ◌+◌, ◌-◌, ◌^◌, ◌<◌, [], ◌∷◌, ◌++◌, length, Some, None, IsSome, IfOk, IfErr};
+ghost use Rattle.std.specs.Prelude.{◌≡◌, ◌+◌, ◌-◌, ◌^◌, ◌<◌, [], ◌∷◌, ◌++◌, length, Some, None, IsSome, IfOk};
 ghost use mathlib.Core.List.{IsPrefix};
 ghost use Rattle.dz_history.specs.After.{after};
 ghost use Rattle.dz_history.specs.Legal.{IsLegal};
 ghost use Rattle.dz_desk.specs.Seen.{page, IsFresh};
+ghost use Rattle.dz_desk.specs.inner.Ledger.{length_of};
 
 use crate::board::Note;
 use crate::edition::Edition;
@@ -12,7 +13,7 @@ use crate::ledger::Length;
 use crate::reading::Reading;
 use crate::show::{Showing, show};
 use crate::told::Told;
-use dz_history::Step;
+use dz_history::{Entry, Step};
 use std::alloc::AllocError;
 use std::marker::Model;
 use std::sync::Wait;
@@ -22,7 +23,7 @@ use std::sync::Wait;
 pub struct Publisher {
     pub(crate) writer: Showing,
     pub(crate) word: Length,
-    pub(crate) staged: Option<Edition>,
+    pub(crate) staged: Option<Step>,
 }
 
 impl Model for Publisher {
@@ -59,25 +60,16 @@ impl Publisher {
         self.writer.published().told().count()
     }
 
-    /// Puts a step in place, to be published next. The step comes back, and nothing has changed, where the list isn't
-    /// as long as this publisher left it, which can't come about at run time.
-    pub fn stage(&mut self, step: Step) -> Result<(), Step>
+    /// Puts a step in place, to be published next. It takes no memory.
+    pub fn stage(&mut self, step: Step)
         requires free { self.old.staged ≡ None }
         requires room { length self.old.list < 2 ^ 64 - 1 }
         requires legal { IsLegal (self.old.list ++ step.entry ∷ []) }
         requires table { step.table.value ≡ (after (self.old.list ++ step.entry ∷ [])).table }
-        ensures staged { IfOk result
-            (λ _. self.new ≡ record self.old { staged = Some (self.old.list ++ step.entry ∷ []) }) }
-        ensures back { IfErr result (λ back. (back ≡ step) × (self.new ≡ self.old)) }
+        ensures { self.new
+            ≡ record self.old { staged = Some (self.old.list ++ step.entry ∷ []) } }
     {
-        let told = self.writer.published().told();
-        let Some(next) = told.and(&self.word, &step.entry) else {
-            return Err(step);
-        };
-        let Step { entry, table } = step;
-        drop(entry);
-        self.staged = Some(Edition::new(table, next));
-        Ok(())
+        self.staged = Some(step);
     }
 
     /// Publishes the step that is staged, and gives a note of the list. It waits for readings whose sight is older than
@@ -89,10 +81,11 @@ impl Publisher {
         ensures rest { self.new ≡ record self.old { list = self.new.list; staged = None } }
         ensures told { result ≡ page self.new.list self.new.book }
     {
-        let Some(next) = self.staged.take() else {
+        let Some(Step { entry, table }) = self.staged.take() else {
             unreachable!()
         };
-        show(rt, &mut self.writer, next);
+        let next = enter(rt, self.writer.published().told(), &self.word, &entry);
+        show(rt, &mut self.writer, Edition::new(table, next));
         self.tell()
     }
 
@@ -112,4 +105,20 @@ impl Publisher {
         } = self;
         drop(writer.take(rt));
     }
+}
+
+/// Appends an entry to the list of a note. The book has the list's length, since one publisher alone appends to it, but
+/// nothing proves that here: where it has another, it tries again.
+fn enter<R: Wait>(rt: &R, told: &Told, word: &Length, entry: &Entry) -> Told
+    requires own { word.now ≡ length_of told.now.book }
+    requires room { length told.now.list < 2 ^ 64 - 1 }
+    requires legal { IsLegal (told.now.list ++ entry.now ∷ []) }
+    ensures { result ≡ page (told.now.list ++ entry.now ∷ []) told.now.book }
+{
+    'lengths: for _ in rt.forever() {
+        if let Some(next) = told.and(word, entry) {
+            return next;
+        }
+    }
+    unreachable!()
 }

@@ -1,11 +1,14 @@
 //! The bell that wakes the workers that rest.
+use crate::kind::Kind;
 use crate::notifies::Notifies;
 use crate::stop::Stop;
-use std::fs::Files;
+use std::alloc::Global;
+use std::fs::{File, Files};
 use std::sync::{Condvar, CondvarTimeouts, Mutex, Wait};
 use std::time::{Clock, Duration};
 
-/// What the devices and clocks of a server share: a bell, whether the server is to stop, and the NOTIFYs that wait.
+/// What the devices and clocks of a server share: a bell, whether the server is to stop, which devices work, and the
+/// NOTIFYs.
 ///
 /// The bell rings where a NOTIFY was taken, where a worker has found work, and where the server is to stop. A worker
 /// that rests remembers how often it had rung when the worker last went on, so it misses no ring.
@@ -16,16 +19,22 @@ pub struct Bell {
     turned: Condvar,
     stop: Stop,
     pub(crate) notifies: Notifies,
+    /// The sockets for UDP.
+    pub(crate) datagrams: Kind,
+    /// The acceptors.
+    pub(crate) acceptors: Kind,
 }
 
 impl Bell {
     /// A bell that has never rung, of a server that isn't to stop.
-    pub fn new() -> Bell {
+    pub fn new(alloc: Global) -> Bell {
         Bell {
             rung: Mutex::new(0),
             turned: Condvar::new(),
             stop: Stop::new(),
-            notifies: Notifies::new(),
+            notifies: Notifies::new(alloc),
+            datagrams: Kind::new("UDP"),
+            acceptors: Kind::new("TCP"),
         }
     }
 
@@ -63,8 +72,15 @@ impl Bell {
         self.ring(rt);
     }
 
+    /// A device of a kind has failed for good. After the last one the server is to stop: it would answer no more.
+    pub(crate) fn lose<R: Wait>(&self, rt: &R, kind: &Kind) {
+        if kind.lose() {
+            self.stop(rt);
+        }
+    }
+
     /// Whether the server is to stop, as it is from now on where SIGHUP, SIGINT or SIGTERM is pending.
-    pub(crate) fn look<R: Wait + Files>(&self, rt: &R) -> bool {
+    pub(crate) fn look<R: Wait + Files<File = File>>(&self, rt: &R) -> bool {
         if self.stop.is_set() {
             return true;
         }

@@ -5,10 +5,16 @@ use dz_io::Peer;
 use mio::net::TcpStream;
 use std::alloc::Global;
 use std::io::{ErrorKind, Read, Write};
-use std::mem::swap;
+use std::mem::{replace, swap};
 
-/// After how many seconds without a whole frame, or without progress in sending, a connection is closed.
+/// After how many seconds without a message, or without progress in sending, a connection is closed.
 const LIMIT_SECONDS: u64 = 10;
+
+/// A room for a part of a frame that has more octets is given back once it is empty.
+const HELD_OCTETS: usize = 4096;
+
+/// At most so many octets of replies that wait are copied, so that the worker keeps its room.
+const COPIED_OCTETS: usize = 81_921;
 
 /// A TCP connection that a client has made, whose calls don't wait.
 #[derive(Drop)]
@@ -25,10 +31,12 @@ pub(crate) struct Connection {
     sent: usize,
     ghost taken: { sent ≤ vec_len unsent },
     alloc: Global,
-    /// The second of its last whole frame, or of its last progress in sending.
+    /// The second of its last message, or of its last progress in sending.
     seen: u64,
     /// It is in the queue for a turn.
     pub is_queued: bool,
+    /// What it holds begins with a NOTIFY that is kept back.
+    pub is_kept_back: bool,
     /// The system has told that the client sends no more, or that the connection is broken.
     pub is_ending: bool,
     /// It has been read to its end.
@@ -56,17 +64,23 @@ impl Connection {
             alloc,
             seen: now,
             is_queued: false,
+            is_kept_back: false,
             is_ending: false,
             is_at_end: false,
         }
     }
 
-    /// Notes that a whole frame came in this second.
+    /// Notes that a message came in this second.
     pub fn mark(&mut self, now: u64) {
         self.seen = now;
     }
 
-    /// The second of its last whole frame, or of its last progress in sending.
+    /// The octets that it holds.
+    pub fn held(&self) -> &[u8] {
+        self.held.as_slice()
+    }
+
+    /// The second of its last message, or of its last progress in sending.
     pub fn seen(&self) -> u64 {
         self.seen
     }
@@ -116,8 +130,8 @@ impl Connection {
         true
     }
 
-    /// Sends the replies of a turn, beside which nothing waits. Where the socket doesn't take all, their room moves
-    /// here, and an empty one is left in its place. It answers whether the connection is still up.
+    /// Sends the replies of a turn, beside which nothing waits. Where the socket doesn't take all, they are kept here. The
+    /// room of a zone's stream moves here with them, and an empty one is left in its place. It answers whether the connection is still up.
     pub fn send(&mut self, replies: &mut Vec<u8>) -> bool
         ensures { vec_len self.new.unsent + vec_len replies.new
             ≡ vec_len self.old.unsent + vec_len replies.old }
@@ -127,14 +141,34 @@ impl Connection {
         };
         if count < replies.len() {
             swap(&mut self.unsent, replies);
+            if replies.is_empty() && self.unsent.len() <= COPIED_OCTETS {
+                self.give_back_room(replies);
+            }
             self.sent = count;
         }
         true
     }
 
+    /// Copies the replies that wait, where there is memory for it, and gives their room back in place of none.
+    fn give_back_room(&mut self, none: &mut Vec<u8>)
+        requires { vec_len none.old ≡ 0 }
+        ensures none { vec_len none.new ≡ 0 }
+        ensures length { vec_len self.new.unsent ≡ vec_len self.old.unsent }
+        ensures sent { self.new.sent ≡ self.old.sent }
+    {
+        if self.unsent.is_empty() {
+            return;
+        }
+        if let Ok(copy) = self.unsent.as_slice().to_vec(self.alloc) {
+            let mut room = replace(&mut self.unsent, copy);
+            room.clear();
+            *none = room;
+        }
+    }
+
     /// Keeps octets that were read, after those that it holds. It answers whether there was memory for them.
     pub fn keep(&mut self, octets: &[u8]) -> bool {
-        octets.is_empty() || self.held.extend_from_slice(octets).is_ok()
+        self.held.reserve_exact(octets.len()).is_ok() && self.held.extend_from_slice(octets).is_ok()
     }
 
     /// Moves what it holds to the front of the room, and reads once into the room after it.
@@ -146,6 +180,9 @@ impl Connection {
         let (front, back) = room.split_at_mut(before);
         front.copy_from_slice(self.held.as_slice());
         self.held.clear();
+        if self.held.capacity() > HELD_OCTETS {
+            self.held = Vec::new(self.alloc);
+        }
         match self.read(back) {
             Some((count, more)) => Fetched::Octets {
                 total: before.saturating_add(count),

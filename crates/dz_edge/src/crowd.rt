@@ -4,10 +4,17 @@ ghost use Rattle.dz_edge.specs.Waiting.{waits_at, waiting_at};
 ghost use Rattle.dz_edge.specs.declared.waiting.TheConstants.{WAITING_OCTETS};
 
 use crate::connection::Connection;
+use crate::replies::ROOM_OCTETS;
 use crate::waiting::Waiting;
 use std::alloc::{AllocError, Global};
 use std::collections::VecDeque;
 use std::mem::replace;
+
+/// How many connections of one address a worker has at most: 100 of a server with two workers.
+const ADDRESS_CONNECTIONS: usize = 50;
+
+/// How many octets of replies to queries wait at a worker: 32,000,000 of a server with two workers.
+const QUERY_OCTETS: usize = 16_000_000;
 
 /// The connections of a worker, each at a place of its own, and the queue of those that are to have a turn. The place
 /// of the connection that has a turn is empty meanwhile, and isn't free.
@@ -18,6 +25,8 @@ pub(crate) struct Crowd {
     queue: VecDeque<usize>,
     /// The places of connections that ask for whole zones.
     for_zones: VecDeque<usize>,
+    /// The places of connections whose NOTIFY was kept back.
+    later: VecDeque<usize>,
     /// The octets that wait at all places together, which are never more than may wait.
     waiting: Waiting,
     ghost sum: { waiting.octets ≡ waiting_at places.items },
@@ -39,6 +48,7 @@ impl Crowd {
             free,
             queue: VecDeque::with_capacity(alloc, size)?,
             for_zones: VecDeque::with_capacity(alloc, size)?,
+            later: VecDeque::with_capacity(alloc, size)?,
             waiting: Waiting::new(),
         })
     }
@@ -58,13 +68,75 @@ impl Crowd {
         self.free.pop()
     }
 
-    /// Puts a connection back in its place. It is closed, and its place freed, where more would wait than may.
-    pub fn put(&mut self, place: usize, connection: Connection) {
-        if self.waiting.has_room(connection.waits()) {
-            let _gone = self.change(place, Some(connection));
-        } else {
+    /// Where an address has as many connections as it may, the oldest of them is closed.
+    pub fn make_room_for(&mut self, address: [u8; 4]) {
+        let mut count = 0_usize;
+        let mut oldest = u64::MAX;
+        let mut found = None;
+        'places: for (place, slot) in self.places.iter().enumerate() {
+            if let Some(connection) = slot {
+                if connection.peer.address == address {
+                    count = count.saturating_add(1);
+                    if connection.seen() < oldest {
+                        oldest = connection.seen();
+                        found = Some(place);
+                    }
+                }
+            }
+        }
+        if let (true, Some(place)) = (count >= ADDRESS_CONNECTIONS, found) {
+            self.release(place);
+        }
+    }
+
+    /// Puts a connection back in its place. It is closed, and its place freed, where more would wait than may. Where too
+    /// many replies to queries wait then, the connections that read least are closed. It answers whether the connection
+    /// is still there; its place is free otherwise.
+    pub fn put(&mut self, place: usize, connection: Connection) -> bool {
+        if !self.waiting.has_room(connection.waits()) {
             drop(connection);
             self.release(place);
+            return false;
+        }
+        let has_replies = waits_for_queries(&connection);
+        let _gone = self.change(place, Some(connection));
+        if has_replies {
+            self.bound_replies();
+        }
+        matches!(self.places.get(place), Some(Some(_)))
+    }
+
+    /// Closes the connections that read least, while more than `QUERY_OCTETS` of replies to queries wait.
+    fn bound_replies(&mut self) {
+        'places: for _ in 0..self.places.len() {
+            let Slow { octets, place } = self.slow();
+            match place {
+                Some(place) if octets > QUERY_OCTETS => self.release(place),
+                _ => break,
+            }
+        }
+    }
+
+    /// How many octets of replies to queries wait, and the place of the connection of them that reads least: whose last
+    /// progress is the oldest.
+    fn slow(&self) -> Slow {
+        let mut octets = 0_usize;
+        let mut oldest = u64::MAX;
+        let mut found = None;
+        'places: for (place, slot) in self.places.iter().enumerate() {
+            if let Some(connection) = slot {
+                if waits_for_queries(connection) {
+                    octets = octets.saturating_add(connection.waits());
+                    if connection.seen() < oldest {
+                        oldest = connection.seen();
+                        found = Some(place);
+                    }
+                }
+            }
+        }
+        Slow {
+            octets,
+            place: found,
         }
     }
 
@@ -122,6 +194,32 @@ impl Crowd {
                 connection.is_queued = self.for_zones.push_back(place).is_ok();
             }
         }
+    }
+
+    /// Queues the connection at a place for a little later.
+    pub fn queue_later(&mut self, place: usize) {
+        if place >= self.places.len() {
+            return;
+        }
+        if let Some(connection) = &mut self.places[place] {
+            if !connection.is_queued {
+                connection.is_queued = self.later.push_back(place).is_ok();
+            }
+        }
+    }
+
+    /// Queues the connections that were queued for a little later.
+    pub fn queue_held(&mut self) {
+        'places: for _ in 0..self.later.len() {
+            if let Some(place) = self.later.pop_front() {
+                let _queued = self.queue.push_back(place);
+            }
+        }
+    }
+
+    /// Whether a connection is queued for a little later.
+    pub fn has_later(&self) -> bool {
+        !self.later.is_empty()
     }
 
     /// Notes that the connection at a place ends, as the system has told.
@@ -191,8 +289,9 @@ impl Crowd {
         let was_clogged = connection.is_clogged();
         let stands = connection.flush(now) && !connection.is_late(now);
         let is_free = was_clogged && !connection.is_clogged();
-        self.put(place, connection);
-        if !stands {
+        if !self.put(place, connection) {
+            Look::Leave
+        } else if !stands {
             Look::Close
         } else if is_free {
             Look::Queue
@@ -210,6 +309,18 @@ fn octets_of(slot: &Option<Connection>) -> usize
         Some(connection) => connection.waits(),
         None => 0,
     }
+}
+
+/// Whether replies to queries wait at a connection. More than the room of a turn are the stream of a zone.
+fn waits_for_queries(connection: &Connection) -> bool {
+    connection.is_clogged() && connection.waits() <= ROOM_OCTETS
+}
+
+/// The replies to queries that wait, and who reads least.
+#[derive(Clone, Copy)]
+struct Slow {
+    octets: usize,
+    place: Option<usize>,
 }
 
 /// What is to be done with a connection.

@@ -3,6 +3,9 @@ ghost use Rattle.std.specs.Prelude.{◌≤◌, length, IfSome};
 
 use dz_name::dns::{HEADER_OCTETS, LABEL_OCTETS, LENGTH_OCTETS, MESSAGE_OCTETS};
 
+/// How many frames a turn has at most.
+const TURN_FRAMES: usize = 256;
+
 /// The most octets of a frame.
 pub(crate) const FRAME_OCTETS: usize = LENGTH_OCTETS + MESSAGE_OCTETS;
 
@@ -35,16 +38,35 @@ pub(crate) fn frame_end(octets: &[u8], at: usize) -> Option<usize>
     if end <= octets.len() { Some(end) } else { None }
 }
 
-/// Where the whole frames at the front of these octets end.
-pub(crate) fn whole_frames(octets: &[u8]) -> usize {
+/// The frames of a turn: where they end, and whether one of them isn't empty. An empty frame is no sign of life.
+#[derive(Clone, Copy)]
+pub(crate) struct TurnFrames {
+    pub end: usize,
+    pub is_alive: bool,
+}
+
+/// The whole frames at the front of these octets that a turn takes: `TURN_FRAMES` at most, and one that asks for a zone,
+/// or is a NOTIFY, only as the first.
+pub(crate) fn turn_frames(octets: &[u8]) -> TurnFrames {
     let mut at = 0_usize;
-    'frames: for _ in 0..octets.len() {
-        match frame_end(octets, at) {
-            Some(end) => at = end,
-            None => break,
+    let mut is_alive = false;
+    'frames: for _ in 0..TURN_FRAMES {
+        let Some(end) = frame_end(octets, at) else {
+            break;
+        };
+        let frames = octets.get(at..).unwrap_or(&[]);
+        if at > 0 && (asks_for_zone(frames) || begins_with_notify(frames)) {
+            break;
         }
+        is_alive = is_alive || end.saturating_sub(at) > LENGTH_OCTETS;
+        at = end;
     }
-    at
+    TurnFrames { end: at, is_alive }
+}
+
+/// Whether the first message of these frames is a NOTIFY that asks.
+pub(crate) fn begins_with_notify(frames: &[u8]) -> bool {
+    is_notify(frames.get(LENGTH_OCTETS..).unwrap_or(&[]))
 }
 
 /// Whether the first message of these frames has QTYPE AXFR, and so asks for a whole zone (RFC 5936 section 2.1).

@@ -5,7 +5,7 @@ use crate::Bell;
 use crate::watch::Watch;
 use dz_io::{Clock, Rest};
 use std::alloc::{AllocError, Global};
-use std::fs::Files;
+use std::fs::{File, Files};
 use std::sync::Wait;
 use std::thread::sleep;
 use std::time;
@@ -48,7 +48,7 @@ impl<'a, R> HostClock<'a, R> {
     }
 }
 
-impl<'a, R: time::Clock + Files + Wait> HostClock<'a, R> {
+impl<'a, R: time::Clock + Files<File = File> + Wait> HostClock<'a, R> {
     /// Waits for the bell, a second at most. The bell ends two such rests at least `BRAKE_MILLIS` milliseconds apart.
     fn wait(&mut self) {
         let (rt, bell) = (self.watch.rt, self.watch.bell);
@@ -74,7 +74,7 @@ impl<'a, R: time::Clock + Files + Wait> HostClock<'a, R> {
     }
 }
 
-impl<'a, R: time::Clock + Files + Wait> Clock for HostClock<'a, R> {
+impl<'a, R: time::Clock + Files<File = File> + Wait> Clock for HostClock<'a, R> {
     ghost may_give = { λ _ _. true };
 
     ghost may_stop = { λ _. true };

@@ -3,6 +3,7 @@
 ghost use Rattle.std.specs.Prelude.{◌≡◌, ◌≤◌, None, IfOk, length};
 ghost use Rattle.dz_io.specs.Counts.{HasRisen};
 
+use crate::Bell;
 use crate::survey::{Survey, look_over};
 use dz_disk::Disk;
 use dz_io::Failed;
@@ -10,6 +11,7 @@ use std::alloc::Global;
 use std::fs::{File, Files};
 use std::io::ErrorKind;
 use std::os::unix::fs::{FileExt, MetadataExt, OpenOptionsExt};
+use std::time::Clock;
 use std::{fs, io};
 
 /// How many times a read is tried that signals interrupt.
@@ -20,6 +22,7 @@ const TRIES: usize = 1000;
 #[derive(Drop)]
 pub struct HostDisk<'a, R> {
     rt: &'a R,
+    bell: &'a Bell,
     path: &'static str,
     file: Option<File>,
     is_lazy: bool,
@@ -27,12 +30,13 @@ pub struct HostDisk<'a, R> {
 }
 
 impl<'a, R: Files<File = File>> HostDisk<'a, R> {
-    /// A file at a path, which isn't opened yet.
-    pub fn new(rt: &'a R, path: &'static str) -> HostDisk<'a, R>
+    /// A file at a path, which isn't opened yet. The bell is told while the disk is at work.
+    pub fn new(rt: &'a R, bell: &'a Bell, path: &'static str) -> HostDisk<'a, R>
         ensures { result.faults ≡ 0 }
     {
         HostDisk {
             rt,
+            bell,
             path,
             file: None,
             is_lazy: false,
@@ -40,11 +44,12 @@ impl<'a, R: Files<File = File>> HostDisk<'a, R> {
         }
     }
 
-    /// A file that was just made at a path. Its syncs do nothing: nothing is on the disk for sure before
+    /// A file that was just made at a path beside this one. Its syncs do nothing: nothing is on the disk for sure before
     /// [`HostDisk::settle`].
-    pub(crate) fn lazy(rt: &'a R, path: &'static str, file: File) -> HostDisk<'a, R> {
+    pub(crate) fn beside(&self, path: &'static str, file: File) -> HostDisk<'a, R> {
         HostDisk {
-            rt,
+            rt: self.rt,
+            bell: self.bell,
             path,
             file: Some(file),
             is_lazy: true,
@@ -136,7 +141,7 @@ impl<'a, R: Files<File = File>> HostDisk<'a, R> {
     }
 }
 
-impl<'a, R: Files<File = File>> Disk for HostDisk<'a, R> {
+impl<'a, R: Clock + Files<File = File>> Disk for HostDisk<'a, R> {
     ghost use Rattle.std.proofs.lemmas.Option.{none-some};
 
     ghost file = { λ _. None };
@@ -159,7 +164,10 @@ impl<'a, R: Files<File = File>> Disk for HostDisk<'a, R> {
 
     /// Writes octets to the file; it fails where the file can't be opened or written.
     fn write_at(&mut self, at: u64, piece: &[u8]) -> Result<(), Failed> {
-        match self.write_file(at, piece) {
+        self.bell.notifies.work.begin(self.rt);
+        let written = self.write_file(at, piece);
+        self.bell.notifies.work.end();
+        match written {
             Ok(()) => Ok(()),
             Err(_) => Err(self.failed()),
         }
@@ -167,7 +175,10 @@ impl<'a, R: Files<File = File>> Disk for HostDisk<'a, R> {
 
     /// Puts what was written on the disk; it fails where the host does.
     fn sync(&mut self) -> Result<(), Failed> {
-        match self.sync_file() {
+        self.bell.notifies.work.begin(self.rt);
+        let synced = self.sync_file();
+        self.bell.notifies.work.end();
+        match synced {
             Ok(()) => Ok(()),
             Err(_) => Err(self.failed()),
         }

@@ -6,10 +6,16 @@ use crate::udp_datagrams::bind_udp;
 use crate::{Bell, TcpAcceptor, TcpDialer, UdpDatagrams};
 use dz_io::{Failed, Peer, Ports};
 use std::alloc::Global;
-use std::fs::Files;
+use std::fs::{File, Files};
+use std::io::Eprint;
 use std::net::{Net, TcpListener, TcpStream, UdpSocket};
 use std::sync::Wait;
 use std::time::Clock;
+
+/// What is told where `listen` has the address 0.0.0.0.
+const ANY_ADDRESS: &str =
+    "catzd: listen = \"0.0.0.0:..\": on a host with several addresses replies over UDP may leave \
+    from another than was asked, and are then lost; give the one address";
 
 /// What opens sockets. It tells neither where it opened them nor what came back. The devices of one kind at one address
 /// share a socket.
@@ -18,6 +24,8 @@ pub struct HostPorts<'a, R> {
     rt: &'a R,
     alloc: Global,
     bell: &'a Bell,
+    /// The address at which it opened last.
+    listen: Option<[u8; 4]>,
     socket: Option<(Peer, UdpSocket)>,
     listener: Option<(Peer, TcpListener)>,
     datagrams_out: u64,
@@ -38,6 +46,7 @@ impl<'a, R> HostPorts<'a, R> {
             rt,
             alloc,
             bell,
+            listen: None,
             socket: None,
             listener: None,
             datagrams_out: 0,
@@ -48,7 +57,25 @@ impl<'a, R> HostPorts<'a, R> {
     }
 }
 
-impl<'a, R: Net<Stream = TcpStream> + Clock + Files + Wait + Sync> Ports for HostPorts<'a, R> {
+impl<'a, R: Eprint + Files<File = File> + Wait> HostPorts<'a, R> {
+    /// Keeps the address at which devices listen, and looks once whether the server is to stop, so that what a look
+    /// needs is open from the start. The address 0.0.0.0 is told to be wrong.
+    fn begin(&mut self, listen: &Peer)
+        ensures datagrams { self.new.datagrams_out ≡ self.old.datagrams_out }
+        ensures acceptors { self.new.acceptors_out ≡ self.old.acceptors_out }
+        ensures dialers { self.new.dialers_out ≡ self.old.dialers_out }
+        ensures faults { self.new.faults ≡ self.old.faults }
+    {
+        let _stops = self.bell.look(self.rt);
+        if self.listen.is_none() && listen.address == [0; 4] {
+            let _ = self.rt.eprintln(ANY_ADDRESS);
+        }
+        self.listen = Some(listen.address);
+    }
+}
+
+impl<'a, R: Net<Stream = TcpStream> + Clock + Eprint + Files<File = File> + Wait + Sync> Ports
+    for HostPorts<'a, R> {
     type D = UdpDatagrams<'a, R>;
 
     type A = TcpAcceptor<'a, R>;
@@ -69,10 +96,12 @@ impl<'a, R: Net<Stream = TcpStream> + Clock + Files + Wait + Sync> Ports for Hos
         listen: &Peer,
         _worker: u8,
     ) -> Result<UdpDatagrams<'a, R>, Failed> {
+        self.begin(listen);
         let socket = share_socket(self.rt, &mut self.socket, listen);
         match (socket, self.datagrams_out.checked_add(1)) {
             (Some(socket), Some(out)) => {
                 self.datagrams_out = out;
+                self.bell.datagrams.open();
                 Ok(UdpDatagrams::new(self.rt, self.bell, socket))
             }
             _ => {
@@ -89,6 +118,7 @@ impl<'a, R: Net<Stream = TcpStream> + Clock + Files + Wait + Sync> Ports for Hos
         match (acceptor, self.acceptors_out.checked_add(1)) {
             (Some(acceptor), Some(out)) => {
                 self.acceptors_out = out;
+                self.bell.acceptors.open();
                 Ok(acceptor)
             }
             _ => {
@@ -103,7 +133,7 @@ impl<'a, R: Net<Stream = TcpStream> + Clock + Files + Wait + Sync> Ports for Hos
         match self.dialers_out.checked_add(1) {
             Some(out) => {
                 self.dialers_out = out;
-                Ok(TcpDialer::new(self.rt, self.bell))
+                Ok(TcpDialer::new(self.rt, self.bell, self.listen))
             }
             None => {
                 self.faults = self.faults.saturating_add(1);

@@ -1,128 +1,136 @@
-//! NOTIFYs that wait for the one before them.
+//! NOTIFYs, which are delivered at a pace.
 ghost use Rattle.std.specs.Prelude.{◌≤◌, length, IfSome};
 
+use crate::pacing::{NEVER, Pacing};
+use crate::work::{Work, has_log_room};
 use dz_io::Peer;
-use dz_name::dns::UDP_OCTETS;
-use std::sync::atomic::{AtomicBool, Ordering};
+use std::alloc::Global;
+use std::sync::atomic::{AtomicU64, Ordering};
 use std::sync::{Mutex, Wait};
 
-/// How many NOTIFYs wait at most.
-const PLACES: usize = 64;
+/// For how many milliseconds the log or the disk may be at work before NOTIFYs over UDP are held back.
+const WORK_MILLIS: u64 = 20;
 
-/// The NOTIFYs over UDP of all workers, of which one at a time has its session.
+/// After how many milliseconds the log is looked at again that takes no line.
+const LOOK_MILLIS: u64 = 20;
+
+/// The NOTIFYs of all workers: when each is delivered, and which of those over UDP has its session.
 ///
-/// A NOTIFY is heard under the lock under which transfers end and zones are kept on a disk, so its session may take as
-/// long as a disk does. As there is one such session at most, the other worker goes on with the queries.
+/// A NOTIFY is heard under the lock under which the log is written, transfers end and zones are kept on a disk. So its
+/// session may take as long as a reader of the log or a disk does. As there is one such session over UDP at most, the
+/// other worker goes on with the queries. And none begins while the log or the disk is slow.
 #[derive(Drop)]
 pub(crate) struct Notifies {
-    queue: Mutex<Queue>,
-    /// Whether some wait: what a worker looks at before each packet.
-    is_any: AtomicBool,
+    desk: Mutex<Desk>,
+    /// The first moment at which one that waits may be due: what a worker looks at before each packet.
+    soonest: AtomicU64,
+    /// Since when the log or the disk has been at work.
+    pub(crate) work: Work,
 }
 
-/// The NOTIFYs that wait, the oldest first.
+/// What is kept of NOTIFYs.
 #[derive(Drop)]
-struct Queue {
-    /// Whether a NOTIFY has its session.
+struct Desk {
+    /// Whether one that came over UDP has its session.
     is_heard: bool,
-    /// The place of the oldest.
-    first: usize,
-    count: usize,
-    places: [Waiter; PLACES],
-}
-
-/// A NOTIFY that waits, and its peer.
-#[derive(Clone, Copy)]
-struct Waiter {
-    peer: Peer,
-    length: usize,
-    octets: [u8; UDP_OCTETS],
+    pacing: Pacing,
 }
 
 impl Notifies {
     /// None has its session, and none waits.
-    pub fn new() -> Notifies {
-        let nobody = Waiter {
-            peer: Peer {
-                address: [0; 4],
-                port: 0,
-            },
-            length: 0,
-            octets: [0; UDP_OCTETS],
-        };
+    pub fn new(alloc: Global) -> Notifies {
         Notifies {
-            queue: Mutex::new(Queue {
+            desk: Mutex::new(Desk {
                 is_heard: false,
-                first: 0,
-                count: 0,
-                places: [nobody; PLACES],
+                pacing: Pacing::new(alloc),
             }),
-            is_any: AtomicBool::new(false),
+            soonest: AtomicU64::new(NEVER),
+            work: Work::new(),
         }
     }
 
-    /// A NOTIFY came from this peer. It answers whether its session begins. If another has its session, this one waits;
-    /// where no place is left, or it has more than 512 octets, it is dropped, and its primary will send it again.
-    pub fn begin<R: Wait>(&self, rt: &R, peer: &Peer, packet: &[u8]) -> bool {
-        let mut queue = self.queue.lock(rt);
-        if queue.is_heard {
-            queue.hold(peer, packet);
-            self.is_any.store(queue.count > 0, Ordering::SeqCst);
+    /// An address is that of a primary: it was dialled, or a NOTIFY from it was taken.
+    pub fn know<R: Wait>(&self, rt: &R, address: [u8; 4]) {
+        let mut desk = self.desk.lock(rt);
+        desk.pacing.know(u32::from_be_bytes(address));
+    }
+
+    /// A NOTIFY came from this peer over UDP. It answers whether its session begins. Otherwise the NOTIFY waits, in
+    /// place of one before it with the same question, or is dropped; then its primary sends it again.
+    pub fn begin<R: Wait>(&self, rt: &R, now: u64, peer: &Peer, packet: &[u8]) -> bool {
+        let mut desk = self.desk.lock(rt);
+        let source = u32::from_be_bytes(peer.address);
+        let is_known = desk.pacing.is_known(source);
+        if !is_known && desk.pacing.opens(source) > now {
             return false;
         }
-        queue.is_heard = true;
-        true
+        let is_free = !desk.is_heard && !self.work.lasts(now, WORK_MILLIS) && has_log_room();
+        if !is_known && !is_free {
+            return false;
+        }
+        let Some(place) = desk.pacing.place_of(peer, packet) else {
+            return false;
+        };
+        if is_free && desk.pacing.is_open(place, now) {
+            desk.pacing.deliver(place, now);
+            desk.is_heard = true;
+            return true;
+        }
+        let moment = desk.pacing.hold(place, peer, packet);
+        let soonest = self.soonest.load(Ordering::SeqCst);
+        self.soonest.store(soonest.min(moment), Ordering::SeqCst);
+        false
     }
 
-    /// The session of a NOTIFY has ended.
+    /// The session of a NOTIFY over UDP has ended.
     pub fn end<R: Wait>(&self, rt: &R) {
-        self.queue.lock(rt).is_heard = false;
+        self.desk.lock(rt).is_heard = false;
     }
 
-    /// The oldest NOTIFY that waits, at the beginning of the buffer, if no other has its session: how many octets it has,
-    /// and its peer. Its session begins.
-    pub fn next<R: Wait>(&self, rt: &R, buffer: &mut [u8]) -> Option<(usize, Peer)>
+    /// The next NOTIFY that waits and is due, at the beginning of the buffer: how many octets it has, and its peer. Its
+    /// session begins. None where none is due, another has its session, or the log or the disk is slow.
+    pub fn next<R: Wait>(&self, rt: &R, now: u64, buffer: &mut [u8]) -> Option<(usize, Peer)>
         ensures { IfSome result (λ found. found.0 ≤ length buffer.new) }
     {
-        if !self.is_any.load(Ordering::SeqCst) {
+        if self.soonest.load(Ordering::SeqCst) > now || self.work.lasts(now, WORK_MILLIS) {
             return None;
         }
-        let mut queue = self.queue.lock(rt);
-        if queue.is_heard {
+        let mut desk = self.desk.lock(rt);
+        if desk.is_heard {
             return None;
         }
-        let waiter = queue.oldest();
-        self.is_any.store(queue.count > 0, Ordering::SeqCst);
-        let waiter = waiter?;
-        queue.is_heard = true;
-        let count = waiter.length.min(UDP_OCTETS).min(buffer.len());
-        buffer[..count].copy_from_slice(&waiter.octets[..count]);
-        Some((count, waiter.peer))
-    }
-}
-
-impl Queue {
-    /// Puts a NOTIFY last, if there is room for it.
-    fn hold(&mut self, peer: &Peer, packet: &[u8]) {
-        if packet.len() > UDP_OCTETS || self.count >= PLACES {
-            return;
+        if !has_log_room() {
+            self.soonest
+                .store(now.saturating_add(LOOK_MILLIS), Ordering::SeqCst);
+            return None;
         }
-        let place = self.first.saturating_add(self.count) % PLACES;
-        let waiter = &mut self.places[place];
-        waiter.peer = *peer;
-        waiter.length = packet.len();
-        waiter.octets[..packet.len()].copy_from_slice(packet);
-        self.count += 1;
+        match desk.pacing.next(now) {
+            Ok(place) => {
+                let found = desk.pacing.take(place, now, buffer);
+                desk.is_heard = found.is_some();
+                found
+            }
+            Err(soonest) => {
+                self.soonest.store(soonest, Ordering::SeqCst);
+                None
+            }
+        }
     }
 
-    /// Takes the first, if there is one.
-    fn oldest(&mut self) -> Option<Waiter> {
-        if self.count == 0 {
-            return None;
+    /// Whether the session of a NOTIFY that came over TCP begins now. Otherwise its connection waits: it is asked for
+    /// again a little later.
+    pub fn may_begin<R: Wait>(&self, rt: &R, now: u64, peer: &Peer, packet: &[u8]) -> bool {
+        let mut desk = self.desk.lock(rt);
+        let source = u32::from_be_bytes(peer.address);
+        if desk.pacing.opens(source) > now || self.work.lasts(now, 0) || !has_log_room() {
+            return false;
         }
-        let place = self.first % PLACES;
-        self.first = (place + 1) % PLACES;
-        self.count -= 1;
-        Some(self.places[place])
+        match desk.pacing.place_of(peer, packet) {
+            Some(place) if desk.pacing.is_open(place, now) => {
+                desk.pacing.deliver(place, now);
+                true
+            }
+            _ => false,
+        }
     }
 }

@@ -5,12 +5,13 @@ use dz_store::{Store, StoreFault};
 use std::alloc::Global;
 use std::fs::{File, Files};
 use std::io::ErrorKind;
+use std::time::Clock;
 use std::{fs, io};
 
 /// A file of fewer octets isn't written anew: 16 MiB.
 const LEAST: u64 = 1 << 24;
 
-impl<'a, R: Files<File = File>> HostDisk<'a, R> {
+impl<'a, R: Clock + Files<File = File>> HostDisk<'a, R> {
     /// Writes the file anew beside it, where more than half of it are records that no longer count, and renames that
     /// over it. The new one is on the disk before it has the old one's name, so a crash leaves one or the other, whole.
     /// Where anything before the renaming fails, the file stays, with what counts in it.
@@ -35,7 +36,7 @@ impl<'a, R: Files<File = File>> HostDisk<'a, R> {
         let _ = fs::remove_file(self.host(), beside);
         let file = make_new(self.host(), beside)?;
         file.try_lock()?;
-        let mut fresh = HostDisk::lazy(self.host(), beside, file);
+        let mut fresh = self.beside(beside, file);
         match copy_store(alloc, self, &mut fresh) {
             Ok(()) => fresh.settle(self),
             Err(_) => Err(io::Error::from(ErrorKind::Other)),
@@ -44,7 +45,7 @@ impl<'a, R: Files<File = File>> HostDisk<'a, R> {
 }
 
 /// Copies what counts.
-fn copy_store<'a, R: Files<File = File>>(
+fn copy_store<'a, R: Clock + Files<File = File>>(
     alloc: Global,
     from: &mut HostDisk<'a, R>,
     to: &mut HostDisk<'a, R>,

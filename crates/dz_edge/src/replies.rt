@@ -10,7 +10,7 @@ use std::alloc::{AllocError, Global};
 pub(crate) const REPLY_OCTETS: usize = 16_384;
 
 /// Room for the replies of a turn without a zone's stream.
-const ROOM_OCTETS: usize = REPLY_OCTETS + FRAME_OCTETS;
+pub(crate) const ROOM_OCTETS: usize = REPLY_OCTETS + FRAME_OCTETS;
 
 /// The replies of a worker's turns, in one room for all: a turn begins and ends with none.
 ///

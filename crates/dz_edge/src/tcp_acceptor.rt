@@ -6,7 +6,8 @@ use crate::turns::Turns;
 use crate::{Bell, Turn};
 use dz_io::{Accepted, Acceptor, Failed, Peer};
 use std::alloc::Global;
-use std::fs::Files;
+use std::fs::{File, Files};
+use std::io::Eprint;
 use std::net::{Net, TcpListener};
 use std::sync::Wait;
 use std::time::Clock;
@@ -59,7 +60,7 @@ impl<'a, R> TcpAcceptor<'a, R> {
     }
 }
 
-impl<'a, R: Clock + Files + Wait> Acceptor for TcpAcceptor<'a, R> {
+impl<'a, R: Clock + Eprint + Files<File = File> + Wait> Acceptor for TcpAcceptor<'a, R> {
     type L = Turn;
 
     ghost links = { λ _. None };
@@ -70,7 +71,8 @@ impl<'a, R: Clock + Files + Wait> Acceptor for TcpAcceptor<'a, R> {
 
     ghost faults = { λ acceptor. acceptor.faults };
 
-    /// The next turn. It fails only after a run of errors, since a later connection may come through.
+    /// The next turn. It fails only where the listener or the poll is bad, since a later connection may come through;
+    /// after the last such acceptor the server is to stop.
     fn accept(&mut self) -> Result<Accepted<Turn>, Failed> {
         match self.turns.next() {
             Some(Accepted::Closed) => {
@@ -83,6 +85,7 @@ impl<'a, R: Clock + Files + Wait> Acceptor for TcpAcceptor<'a, R> {
             }
             None => {
                 self.faults = self.faults.saturating_add(1);
+                self.turns.lose();
                 Err(Failed)
             }
         }

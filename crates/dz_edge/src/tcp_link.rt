@@ -1,10 +1,10 @@
 //! Links over TCP.
-ghost use Rattle.std.specs.Prelude.{◌≡◌, ◌≤◌, refl, length, None, IfSome};
+ghost use Rattle.std.specs.Prelude.{◌≡◌, ◌≤◌, ◌<◌, ◌+◌, ◌/◌, ◌↔◌, refl, length, None, IfSome, IsTrue};
 
-use crate::Bell;
 use crate::watch::Watch;
+use crate::work::millis;
 use dz_io::{Failed, Link, Sink, Source};
-use std::fs::Files;
+use std::fs::{File, Files};
 use std::io::{ErrorKind, Read, Write};
 use std::net::TcpStream;
 use std::sync::Wait;
@@ -13,37 +13,100 @@ use std::time::{Clock, Duration};
 /// How many seconds a read or a write waits for the peer.
 const LIMIT_SECONDS: u64 = 10;
 
+/// How many milliseconds a link may last in which nothing comes.
+const GRACE_MILLIS: u64 = 30_000;
+
+/// How many octets give a link a millisecond more: 8,000 a second.
+const PACE: u64 = 8;
+
+/// How many milliseconds a read waits before it looks whether to stop.
+const LOOK_MILLIS: u64 = 200;
+
 /// How many times a read is tried that signals interrupt, or that waits.
 const TRIES: usize = 1000;
 
-/// A TCP connection to a primary. It doesn't tell its octets. Its reads look each second whether the server is to stop,
-/// and fail then.
+/// A TCP connection to a primary. It doesn't tell its octets. Its reads fail once the server is to stop, and where the
+/// primary sends too slowly: nothing for ten seconds, or on the average of the whole connection after its first 30
+/// seconds fewer than 8,000 octets a second.
 #[derive(Drop)]
 pub struct TcpLink<'a, R> {
     watch: Watch<'a, R>,
     stream: TcpStream,
+    /// When it was dialled.
+    dialled: Duration,
+    /// How many octets were read.
+    octets: u64,
     pub(crate) faults: u64,
 }
 
+/// Whether a link that has lasted so long has brought too few octets.
+pub(crate) fn is_too_slow(lasted: u64, octets: u64) -> bool
+    ensures { IsTrue result ↔ (30_000 + octets / 8 < lasted) }
+{
+    lasted > GRACE_MILLIS && lasted - GRACE_MILLIS > octets / PACE
+}
+
 impl<'a, R> TcpLink<'a, R> {
-    /// A link of a new connection; none where its limits can't be set.
-    pub(crate) fn new(rt: &'a R, bell: &'a Bell, stream: TcpStream) -> Option<TcpLink<'a, R>>
+    /// A link of a new connection, which was dialled at this moment; none where its limits can't be set.
+    pub(crate) fn new(
+        watch: Watch<'a, R>,
+        stream: TcpStream,
+        dialled: Duration,
+    ) -> Option<TcpLink<'a, R>>
         ensures { IfSome result (λ link. link.faults ≡ 0) }
     {
         stream.set_nodelay(true).ok()?;
-        let second = Some(Duration::from_secs(1));
-        stream.set_read_timeout(second).ok()?;
+        let look = Some(Duration::from_millis(LOOK_MILLIS));
+        stream.set_read_timeout(look).ok()?;
         let limit = Some(Duration::from_secs(LIMIT_SECONDS));
         stream.set_write_timeout(limit).ok()?;
         Some(TcpLink {
-            watch: Watch::new(rt, bell),
+            watch,
             stream,
+            dialled,
+            octets: 0,
             faults: 0,
         })
     }
 }
 
-impl<'a, R: Clock + Files + Wait> Source for TcpLink<'a, R> {
+impl<'a, R: Clock + Files<File = File> + Wait> TcpLink<'a, R> {
+    /// Whether it is to go on waiting for octets since a moment: the server isn't to stop, and the primary isn't too slow.
+    fn may_wait(&mut self, since: Duration) -> bool
+        ensures { self.new.faults ≡ self.old.faults }
+    {
+        let now = self.watch.time();
+        let lasted = millis(now.saturating_sub(self.dialled));
+        !self.watch.is_to_stop_at(now)
+            && now.saturating_sub(since) < Duration::from_secs(LIMIT_SECONDS)
+            && !is_too_slow(lasted, self.octets)
+    }
+
+    /// Reads as soon as octets are there; none where it isn't to wait for them any longer.
+    fn read_within(&mut self, buffer: &mut [u8]) -> Option<usize>
+        ensures count { IfSome result (λ n. n ≤ length buffer.old) }
+        ensures faults { self.new.faults ≡ self.old.faults }
+    {
+        let since = self.watch.time();
+        'tries: for _ in 0..TRIES {
+            if !self.may_wait(since) {
+                break;
+            }
+            match self.stream.read(buffer) {
+                Ok(count) => {
+                    self.octets = self.octets.saturating_add(count as u64);
+                    return Some(count);
+                }
+                Err(error) if error.kind() == ErrorKind::Interrupted => {}
+                Err(error) if error.kind() == ErrorKind::WouldBlock => {}
+                Err(_) => break,
+            }
+        }
+        None
+    }
+}
+
+impl<'a, R: Clock + Files<File = File> + Wait> Source for TcpLink<'a, R> {
     ghost given = { λ _. None };
 
     ghost left = { λ _. None };
@@ -52,9 +115,9 @@ impl<'a, R: Clock + Files + Wait> Source for TcpLink<'a, R> {
 
     ghost faults = { λ link. link.faults };
 
-    /// Reads octets, and answers how many; it fails after the limit, or where the server is to stop.
+    /// Reads octets, and answers how many; it fails where the primary is too slow, or the server is to stop.
     fn read(&mut self, buffer: &mut [u8]) -> Result<usize, Failed> {
-        match read_within(&mut self.watch, &mut self.stream, buffer) {
+        match self.read_within(buffer) {
             Some(count) => Ok(count),
             None => {
                 self.faults = self.faults.saturating_add(1);
@@ -64,7 +127,7 @@ impl<'a, R: Clock + Files + Wait> Source for TcpLink<'a, R> {
     }
 }
 
-impl<'a, R: Clock + Files + Wait> Sink for TcpLink<'a, R> {
+impl<'a, R: Clock + Files<File = File> + Wait> Sink for TcpLink<'a, R> {
     ghost held = { λ _. None };
 
     ghost beside = { λ _. record { given = None; left = None } };
@@ -83,35 +146,10 @@ impl<'a, R: Clock + Files + Wait> Sink for TcpLink<'a, R> {
     }
 }
 
-impl<'a, R: Clock + Files + Wait> Link for TcpLink<'a, R> {
+impl<'a, R: Clock + Files<File = File> + Wait> Link for TcpLink<'a, R> {
     ghost one_count = { λ _. refl };
 
     ghost reads_leave = { λ _. refl };
 
     ghost writes_leave = { λ _. refl };
-}
-
-/// Reads, for as many seconds as the limit has, and no longer where the server is to stop.
-fn read_within<R: Clock + Files + Wait>(
-    watch: &mut Watch<'_, R>,
-    stream: &mut TcpStream,
-    buffer: &mut [u8],
-) -> Option<usize>
-    ensures { IfSome result (λ n. n ≤ length buffer.old) }
-{
-    let mut seconds = 0_u64;
-    'tries: for _ in 0..TRIES {
-        if seconds >= LIMIT_SECONDS || watch.is_to_stop() {
-            break;
-        }
-        match stream.read(buffer) {
-            Ok(count) => return Some(count),
-            Err(error) if error.kind() == ErrorKind::Interrupted => {}
-            Err(error) if error.kind() == ErrorKind::WouldBlock => {
-                seconds = seconds.saturating_add(1);
-            }
-            Err(_) => break,
-        }
-    }
-    None
 }

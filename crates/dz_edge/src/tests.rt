@@ -1,15 +1,18 @@
 ghost use Rattle.std.specs.Prelude.{◌≡◌, ◌≤◌, IsSome, None, length};
 
-use crate::frames::{asks_for_zone, takes_notify};
+use crate::frames::{asks_for_zone, takes_notify, turn_frames};
+use crate::pacing::Pacing;
 use crate::stop::mask_of;
+use crate::tcp_dialer::leaves_from;
+use crate::tcp_link::is_too_slow;
 use crate::waiting::{WAITING_OCTETS, Waiting};
 use crate::{Bell, HostClock, HostPorts, TcpAcceptor, Turn, UdpDatagrams};
 use dz_io::{
     Accepted, Acceptor, Clock, Datagrams, Dialer, Failed, Peer, Ports, Received, Rest, Sink, Source,
 };
 use std::alloc::AllocError;
-use std::fs::Files;
-use std::io::{Read, Write};
+use std::fs::{File, Files};
+use std::io::{Eprint, Read, Write};
 use std::net::{Net, Shutdown, SocketAddr, TcpStream};
 use std::process::Abort;
 use std::sync::Wait;
@@ -37,7 +40,7 @@ fn port_of<R: Abort>(rt: &R, address: std::io::Result<SocketAddr>) -> Peer {
 }
 
 /// Whether what one device sends to this address comes to the other.
-fn passes<R: Wait>(
+fn passes<R: std::time::Clock + Eprint + Files<File = File> + Wait>(
     one: &mut UdpDatagrams<'_, R>,
     other: &mut UdpDatagrams<'_, R>,
     at: &Peer,
@@ -59,7 +62,7 @@ fn passes<R: Wait>(
 
 #[test]
 fn a_datagram_comes_to_the_socket_that_sent_it(rt: HostRuntime) -> Result<(), AllocError> {
-    let bell = Bell::new();
+    let bell = Bell::new(rt.alloc());
     let mut ports = HostPorts::new(&rt, rt.alloc(), &bell);
     let mut buffer = vec![in rt.alloc(); 0_u8; 65_535]?;
     let Ok(mut one) = ports.open_datagrams(&ANY, 0) else {
@@ -82,7 +85,11 @@ fn a_datagram_comes_to_the_socket_that_sent_it(rt: HostRuntime) -> Result<(), Al
 }
 
 /// Whether the next packet that a device receives is this one.
-fn is_next<R: Wait>(device: &mut UdpDatagrams<'_, R>, packet: &[u8], buffer: &mut [u8]) -> bool
+fn comes<R: std::time::Clock + Eprint + Files<File = File> + Wait>(
+    device: &mut UdpDatagrams<'_, R>,
+    packet: &[u8],
+    buffer: &mut [u8],
+) -> bool
     requires { 65535 ≤ length buffer.old }
 {
     match device.receive(buffer) {
@@ -98,8 +105,133 @@ const NOTIFY: &[u8] = b"\x12\x34\x24\x00";
 
 const LATER: &[u8] = b"\x12\x35\x24\x00";
 
+/// A peer with this address.
+fn peer_at(address: [u8; 4]) -> Peer {
+    Peer {
+        address,
+        port: 5300,
+    }
+}
+
+/// A NOTIFY for a zone of one label, of two octets (RFC 1996 section 3.7).
+fn notify_of(label: [u8; 2]) -> [u8; 20] {
+    let mut packet = *b"\x12\x34\x24\0\0\x01\0\0\0\0\0\0\x02--\0\0\x06\0\x01";
+    packet[13..15].copy_from_slice(&label);
+    packet
+}
+
+#[test]
+fn of_one_question_one_notify_a_second_is_delivered(rt: HostRuntime) {
+    let mut pacing = Pacing::new(rt.alloc());
+    let peer = peer_at([192, 0, 2, 1]);
+    pacing.know(u32::from_be_bytes(peer.address));
+    let Some(place) = pacing.place_of(&peer, &notify_of(*b"aa")) else {
+        panic!(rt; "no place");
+    };
+    assert!(rt; pacing.is_open(place, 7));
+    pacing.deliver(place, 7);
+    assert!(rt; !pacing.is_open(place, 1006));
+    assert_eq!(rt; pacing.hold(place, &peer, b"one"), 1007);
+    assert_eq!(rt; pacing.hold(place, &peer, b"another"), 1007);
+    assert_eq!(rt; pacing.next(1006), Err(1007));
+    assert_eq!(rt; pacing.next(1007), Ok(place));
+    let mut buffer = [0; 16];
+    assert_eq!(rt; pacing.take(place, 1007, &mut buffer), Some((7, peer)));
+    assert_eq!(rt; &buffer[..7], b"another".as_slice());
+    assert_eq!(rt; pacing.next(9000), Err(u64::MAX));
+    // The letters of a name are of either case (RFC 4343), and another question has another place.
+    assert_eq!(rt; pacing.place_of(&peer, &notify_of(*b"AA")), Some(place));
+    assert_eq!(rt; pacing.place_of(&peer, &notify_of(*b"ab")), Some(1));
+}
+
+/// How many NOTIFYs of a peer, each for another zone, are delivered in the second that begins at this moment, of 200.
+fn delivered(pacing: &mut Pacing, peer: &Peer, now: u64) -> u32 {
+    let mut count = 0_u32;
+    'labels: for label in 0..200_u8 {
+        if let Some(place) = pacing.place_of(peer, &notify_of([b'a', label])) {
+            if pacing.is_open(place, now) {
+                pacing.deliver(place, now);
+                count = count.saturating_add(1);
+            }
+        }
+    }
+    count
+}
+
+#[test]
+fn a_known_source_has_more_than_all_strangers(rt: HostRuntime) {
+    let mut pacing = Pacing::new(rt.alloc());
+    let known = peer_at([192, 0, 2, 1]);
+    pacing.know(u32::from_be_bytes(known.address));
+    assert_eq!(rt; delivered(&mut pacing, &known, 5000), 100);
+    assert_eq!(rt; delivered(&mut pacing, &peer_at([192, 0, 2, 2]), 5000), 16);
+    assert_eq!(rt; delivered(&mut pacing, &peer_at([192, 0, 2, 3]), 5999), 0);
+    assert_eq!(rt; delivered(&mut pacing, &peer_at([192, 0, 2, 3]), 6000), 16);
+    assert_eq!(rt; delivered(&mut pacing, &known, 6000), 100);
+}
+
+#[test]
+fn the_oldest_of_4096_questions_goes(rt: HostRuntime) {
+    let mut pacing = Pacing::new(rt.alloc());
+    'sources: for number in 0..4097_u32 {
+        let place = pacing.place_of(&peer_at(number.to_be_bytes()), &notify_of(*b"aa"));
+        assert_eq!(rt; place, Some(number as usize % 4096));
+    }
+    // The first has gone, and has the place of the second from now on; the third is still there.
+    assert_eq!(rt;
+        pacing.place_of(&peer_at([0; 4]), &notify_of(*b"aa")),
+        Some(1)
+    );
+    assert_eq!(rt;
+        pacing.place_of(&peer_at([0, 0, 0, 2]), &notify_of(*b"aa")),
+        Some(2)
+    );
+}
+
+#[test]
+fn a_turn_takes_a_notify_or_a_request_for_a_zone_only_first(rt: HostRuntime) {
+    let query = b"\0\x0c\0\x90\0\0\0\x01\0\0\0\0\0\0";
+    let notify = b"\0\x0c\0\x90\x24\0\0\x01\0\0\0\0\0\0";
+    let mut octets = [0; 44];
+    octets[..14].copy_from_slice(notify);
+    octets[14..28].copy_from_slice(query);
+    octets[28..42].copy_from_slice(notify);
+    let found = turn_frames(&octets);
+    assert_eq!(rt; (found.end, found.is_alive), (28, true));
+    // Of empty frames a turn takes 256, and none of them is a sign of life.
+    let found = turn_frames(&[0; 600]);
+    assert_eq!(rt; (found.end, found.is_alive), (512, false));
+    let found = turn_frames(&octets[..13]);
+    assert_eq!(rt; (found.end, found.is_alive), (0, false));
+}
+
+#[test]
+fn a_dial_leaves_from_the_address_that_is_listened_on(rt: HostRuntime) {
+    let far = peer_at([192, 0, 2, 1]);
+    let near = peer_at([127, 0, 0, 1]);
+    assert_eq!(rt;
+        leaves_from(Some([192, 0, 2, 10]), &far),
+        Some([192, 0, 2, 10])
+    );
+    assert_eq!(rt;
+        leaves_from(Some([127, 0, 0, 5]), &near),
+        Some([127, 0, 0, 5])
+    );
+    assert_eq!(rt; leaves_from(Some([127, 0, 0, 5]), &far), None);
+    assert_eq!(rt; leaves_from(Some([0; 4]), &far), None);
+    assert_eq!(rt; leaves_from(None, &far), None);
+}
+
+#[test]
+fn a_slow_link_has_half_a_minute_and_its_octets(rt: HostRuntime) {
+    assert!(rt; !is_too_slow(30_000, 0));
+    assert!(rt; is_too_slow(30_001, 0));
+    assert!(rt; !is_too_slow(31_000, 8_000));
+    assert!(rt; is_too_slow(31_001, 8_000));
+}
+
 /// A packet comes before a NOTIFY that was sent before it, since another NOTIFY has its session.
-fn expect_packet_first<R: Abort + Wait>(
+fn expect_packet_first<R: std::time::Clock + Eprint + Files<File = File> + Abort + Wait>(
     rt: &R,
     one: &mut UdpDatagrams<'_, R>,
     other: &mut UdpDatagrams<'_, R>,
@@ -110,12 +242,12 @@ fn expect_packet_first<R: Abort + Wait>(
 {
     assert!(rt; passes(one, other, here, NOTIFY, buffer));
     let sent = one.send(here, LATER).is_ok() && one.send(here, b"one packet").is_ok();
-    assert!(rt; sent && is_next(one, b"one packet", buffer));
+    assert!(rt; sent && comes(one, b"one packet", buffer));
 }
 
 #[test]
 fn a_notify_waits_while_another_has_its_session(rt: HostRuntime) -> Result<(), AllocError> {
-    let bell = Bell::new();
+    let bell = Bell::new(rt.alloc());
     let mut ports = HostPorts::new(&rt, rt.alloc(), &bell);
     let mut buffer = vec![in rt.alloc(); 0_u8; 65_535]?;
     let Ok(mut one) = ports.open_datagrams(&ANY, 0) else {
@@ -125,8 +257,9 @@ fn a_notify_waits_while_another_has_its_session(rt: HostRuntime) -> Result<(), A
         panic!(rt; "not opened");
     };
     let here = port_of(&rt, one.socket.local_addr());
+    bell.notifies.know(&rt, here.address);
     expect_packet_first(&rt, &mut one, &mut other, &here, &mut buffer);
-    assert!(rt; is_next(&mut other, LATER, &mut buffer));
+    assert!(rt; comes(&mut other, LATER, &mut buffer));
     ports.close_datagrams(one);
     ports.close_datagrams(other);
     Ok(())
@@ -134,7 +267,7 @@ fn a_notify_waits_while_another_has_its_session(rt: HostRuntime) -> Result<(), A
 
 #[test]
 fn a_host_that_nobody_listens_at_is_a_fault(rt: HostRuntime) -> Result<(), AllocError> {
-    let bell = Bell::new();
+    let bell = Bell::new(rt.alloc());
     let mut ports = HostPorts::new(&rt, rt.alloc(), &bell);
     let Ok(mut dialer) = ports.dialer(0) else {
         panic!(rt; "not made");
@@ -146,7 +279,7 @@ fn a_host_that_nobody_listens_at_is_a_fault(rt: HostRuntime) -> Result<(), Alloc
 
 #[test]
 fn a_primary_that_says_nothing_holds_up_no_stop(rt: HostRuntime) -> Result<(), AllocError> {
-    let bell = Bell::new();
+    let bell = Bell::new(rt.alloc());
     let mut ports = HostPorts::new(&rt, rt.alloc(), &bell);
     let Ok(acceptor) = ports.open_acceptor(&ANY, 0) else {
         panic!(rt; "not opened");
@@ -172,7 +305,7 @@ fn is_send<T: Send>(_value: &T) {}
 
 #[test]
 fn a_clock_stops_once_it_is_to(rt: HostRuntime) -> Result<(), AllocError> {
-    let bell = Bell::new();
+    let bell = Bell::new(rt.alloc());
     let mut clock = HostClock::new(&rt, &bell).twin(rt.alloc())?;
     is_send(&clock);
     // The first day of 2024.
@@ -187,7 +320,7 @@ fn a_clock_stops_once_it_is_to(rt: HostRuntime) -> Result<(), AllocError> {
 
 #[test]
 fn a_bell_that_rang_ends_a_wait(rt: HostRuntime) {
-    let bell = Bell::new();
+    let bell = Bell::new(rt.alloc());
     let day = Duration::from_secs(86_400);
     assert_eq!(rt; bell.wait(&rt, 0, Duration::from_millis(1)), 0);
     assert_eq!(rt; bell.ring(&rt), 1);
@@ -217,8 +350,10 @@ fn a_request_for_a_zone_is_told_by_its_type(rt: HostRuntime) {
 #[test]
 fn the_mask_of_pending_signals_is_read(rt: HostRuntime) {
     let status = b"Name:\tcatzd\nShdPnd:\t0000000000004001\nSigBlk:\tffffffffffffffff\n";
-    assert_eq!(rt; mask_of(status), 0x4001);
-    assert_eq!(rt; mask_of(b"Name:\tcatzd\n"), 0);
+    assert_eq!(rt; mask_of(status), Some(0x4001));
+    assert_eq!(rt; mask_of(b"Name:\tcatzd\n"), None);
+    // The line is cut.
+    assert_eq!(rt; mask_of(b"ShdPnd:\t00000000"), None);
 }
 
 /// The most octets of a frame in these tests.
@@ -240,7 +375,7 @@ fn write<R: Abort>(rt: &R, stream: &mut TcpStream, octets: &[u8]) {
 }
 
 /// Whether these octets come next.
-fn comes(stream: &mut TcpStream, octets: &[u8]) -> bool {
+fn come_next(stream: &mut TcpStream, octets: &[u8]) -> bool {
     let mut buffer = [0; FRAME];
     let Some(room) = buffer.get_mut(..octets.len()) else {
         return false;
@@ -249,7 +384,7 @@ fn comes(stream: &mut TcpStream, octets: &[u8]) -> bool {
 }
 
 /// The next turn, in which these octets come, and then no more.
-fn turn<'a, R: std::time::Clock + Files + Wait + Abort>(
+fn turn<'a, R: std::time::Clock + Eprint + Files<File = File> + Wait + Abort>(
     rt: &R,
     acceptor: &mut TcpAcceptor<'a, R>,
     octets: &[u8],
@@ -285,7 +420,7 @@ struct Clients {
 }
 
 /// The client beside has its turn while the other's frame is cut here, and that has its own once the rest has come.
-fn serve_both<'a, R: std::time::Clock + Files + Wait + Abort>(
+fn serve_both<'a, R: std::time::Clock + Eprint + Files<File = File> + Wait + Abort>(
     rt: &R,
     acceptor: &mut TcpAcceptor<'a, R>,
     clients: &mut Clients,
@@ -300,7 +435,7 @@ fn serve_both<'a, R: std::time::Clock + Files + Wait + Abort>(
     let mut beside = turn(rt, acceptor, b"\x00\x01x\x00\x00");
     assert_eq!(rt; beside.write(b"\x00\x01y"), Ok(()));
     acceptor.done(beside);
-    assert!(rt; comes(&mut clients.whole, b"\x00\x01y"));
+    assert!(rt; come_next(&mut clients.whole, b"\x00\x01y"));
     write(rt, &mut clients.cut, frame.get(at..).unwrap_or(&[]));
     let whole = turn(rt, acceptor, frame);
     acceptor.done(whole);
@@ -308,7 +443,7 @@ fn serve_both<'a, R: std::time::Clock + Files + Wait + Abort>(
 
 #[test]
 fn a_frame_that_is_cut_waits_and_holds_up_nobody(rt: HostRuntime) -> Result<(), AllocError> {
-    let bell = Bell::new();
+    let bell = Bell::new(rt.alloc());
     let mut ports = HostPorts::new(&rt, rt.alloc(), &bell);
     let Ok(mut acceptor) = ports.open_acceptor(&ANY, 0) else {
         panic!(rt; "not opened");
@@ -328,7 +463,7 @@ fn a_frame_that_is_cut_waits_and_holds_up_nobody(rt: HostRuntime) -> Result<(), 
 
 #[test]
 fn a_client_that_sends_no_more_gets_its_replies(rt: HostRuntime) -> Result<(), AllocError> {
-    let bell = Bell::new();
+    let bell = Bell::new(rt.alloc());
     let mut ports = HostPorts::new(&rt, rt.alloc(), &bell);
     let Ok(mut acceptor) = ports.open_acceptor(&ANY, 0) else {
         panic!(rt; "not opened");
@@ -341,7 +476,7 @@ fn a_client_that_sends_no_more_gets_its_replies(rt: HostRuntime) -> Result<(), A
     assert_eq!(rt; link.write(b"\x00\x01c"), Ok(()));
     assert_eq!(rt; link.write(b"\x00\x01d"), Ok(()));
     acceptor.done(link);
-    assert!(rt; comes(&mut caller, b"\x00\x01c\x00\x01d"));
+    assert!(rt; come_next(&mut caller, b"\x00\x01c\x00\x01d"));
     bell.stop(&rt);
     assert!(rt; matches!(acceptor.accept(), Ok(Accepted::Closed)));
     ports.close_acceptor(acceptor);
@@ -350,7 +485,7 @@ fn a_client_that_sends_no_more_gets_its_replies(rt: HostRuntime) -> Result<(), A
 
 #[test]
 fn the_reply_to_a_notify_rings(rt: HostRuntime) -> Result<(), AllocError> {
-    let bell = Bell::new();
+    let bell = Bell::new(rt.alloc());
     let mut ports = HostPorts::new(&rt, rt.alloc(), &bell);
     let Ok(acceptor) = ports.open_acceptor(&ANY, 0) else {
         panic!(rt; "not opened");
@@ -369,14 +504,14 @@ fn the_reply_to_a_notify_rings(rt: HostRuntime) -> Result<(), AllocError> {
     assert_eq!(rt; bell.count(&rt), 0);
     other.done(link);
     assert_eq!(rt; bell.count(&rt), 1);
-    assert!(rt; comes(&mut caller, &reply));
+    assert!(rt; come_next(&mut caller, &reply));
     ports.close_acceptor(other);
     ports.close_acceptor(acceptor);
     Ok(())
 }
 
 /// A turn of the client, in which it has an answer.
-fn serve<'a, R: std::time::Clock + Files + Wait + Abort>(
+fn serve<'a, R: std::time::Clock + Eprint + Files<File = File> + Wait + Abort>(
     rt: &R,
     acceptor: &mut TcpAcceptor<'a, R>,
     client: &mut TcpStream,
@@ -388,14 +523,14 @@ fn serve<'a, R: std::time::Clock + Files + Wait + Abort>(
     let mut link = turn(rt, acceptor, b"\x00\x01q");
     assert_eq!(rt; link.write(b"\x00\x01a"), Ok(()));
     acceptor.done(link);
-    assert!(rt; comes(client, b"\x00\x01a"));
+    assert!(rt; come_next(client, b"\x00\x01a"));
 }
 
 #[test]
 fn replies_past_what_may_wait_end_their_connection_alone(
     rt: HostRuntime,
 ) -> Result<(), AllocError> {
-    let bell = Bell::new();
+    let bell = Bell::new(rt.alloc());
     let mut ports = HostPorts::new(&rt, rt.alloc(), &bell);
     let Ok(mut acceptor) = ports.open_acceptor(&ANY, 0) else {
         panic!(rt; "not opened");
@@ -425,7 +560,7 @@ struct Readers {
 }
 
 /// Whether these octets come to the slow client, while the other is served.
-fn comes_beside<'a, R: std::time::Clock + Files + Wait + Abort>(
+fn comes_beside<'a, R: std::time::Clock + Eprint + Files<File = File> + Wait + Abort>(
     rt: &R,
     acceptor: &mut TcpAcceptor<'a, R>,
     clients: &mut Readers,
@@ -452,7 +587,7 @@ fn comes_beside<'a, R: std::time::Clock + Files + Wait + Abort>(
 
 #[test]
 fn what_a_reader_does_not_take_waits_and_comes_whole(rt: HostRuntime) -> Result<(), AllocError> {
-    let bell = Bell::new();
+    let bell = Bell::new(rt.alloc());
     let mut ports = HostPorts::new(&rt, rt.alloc(), &bell);
     let Ok(mut acceptor) = ports.open_acceptor(&ANY, 0) else {
         panic!(rt; "not opened");

@@ -7,17 +7,21 @@ use crate::address::peer_of;
 use crate::buffers::Buffers;
 use crate::connection::{Connection, Fetched};
 use crate::crowd::Crowd;
-use crate::frames::{asks_for_zone, whole_frames};
+use crate::errors::{is_for_good, is_shortage};
+use crate::frames::{TurnFrames, asks_for_zone, begins_with_notify, frame_end, turn_frames};
 use crate::turn::{Frames, Turn};
 use crate::watch::Watch;
+use crate::work::millis;
 use dz_io::{Accepted, Peer};
+use dz_name::dns::LENGTH_OCTETS;
 use mio::net::{TcpListener, TcpStream};
 use mio::{Events, Interest, Poll, Token};
 use std::alloc::Global;
-use std::fs::Files;
-use std::io::ErrorKind;
+use std::fs::{File, Files};
+use std::io::{Eprint, Error, ErrorKind};
 use std::net::Net;
 use std::sync::Wait;
+use std::thread::sleep;
 use std::time::{Clock, Duration};
 
 /// How many connections a worker has at most.
@@ -38,8 +42,14 @@ const LOOK_MILLIS: u64 = 200;
 /// How many milliseconds after an error the listener is tried again.
 const AGAIN_MILLIS: u64 = 100;
 
-/// After how many errors of the poll in a row a listener counts as failed.
-const ERRORS: u32 = 100;
+/// How many milliseconds after a NOTIFY was kept back its connection is asked for it again.
+const LATER_MILLIS: u64 = 10;
+
+/// How many milliseconds lie between two tries to send what waits once the server is to stop.
+const DRAIN_MILLIS: u64 = 50;
+
+/// How many such tries there are: for a second.
+const DRAINS: usize = 20;
 
 /// Whether the listener has a connection.
 #[derive(Clone, Copy, PartialEq, Eq)]
@@ -48,8 +58,33 @@ enum Door {
     Open,
     /// It has none. The system will tell when the next comes.
     Quiet,
-    /// It failed, as where no descriptor is left. It is tried again a little later.
+    /// It failed for want of memory or descriptors. It is tried again a little later.
     Failed,
+    /// The listener or the poll is bad.
+    Gone,
+}
+
+/// What a connection has at the front.
+#[derive(Clone, Copy, PartialEq, Eq)]
+enum Front {
+    /// Frames whose turn begins.
+    Turn,
+    /// A frame that asks for a zone, whose turn comes after the round.
+    Zone,
+    /// A NOTIFY that is kept back.
+    Notify,
+    /// No whole frame.
+    Part,
+}
+
+/// What a connection gave: how many octets, and whether there may be more. It may have a whole zone now, or the session
+/// of its NOTIFY may begin.
+#[derive(Clone, Copy)]
+struct Came {
+    total: usize,
+    more: bool,
+    for_zone: bool,
+    is_heard: bool,
 }
 
 /// The connections of a worker, which take turns. In a round each that is ready has one turn; between two rounds the
@@ -75,6 +110,8 @@ pub(crate) struct Turns<'a, R> {
     now: Duration,
     /// When the listener last failed.
     failed: Duration,
+    /// When connections were last asked again for a NOTIFY.
+    asked: Duration,
     /// The second of the last sweep.
     swept: u64,
 }
@@ -107,13 +144,14 @@ impl<'a, R: Net + Clock> Turns<'a, R> {
             buffers: Some(Buffers::new(alloc).ok()?),
             now,
             failed: now,
+            asked: now,
             swept: now.as_secs(),
         })
     }
 }
 
-impl<'a, R: Clock + Files + Wait> Turns<'a, R> {
-    /// The next turn, or that the server is to stop; none after a run of errors.
+impl<'a, R: Clock + Eprint + Files<File = File> + Wait> Turns<'a, R> {
+    /// The next turn, or that the server is to stop; none where the listener or the poll is bad.
     pub fn next(&mut self) -> Option<Accepted<Turn>>
         ensures faults { IfSome result (λ a. IsAccepted a (λ turn peer. turn.faults ≡ 0) ⊤) }
         ensures none { IfSome result (λ a. IsAccepted a
@@ -121,9 +159,9 @@ impl<'a, R: Clock + Files + Wait> Turns<'a, R> {
         ensures beside { IfSome result (λ a. IsAccepted a
             (λ turn peer. turn.buffers.replies.beside ≡ self.new.crowd.waiting) ⊤) }
     {
-        let mut errors = 0_u32;
         'turns: for _ in 0..u64::MAX {
             if self.watch.is_to_stop() {
+                self.drain();
                 return Some(Accepted::Closed);
             }
             if self.round > 0 || self.has_zone_turn {
@@ -131,16 +169,31 @@ impl<'a, R: Clock + Files + Wait> Turns<'a, R> {
                     let peer = turn.connection.peer;
                     return Some(Accepted::One(turn, peer));
                 }
-            } else if self.begin_round() {
-                errors = 0;
             } else {
-                errors = errors.saturating_add(1);
-                if errors >= ERRORS {
+                self.begin_round();
+                if self.door == Door::Gone {
                     break;
                 }
             }
         }
         None
+    }
+
+    /// The acceptor has failed: after the last one the server is to stop.
+    pub fn lose(&mut self) {
+        let bell = self.watch.bell;
+        bell.lose(self.rt, &bell.acceptors);
+    }
+
+    /// Sends what waits, for a second at most.
+    fn drain(&mut self) {
+        'tries: for _ in 0..DRAINS {
+            if self.crowd.waiting().is_none() {
+                break;
+            }
+            self.crowd.sweep(self.now.as_secs());
+            sleep(self.rt, Duration::from_millis(DRAIN_MILLIS));
+        }
     }
 
     /// Sends the replies of a turn, and puts its connection back. After a fault the connection is closed, and no more
@@ -158,8 +211,10 @@ impl<'a, R: Clock + Files + Wait> Turns<'a, R> {
             rings,
             faults,
         } = turn;
+        let address = connection.peer.address;
         let room = buffers.room.as_slice();
         let left = room.get(frames.at..frames.total).unwrap_or(&[]);
+        let has_more = more || frame_end(left, 0).is_some();
         let stands = faults == 0
             && frames.is_between()
             && connection.send(&mut buffers.replies.octets)
@@ -167,28 +222,30 @@ impl<'a, R: Clock + Files + Wait> Turns<'a, R> {
         buffers.replies.end(self.alloc);
         self.buffers = Some(buffers);
         if stands {
-            self.put_back(place, connection, more || frames.is_more());
+            self.put_back(place, connection, Front::Part, has_more);
         } else {
             drop(connection);
             self.crowd.release(place);
         }
         if rings {
-            self.watch.bell.ring(self.rt);
+            let bell = self.watch.bell;
+            bell.notifies.know(self.rt, address);
+            bell.ring(self.rt);
         }
     }
 
-    /// Puts a connection back, and into the queue where there may be more to do of which the system won't tell.
-    fn put_back(&mut self, place: usize, connection: Connection, more: bool) {
+    /// Puts a connection back, and into a queue where there may be more to do of which the system won't tell.
+    fn put_back(&mut self, place: usize, connection: Connection, front: Front, more: bool) {
         self.crowd.put(place, connection);
-        if more {
-            self.crowd.queue(place);
+        match front {
+            Front::Zone => self.crowd.queue_for_zone(place),
+            Front::Notify => self.crowd.queue_later(place),
+            Front::Turn | Front::Part => {
+                if more {
+                    self.crowd.queue(place);
+                }
+            }
         }
-    }
-
-    /// Puts a connection back that is to have its turn after a round.
-    fn put_for_zone(&mut self, place: usize, connection: Connection) {
-        self.crowd.put(place, connection);
-        self.crowd.queue_for_zone(place);
     }
 
     /// The next turn of the round, or the one after the round, of a connection that asks for a whole zone. Its stream
@@ -210,8 +267,7 @@ impl<'a, R: Clock + Files + Wait> Turns<'a, R> {
         }
     }
 
-    /// Takes what a connection has, and gives its turn where it has a whole frame, and doesn't ask for a zone or is to
-    /// have it.
+    /// Takes what a connection has, and gives its turn where it has one now.
     fn take_turn(&mut self, place: usize, for_zone: bool) -> Option<Turn>
         ensures faults { IfSome result (λ turn. turn.faults ≡ 0) }
         ensures none { IfSome result (λ turn. turn.buffers.replies.octets.items ≡ []) }
@@ -227,7 +283,15 @@ impl<'a, R: Clock + Files + Wait> Turns<'a, R> {
             self.crowd.put(place, connection);
             return None;
         }
-        let mut buffers = self.buffers.take()?;
+        let is_heard = connection.is_kept_back;
+        if is_heard && !self.may_hear(&connection.peer, connection.held()) {
+            self.put_back(place, connection, Front::Notify, false);
+            return None;
+        }
+        let Some(mut buffers) = self.buffers.take() else {
+            self.crowd.put(place, connection);
+            return None;
+        };
         match connection.fetch(buffers.room.as_mut_slice()) {
             Fetched::Broken => {
                 self.buffers = Some(buffers);
@@ -235,26 +299,75 @@ impl<'a, R: Clock + Files + Wait> Turns<'a, R> {
                 None
             }
             Fetched::Octets { total, more } => {
-                let octets = buffers.room.as_slice().get(..total).unwrap_or(&[]);
-                let frames = Frames::new(whole_frames(octets), total);
-                if frames.is_more() && (for_zone || !asks_for_zone(octets)) {
-                    connection.mark(self.now.as_secs());
-                    buffers.replies.begin(self.crowd.waiting());
-                    return Some(Turn::new(connection, place, buffers, frames, more));
-                }
-                let is_for_zone = frames.is_more();
-                let stands = (is_for_zone || !connection.is_at_end()) && connection.keep(octets);
-                self.buffers = Some(buffers);
-                if !stands {
-                    self.close(place, connection);
-                } else if is_for_zone {
-                    self.put_for_zone(place, connection);
-                } else {
-                    self.put_back(place, connection, more);
-                }
-                None
+                let came = Came {
+                    total,
+                    more,
+                    for_zone,
+                    is_heard,
+                };
+                self.begin_turn(place, connection, buffers, came)
             }
         }
+    }
+
+    /// Begins a turn with the octets at the front of the room, or puts the connection back with them.
+    fn begin_turn(
+        &mut self,
+        place: usize,
+        connection: Connection,
+        buffers: Buffers,
+        came: Came,
+    ) -> Option<Turn>
+        ensures faults { IfSome result (λ turn. turn.faults ≡ 0) }
+        ensures none { IfSome result (λ turn. turn.buffers.replies.octets.items ≡ []) }
+        ensures beside { IfSome result
+            (λ turn. turn.buffers.replies.beside ≡ self.new.crowd.waiting) }
+    {
+        let mut connection = connection;
+        let mut buffers = buffers;
+        let octets = buffers.room.as_slice().get(..came.total).unwrap_or(&[]);
+        let found = turn_frames(octets);
+        let front = self.front(&connection.peer, octets, found, came);
+        connection.is_kept_back = front == Front::Notify;
+        if front == Front::Turn {
+            if found.is_alive {
+                connection.mark(self.now.as_secs());
+            }
+            buffers.replies.begin(self.crowd.waiting());
+            let frames = Frames::new(found.end, came.total);
+            return Some(Turn::new(connection, place, buffers, frames, came.more));
+        }
+        let stands = (front != Front::Part || !connection.is_at_end()) && connection.keep(octets);
+        self.buffers = Some(buffers);
+        if stands {
+            self.put_back(place, connection, front, came.more);
+        } else {
+            self.close(place, connection);
+        }
+        None
+    }
+
+    /// What a connection has at the front: these frames of these octets.
+    fn front(&self, peer: &Peer, octets: &[u8], found: TurnFrames, came: Came) -> Front {
+        if found.end == 0 {
+            Front::Part
+        } else if !came.for_zone && asks_for_zone(octets) {
+            Front::Zone
+        } else if !came.is_heard && begins_with_notify(octets) && !self.may_hear(peer, octets) {
+            Front::Notify
+        } else {
+            Front::Turn
+        }
+    }
+
+    /// Whether the session of the NOTIFY that these frames begin with may begin.
+    fn may_hear(&self, peer: &Peer, frames: &[u8]) -> bool {
+        let packet = frames.get(LENGTH_OCTETS..).unwrap_or(&[]);
+        let now = millis(self.watch.time());
+        self.watch
+            .bell
+            .notifies
+            .may_begin(self.rt, now, peer, packet)
     }
 
     /// Closes a connection that was taken from its place.
@@ -263,17 +376,27 @@ impl<'a, R: Clock + Files + Wait> Turns<'a, R> {
         self.crowd.release(place);
     }
 
-    /// Accepts what is new, looks which connections are ready, and begins a round of them. It answers whether the poll
-    /// succeeded.
-    fn begin_round(&mut self) -> bool {
+    /// Accepts what is new, looks which connections are ready, and begins a round of them.
+    fn begin_round(&mut self) {
         self.try_again();
         self.accept_guests();
         let limit = self.limit();
-        let told = self.poll.poll(&mut self.events, Some(limit)).is_ok();
+        let told = self.poll.poll(&mut self.events, Some(limit));
         self.now = time(self.rt, self.now);
-        if take_events(&self.events, &mut self.crowd) {
-            self.door = Door::Open;
+        match told {
+            Ok(()) => {
+                if take_events(&self.events, &mut self.crowd) && self.door != Door::Gone {
+                    self.door = Door::Open;
+                }
+            }
+            Err(error) if is_for_good(&error) => self.door = Door::Gone,
+            Err(error) if error.kind() == ErrorKind::Interrupted => {}
+            Err(error) => {
+                let bell = self.watch.bell;
+                self.watch.rest_after(&bell.acceptors, &error);
+            }
         }
+        self.ask_again();
         let second = self.now.as_secs();
         if second > self.swept {
             self.swept = second;
@@ -281,7 +404,15 @@ impl<'a, R: Clock + Files + Wait> Turns<'a, R> {
         }
         self.round = self.crowd.queued();
         self.has_zone_turn = true;
-        told
+    }
+
+    /// Queues the connections whose NOTIFY was kept back, where that was a little ago.
+    fn ask_again(&mut self) {
+        let gone = self.now.saturating_sub(self.asked);
+        if gone >= Duration::from_millis(LATER_MILLIS) {
+            self.asked = self.now;
+            self.crowd.queue_held();
+        }
     }
 
     /// Opens the door again a little after the listener failed.
@@ -299,13 +430,16 @@ impl<'a, R: Clock + Files + Wait> Turns<'a, R> {
         }
         match self.door {
             Door::Open => Duration::ZERO,
-            Door::Quiet => Duration::from_millis(LOOK_MILLIS),
+            _ if self.crowd.has_later() => Duration::from_millis(LATER_MILLIS),
+            Door::Quiet | Door::Gone => Duration::from_millis(LOOK_MILLIS),
             Door::Failed => Duration::from_millis(AGAIN_MILLIS),
         }
     }
 
-    /// Accepts connections while there may be some, `GUESTS` at most.
+    /// Accepts connections while there may be some, `GUESTS` at most. Where none of so many came through, the listener
+    /// rests a little.
     fn accept_guests(&mut self) {
+        let mut missed = 0_usize;
         'guests: for _ in 0..GUESTS {
             if self.door != Door::Open {
                 break;
@@ -316,20 +450,37 @@ impl<'a, R: Clock + Files + Wait> Turns<'a, R> {
                         self.admit(stream, peer);
                     }
                 }
-                Err(error) if error.kind() == ErrorKind::WouldBlock => self.door = Door::Quiet,
-                Err(error) if error.kind() == ErrorKind::ConnectionAborted => {}
-                Err(error) if error.kind() == ErrorKind::Interrupted => {}
-                Err(_) => {
-                    self.door = Door::Failed;
-                    self.failed = self.now;
-                    self.crowd.drop_oldest();
+                Err(error) => {
+                    missed = missed.saturating_add(1);
+                    self.miss_guest(&error);
                 }
             }
+        }
+        if missed >= GUESTS {
+            self.door = Door::Failed;
+            self.failed = self.now;
+        }
+    }
+
+    /// No connection was accepted. Where the system is out of memory or descriptors, the oldest makes room, and the
+    /// listener rests a little. An error that isn't the listener's own says that the client has gone.
+    fn miss_guest(&mut self, error: &Error) {
+        if error.kind() == ErrorKind::WouldBlock {
+            self.door = Door::Quiet;
+        } else if is_shortage(error) {
+            self.door = Door::Failed;
+            self.failed = self.now;
+            self.crowd.drop_oldest();
+            let bell = self.watch.bell;
+            self.watch.tell(&bell.acceptors, error);
+        } else if is_for_good(error) {
+            self.door = Door::Gone;
         }
     }
 
     /// Gives a new connection a place. It is closed where the system refuses.
     fn admit(&mut self, stream: TcpStream, peer: Peer) {
+        self.crowd.make_room_for(peer.address);
         let Some(place) = self.crowd.seat() else {
             return;
         };

@@ -4,18 +4,20 @@ ghost use Rattle.dz_io.specs.Packets.{Receives};
 
 use crate::Bell;
 use crate::address::{peer_of, socket_address};
+use crate::calls::send_at_once;
+use crate::errors::is_for_good;
 use crate::frames::{is_notify, takes_notify};
+use crate::watch::Watch;
+use crate::work::millis;
 use dz_io::{Datagrams, Failed, Peer, Received};
-use std::io::ErrorKind;
+use std::fs::{File, Files};
+use std::io::{Eprint, Error, ErrorKind};
 use std::net::{Net, UdpSocket};
 use std::sync::Wait;
-use std::time::Duration;
+use std::time::{Clock, Duration};
 
 /// How many milliseconds a socket waits before it looks whether to stop.
 const LOOK_MILLIS: u64 = 200;
-
-/// After how many errors in a row a socket counts as failed.
-const ERRORS: u32 = 100;
 
 /// How many times a packet is sent that signals interrupt.
 const TRIES: usize = 1000;
@@ -23,8 +25,7 @@ const TRIES: usize = 1000;
 /// A UDP socket. It doesn't tell its packets, and is closed once the server is to stop.
 #[derive(Drop)]
 pub struct UdpDatagrams<'a, R> {
-    rt: &'a R,
-    bell: &'a Bell,
+    watch: Watch<'a, R>,
     pub(crate) socket: UdpSocket,
     /// Whether a NOTIFY that it received has its session.
     hears: bool,
@@ -47,8 +48,7 @@ impl<'a, R> UdpDatagrams<'a, R> {
         ensures faults { result.faults ≡ 0 }
     {
         UdpDatagrams {
-            rt,
-            bell,
+            watch: Watch::new(rt, bell),
             socket,
             hears: false,
             is_closed: false,
@@ -57,7 +57,7 @@ impl<'a, R> UdpDatagrams<'a, R> {
     }
 }
 
-impl<'a, R: Wait> UdpDatagrams<'a, R> {
+impl<'a, R: Clock + Eprint + Files<File = File> + Wait> UdpDatagrams<'a, R> {
     /// The session of a NOTIFY has ended, if there was one.
     fn end_session(&mut self)
         ensures closed { self.new.is_closed ≡ self.old.is_closed }
@@ -65,47 +65,76 @@ impl<'a, R: Wait> UdpDatagrams<'a, R> {
     {
         if self.hears {
             self.hears = false;
-            self.bell.notifies.end(self.rt);
+            self.watch.bell.notifies.end(self.watch.rt);
         }
     }
 
-    /// The next packet whose session may begin, or that the server is to stop; none after a run of errors.
+    /// The next packet whose session may begin, or that the server is to stop; none where the socket is bad.
     fn next_packet(&mut self, buffer: &mut [u8]) -> Option<Received>
         ensures came { IfSome result (λ r. Receives r buffer.new None None) }
         ensures closed { self.new.is_closed ≡ self.old.is_closed }
         ensures faults { self.new.faults ≡ self.old.faults }
     {
         'packets: for _ in 0..u64::MAX {
-            if let Some((length, peer)) = self.bell.notifies.next(self.rt, buffer) {
-                self.hears = true;
+            let now = self.watch.time();
+            if self.watch.is_to_stop_at(now) {
+                return Some(Received::Closed);
+            }
+            if let Some((length, peer)) = self.next_notify(now, buffer) {
                 return Some(Received::Packet { length, peer });
             }
-            match receive_next(&self.socket, self.bell, buffer)? {
-                Received::Closed => return Some(Received::Closed),
-                Received::Packet { length, peer } => {
-                    if self.may_begin(&peer, buffer.get(..length).unwrap_or(&[])) {
-                        return Some(Received::Packet { length, peer });
+            match self.socket.recv_from(buffer) {
+                Ok((length, from)) => {
+                    if let Some(peer) = peer_of(&from) {
+                        if self.may_begin(&peer, buffer.get(..length).unwrap_or(&[])) {
+                            return Some(Received::Packet { length, peer });
+                        }
                     }
                 }
+                Err(error) if is_for_good(&error) => break,
+                Err(error) => self.rest_after(&error),
             }
         }
         None
     }
 
-    /// Whether the session of a packet may begin at once: of any but a NOTIFY while another has its session.
+    /// A NOTIFY that has waited and whose session begins now, at the beginning of the buffer.
+    fn next_notify(&mut self, now: Duration, buffer: &mut [u8]) -> Option<(usize, Peer)>
+        ensures came { IfSome result (λ found. found.0 ≤ length buffer.new) }
+        ensures closed { self.new.is_closed ≡ self.old.is_closed }
+        ensures faults { self.new.faults ≡ self.old.faults }
+    {
+        let notifies = &self.watch.bell.notifies;
+        let found = notifies.next(self.watch.rt, millis(now), buffer)?;
+        self.hears = true;
+        Some(found)
+    }
+
+    /// Whether the session of a packet may begin at once: of any from a port that can be answered, but for a NOTIFY that
+    /// has to wait.
     fn may_begin(&mut self, peer: &Peer, packet: &[u8]) -> bool
         ensures closed { self.new.is_closed ≡ self.old.is_closed }
         ensures faults { self.new.faults ≡ self.old.faults }
     {
-        if !is_notify(packet) {
-            return true;
+        if peer.port == 0 || !is_notify(packet) {
+            return peer.port != 0;
         }
-        self.hears = self.bell.notifies.begin(self.rt, peer, packet);
+        let now = millis(self.watch.time());
+        let notifies = &self.watch.bell.notifies;
+        self.hears = notifies.begin(self.watch.rt, now, peer, packet);
         self.hears
+    }
+
+    /// Waits a little after an error, unless nothing came or a signal interrupted.
+    fn rest_after(&self, error: &Error) {
+        if !matches!(error.kind(), ErrorKind::WouldBlock | ErrorKind::Interrupted) {
+            let bell = self.watch.bell;
+            self.watch.rest_after(&bell.datagrams, error);
+        }
     }
 }
 
-impl<'a, R: Wait> Datagrams for UdpDatagrams<'a, R> {
+impl<'a, R: Clock + Eprint + Files<File = File> + Wait> Datagrams for UdpDatagrams<'a, R> {
     ghost received = { λ _. None };
 
     ghost sent = { λ _. None };
@@ -114,8 +143,8 @@ impl<'a, R: Wait> Datagrams for UdpDatagrams<'a, R> {
 
     ghost faults = { λ device. device.faults };
 
-    /// The next packet. A NOTIFY is kept back while another has its session, and comes once that has ended. The call
-    /// fails only after a run of errors, since a later packet may come through.
+    /// The next packet. A NOTIFY may be kept back or dropped, as `Notifies` says. The call fails only where the socket
+    /// is bad, since a later packet may come through; after the last such socket the server is to stop.
     fn receive(&mut self, buffer: &mut [u8]) -> Result<Received, Failed> {
         self.end_session();
         match self.next_packet(buffer) {
@@ -126,18 +155,22 @@ impl<'a, R: Wait> Datagrams for UdpDatagrams<'a, R> {
             Some(Received::Packet { length, peer }) => Ok(Received::Packet { length, peer }),
             None => {
                 self.faults = self.faults.saturating_add(1);
+                let bell = self.watch.bell;
+                bell.lose(self.watch.rt, &bell.datagrams);
                 Err(Failed)
             }
         }
     }
 
-    /// Sends a packet, and rings the bell after the reply to a NOTIFY that was taken: then the zone that it tells of is
-    /// due.
+    /// Sends a packet, if the socket takes it at once. It rings the bell after the reply to a NOTIFY that was taken:
+    /// then the zone that it tells of is due.
     fn send(&mut self, peer: &Peer, piece: &[u8]) -> Result<(), Failed> {
         let is_sent = send_whole(&self.socket, peer, piece);
         self.end_session();
         if takes_notify(piece) {
-            self.bell.ring(self.rt);
+            let bell = self.watch.bell;
+            bell.notifies.know(self.watch.rt, peer.address);
+            bell.ring(self.watch.rt);
         }
         if is_sent {
             Ok(())
@@ -148,36 +181,10 @@ impl<'a, R: Wait> Datagrams for UdpDatagrams<'a, R> {
     }
 }
 
-/// The next packet, or that the server is to stop; none after a run of errors.
-fn receive_next(socket: &UdpSocket, bell: &Bell, buffer: &mut [u8]) -> Option<Received>
-    ensures { IfSome result (λ r. Receives r buffer.new None None) }
-{
-    let mut errors = 0_u32;
-    'packets: for _ in 0..u64::MAX {
-        if bell.is_to_stop() {
-            return Some(Received::Closed);
-        }
-        match socket.recv_from(buffer) {
-            Ok((length, from)) => {
-                if let Some(peer) = peer_of(&from) {
-                    return Some(Received::Packet { length, peer });
-                }
-            }
-            Err(error) if error.kind() == ErrorKind::Interrupted => {}
-            Err(error) if error.kind() == ErrorKind::WouldBlock => errors = 0,
-            Err(_) => errors = errors.saturating_add(1),
-        }
-        if errors >= ERRORS {
-            break;
-        }
-    }
-    None
-}
-
 /// Sends a packet, again where a signal interrupts. It answers whether the whole of it went.
 fn send_whole(socket: &UdpSocket, peer: &Peer, piece: &[u8]) -> bool {
     'tries: for _ in 0..TRIES {
-        match socket.send_to(piece, socket_address(peer)) {
+        match send_at_once(socket, peer, piece) {
             Ok(count) => return count == piece.len(),
             Err(error) if error.kind() == ErrorKind::Interrupted => {}
             Err(_) => return false,

@@ -21,6 +21,13 @@ impl Waiting {
         Waiting { octets: 0 }
     }
 
+    /// Whether nothing waits.
+    pub fn is_none(self) -> bool
+        ensures { IsTrue result ↔ (self.octets ≡ 0) }
+    {
+        self.octets == 0
+    }
+
     /// Whether this many octets more may wait.
     pub fn has_room(self, count: usize) -> bool
         ensures { IsTrue result ↔ (self.octets + count ≤ WAITING_OCTETS) }

@@ -1,5 +1,5 @@
 -- Meaning: what is read of a job's transfer from a source, and over a link that was dialled for it.
-use Rattle.std.specs.Prelude.{⊤, ◌≡◌, ℕ, List, [], ◌∷◌, Option, None, Some, IsSome}
+use Rattle.std.specs.Prelude.{⊤, ◌≡◌, ℕ, List, [], ◌∷◌, take, Option, None, Some, IsSome}
 use Rattle.dz_name.specs.Words.{Octets}
 use Rattle.dz_io.specs.Counts.{HasRisen}
 use Rattle.dz_io.specs.Device.{Gains, Tells, IsAtEnd}
@@ -41,13 +41,18 @@ IsTaken (fetched.Finished read) job before after left = IsTakenFrom job before a
 IsTaken fetched.LinkFault job before after left = ⊤
 IsTaken fetched.OutOfMemory job before after left = ⊤
 
--- the link to the job's primary, by the answer; without one the dial failed
+-- a link goes to the job's primary, and what was written to it is the job's query or a beginning of it
+pub record IsDialledFor (job : JobOf) (link : Dialled) : Type 0 where
+  pub peer : link.peer ≡ job.flight.primary
+  pub written : (n : ℕ) × Tells (take n (query_of job)) link.written
+
+-- the link that was made for the job, by the answer; without one the dial failed
 abbrev pub IsFetched : Fetched → JobOf → Option Dialled → Type 0
 IsFetched (fetched.Finished read) job (Some link) = (link.peer ≡ job.flight.primary) × IsFetchedOver job link read
 IsFetched (fetched.Finished read) job None = ⊥
-IsFetched fetched.LinkFault job (Some link) = link.peer ≡ job.flight.primary
+IsFetched fetched.LinkFault job (Some link) = IsDialledFor job link
 IsFetched fetched.LinkFault job None = ⊤
-IsFetched fetched.OutOfMemory job (Some link) = link.peer ≡ job.flight.primary
+IsFetched fetched.OutOfMemory job (Some link) = IsDialledFor job link
 IsFetched fetched.OutOfMemory job None = ⊥
 
 -- a link was dialled; or the dial failed, and the count of faults rose
@@ -67,8 +72,8 @@ pub record IsFetch (result : Fetched) (job : JobOf) (before after : Option (List
   pub gains : Gains (links_of link) before after
   pub shown : ShowsDial link faults now
 
--- a count of faults is unchanged where the transfer was read, and rose where the answer is a link fault
+-- a count of faults rose where the answer is a link fault, and is unchanged where it is another
 abbrev pub Counts : Fetched → ℕ → ℕ → Type 0
 Counts (fetched.Finished read) before now = now ≡ before
 Counts fetched.LinkFault before now = HasRisen before now
-Counts fetched.OutOfMemory before now = ⊤
+Counts fetched.OutOfMemory before now = now ≡ before

@@ -33,6 +33,7 @@ pub fn fetch<D: Dialer>(alloc: Global, dialer: &mut D, job: &Job) -> Fetched
 }
 
 /// Writes the job's query to a link, and reads what it gives.
+#[tactic(auto, using(crate::proofs::FetchLemmas::none_written, crate::proofs::FetchLemmas::asked_by))]
 fn ask<L: Link>(alloc: Global, link: &mut L, job: &Job) -> Fetched
     ensures asked { IsAsked result (query_of job.now) (L.held link.old) (L.held link.new) }
     ensures taken { IsTaken result job.now (L.given link.old) (L.given link.new) (L.left link.new) }

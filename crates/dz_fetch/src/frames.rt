@@ -1,7 +1,7 @@
 //! Frames that are read from a source.
 ghost use Rattle.std.specs.Prelude.{◌≡◌, ◌<◌, ◌≤◌, length, take, IfOk, OnOk};
-ghost use Rattle.dz_io.specs.Device.{Gains, IsAtEnd, HasCause, HasCauseOf};
-ghost use Rattle.dz_fetch.specs.inner.Frames.{ReadsOn, IsNext};
+ghost use Rattle.dz_io.specs.Device.{Gains, IsAtEnd, HasCause};
+ghost use Rattle.dz_fetch.specs.inner.Frames.{ReadsOn, IsNext, HasCount};
 
 use dz_io::{Failed, Source};
 use dz_name::dns::LENGTH_OCTETS;
@@ -35,7 +35,7 @@ fn read_to<S: Source>(source: &mut S, octets: &mut Vec<u8>, want: usize) -> Resu
     ensures read { OnOk result (ReadsOn want octets.old.items octets.new.items
         (S.given source.old) (S.given source.new) (S.left source.new)) }
     ensures beside { S.beside source.new ≡ S.beside source.old }
-    ensures cause { HasCauseOf (S.faults source.old) (S.faults source.new) result ReadError.Fault }
+    ensures cause { HasCount (S.faults source.old) (S.faults source.new) result }
 {
     let mut piece = [0; 4096];
     'pieces: while octets.len() < want {
@@ -58,7 +58,7 @@ pub(crate) fn read_frame<S: Source>(source: &mut S, frame: &mut Vec<u8>) -> Resu
     ensures next { IfOk result (λ whole. IsNext whole frame.new.items (S.left source.new)) }
     ensures given { OnOk result (Gains frame.new.items (S.given source.old) (S.given source.new)) }
     ensures beside { S.beside source.new ≡ S.beside source.old }
-    ensures cause { HasCauseOf (S.faults source.old) (S.faults source.new) result ReadError.Fault }
+    ensures cause { HasCount (S.faults source.old) (S.faults source.new) result }
 {
     frame.clear();
     read_to(source, frame, LENGTH_OCTETS)?;

@@ -1,12 +1,11 @@
 //! A transfer that is read from a source.
 ghost use Rattle.std.specs.Prelude.{◌≡◌, ◌≤◌, [], ◌++◌, None, length, IfOk, OnOk};
-ghost use Rattle.dz_io.specs.Device.{HasCauseOf};
 ghost use Rattle.dz_message.specs.Frame.{messages_in};
 ghost use Rattle.dz_name.specs.declared.dns.TheConstants.{TRANSFER_OCTETS};
 ghost use Rattle.dz_take.specs.Outcome.{decided};
 ghost use Rattle.dz_take.specs.Taken.{Shows};
 ghost use Rattle.dz_fetch.specs.Fetching.{IsTakenFrom, IsTaken, Counts};
-ghost use Rattle.dz_fetch.specs.inner.Frames.{IsFrame, AreFrames, HasTaken};
+ghost use Rattle.dz_fetch.specs.inner.Frames.{IsFrame, AreFrames, HasTaken, HasCount};
 
 use crate::Fetched;
 use crate::frames::{ReadError, read_frame};
@@ -37,7 +36,7 @@ fn take<S: Source>(alloc: Global, source: &mut S, job: &Job) -> Result<Finished,
     ensures taken { IfOk result (λ f.
         IsTakenFrom job.now (S.given source.old) (S.given source.new) (S.left source.new) f) }
     ensures beside { S.beside source.new ≡ S.beside source.old }
-    ensures cause { HasCauseOf (S.faults source.old) (S.faults source.new) result ReadError.Fault }
+    ensures cause { HasCount (S.faults source.old) (S.faults source.new) result }
 {
     let Ok(mut taking) = start_taking(alloc, job) else {
         return Err(ReadError::OutOfMemory);
@@ -64,7 +63,7 @@ fn read_messages<S: Source>(
     ensures read { OnOk result (HasTaken taking.old.transfer taking.new.octets
         (S.given source.old) (S.given source.new) (S.left source.new)) }
     ensures beside { S.beside source.new ≡ S.beside source.old }
-    ensures cause { HasCauseOf (S.faults source.old) (S.faults source.new) result ReadError.Fault }
+    ensures cause { HasCount (S.faults source.old) (S.faults source.new) result }
 {
     let mut frame = Vec::new(alloc);
     'frames: while read_frame(source, &mut frame)? {

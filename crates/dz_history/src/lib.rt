@@ -9,7 +9,6 @@ mod history;
 mod holdings;
 mod laws;
 mod past;
-mod slots;
 mod table_after;
 mod take;
 

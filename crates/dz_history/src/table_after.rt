@@ -10,8 +10,11 @@ ghost use Rattle.dz_history.specs.After.{slot_after, fresh};
 use crate::holdings::Holdings;
 use dz_member::{Fold, Membership};
 use dz_name::Name;
+use dz_steps::Steps;
 use dz_table::{Ahead, SharedSlot, Slot, Table};
 use std::alloc::{AllocError, Global};
+use std::marker::Brand;
+use std::sync::ledger::{Blank, Ledger};
 
 /// The slots of the members of a fold: those of zones whose incarnation is unchanged stay, and others are fresh.
 /// `AllocError` where memory runs out.
@@ -79,13 +82,30 @@ fn same_slot(alloc: Global, ahead: &mut Ahead, zone: &Name) -> Result<SharedSlot
         ≡ unwrap_or (slot_of zone.now ahead.old) (fresh zone.now)) }
     ensures ahead { ahead.new ≡ ahead.old }
 {
-    match ahead.slot(alloc, zone)? {
+    match counted_slot::<Brand>(Blank::new(1), alloc, ahead, zone)? {
         Some(slot) => Ok(slot),
         None => fresh(alloc, zone),
     }
 }
 
-/// The slot of a zone that begins. `AllocError` where memory runs out.
+/// The slot of a zone, if it has one, counted in a ledger that is still blank.
+fn counted_slot<L: Ledger>(
+    blank: Blank,
+    alloc: Global,
+    ahead: &mut Ahead,
+    zone: &Name,
+) -> Result<Option<SharedSlot>, AllocError>
+    requires name { blank.name ≡ L.name }
+    requires parts { blank.parts ≡ L.parts }
+    requires whole { blank.parts ≡ 1 }
+    ensures slot { IfOk result (λ slot. slot ≡ slot_of zone.now ahead.old) }
+    ensures ahead { ahead.new ≡ ahead.old }
+{
+    let mut steps = Steps::<L>::new(blank);
+    ahead.slot(alloc, zone, &mut steps)
+}
+
+/// The slot of a zone that begins.
 fn fresh(alloc: Global, zone: &Name) -> Result<SharedSlot, AllocError>
     ensures { IfOk result (λ slot. slot ≡ fresh zone.now) }
 {

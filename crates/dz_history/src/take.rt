@@ -15,7 +15,6 @@ ghost use Rattle.dz_history.specs.After.{taken, catalog_after, member_after, aft
 use crate::aftermath::Aftermath;
 use crate::held::{share_all, with_version};
 use crate::holdings::Holdings;
-use crate::slots::table_with;
 use crate::table_after::table_after;
 use dz_catalog::{CatalogError, read_listing_after};
 use dz_member::{Fold, Listing};
@@ -205,7 +204,7 @@ impl Holdings {
         requires { IsSome (slot_of slot.zone self.now.table) }
         ensures { IfOk result (λ h. h ≡ record self.now { table = put self.now.table slot }) }
     {
-        let table = table_with(alloc, &self.table, slot)?;
+        let table = self.table.with_slot(alloc, slot)?;
         Ok(Holdings {
             fold: Arc::try_clone(&self.fold)?,
             versions: share_all(alloc, self.versions.as_slice())?,

@@ -15,10 +15,11 @@ use Rattle.std.proofs.lemmas.List.{get_or_append_left, take-append-le, drop-appe
 use Rattle.std.specs.FinMap.{slice_cmp-IsAntisymmetric, nat_cmp-IsAntisymmetric}
 use Rattle.dz_index.specs.SortKey.{key_of}
 use Rattle.dz_name.specs.Name.{canonical_order}
-use Rattle.dz_index.specs.Index.{IsLast, order_behind}
-use Rattle.dz_index.specs.inner.Rows.{Rows, compared, key_at, count, total, IsKept, IsIndex, repeated, added, last_compared}
+use Rattle.dz_index.specs.Index.{order_behind}
+use Rattle.dz_index.specs.Rows.{Rows, compared, key_at, count, total, IsIndex}
+use Rattle.dz_index.specs.inner.Kept.{IsKept, repeated, added, last_compared}
 use Rattle.dz_index.proofs.KeyLemmas.{key_order}
-use Rattle.dz_index.proofs.OrderLemmas.{le_le}
+use Rattle.dz_index.proofs.OrderLemmas.{IsLast, le_le}
 
 -- an element of a list with one more behind it
 old_item : {A : Type 0} (xs : List A) (y : A) (j : ℕ) (d : A) → j < length xs → get_or (xs ++ y ∷ []) j d ≡ get_or xs j d
@@ -50,10 +51,7 @@ module _ (owners : List (List (List ℕ))) (r : Rows) (name : List (List ℕ)) (
     there i h = let ne : i ≢ count r = omega arith in get_or-set_other r.firsts (count r) i (total r + 1) 0 ne
 
     at_end : slice_index (set r.firsts (count r) (total r + 1)) (count r) ≡ total r + 1
-    at_end = get_or-set_same r.firsts (count r) (total r + 1) 0 (omega arith)
-
-    same_count : count (repeated r) ≡ count r
-    same_count = ap (λ n. n - 1) (length-set r.firsts (count r) (total r + 1))
+    at_end = get_or-set_same r.firsts (count r) (total r + 1) 0 (omega (arith, kept.long))
 
     last_le : (i : ℕ) → i < count r → is_lt (compared (key_of name) (key_at r i)) ≡ false
     last_le i h = elim (cases_lt i (count r - 1)) [
@@ -65,7 +63,7 @@ module _ (owners : List (List (List ℕ))) (r : Rows) (name : List (List ℕ)) (
     upto_again i j d h k = elim (cases_lt (i + 1) (count r)) [
       | inl lt ↦
           let l : j < slice_index r.firsts (i + 1) = rw (there (i + 1) lt) at k in
-          rw (old_item owners name j d (omega (arith, kept.within (i + 1), index.total_is))) (index.upto i j d h l)
+          rw (old_item owners name j d (omega (arith, kept.long, kept.within (i + 1), index.total_is))) (index.upto i j d h l)
       | inr le ↦
           let e : i + 1 ≡ count r = omega arith in
           let l : j < total r + 1 = rw (e, at_end) at k in
@@ -89,17 +87,17 @@ module _ (owners : List (List (List ℕ))) (r : Rows) (name : List (List ℕ)) (
     grow_again : (i : ℕ) → i < count r → slice_index (set r.firsts (count r) (total r + 1)) i < slice_index (set r.firsts (count r) (total r + 1)) (i + 1)
     grow_again i h = elim (cases_lt (i + 1) (count r)) [
       | inl lt ↦ rw (there i h, there (i + 1) lt) (index.grow i h)
-      | inr le ↦ let e : i + 1 ≡ count r = omega arith in let g : slice_index r.firsts i < total r + 1 = omega (arith, kept.within i) in rw (there i h, e, at_end) g
+      | inr le ↦ let e : i + 1 ≡ count r = omega arith in let g : slice_index r.firsts i < total r + 1 = omega (arith, kept.long, kept.within i) in rw (there i h, e, at_end) g
     ]
 
     pub index_repeated : IsIndex (owners ++ name ∷ []) (repeated r)
     index_repeated = record {
-      total_is = rw (same_count, at_end) (omega (arith, index.total_is, longer owners name));
+      total_is = rw at_end (omega (arith, index.total_is, longer owners name));
       first = there 0 some ∙ index.first;
-      grow = λ i h. grow_again i (rw same_count at h);
-      rise = λ i j h k. index.rise i j h (rw same_count at k);
-      upto = λ i j d h k. upto_again i j d (rw same_count at h) k;
-      behind = λ i j d h k l. behind_again i j d (rw same_count at h) k l;
+      grow = λ i h. grow_again i h;
+      rise = λ i j h k. index.rise i j h k;
+      upto = λ i j d h k. upto_again i j d h k;
+      behind = λ i j d h k l. behind_again i j d h k l;
     }
 
   -- a key of its own, behind all others
@@ -110,27 +108,14 @@ module _ (owners : List (List (List ℕ))) (r : Rows) (name : List (List ℕ)) (
     late : slice_index (added r key).firsts (length r.firsts) ≡ total r + 1
     late = new_item r.firsts (total r + 1) (length r.firsts) 0 refl
 
-    bound_early : (i : ℕ) → i < length r.firsts → slice_index (added r key).bounds i ≡ slice_index r.bounds i
-    bound_early i h = old_item r.bounds (length r.octets + length key) i 0 (omega (arith, kept.long))
-
-    bound_late : slice_index (added r key).bounds (length r.firsts) ≡ length r.octets + length key
-    bound_late = new_item r.bounds (length r.octets + length key) (length r.firsts) 0 (omega (arith, kept.long))
-
     more_count : count (added r key) ≡ count r + 1
-    more_count = omega (arith, longer r.firsts (total r + 1), kept.some)
+    more_count = longer r.keys key
 
     old_key : (i : ℕ) → i < count r → key_at (added r key) i ≡ key_at r i
-    old_key i h =
-        let a : slice_index r.bounds i ≤ length r.octets = kept.inside i (omega arith) in
-        let b : slice_index r.bounds (i + 1) ≤ length r.octets = kept.inside (i + 1) (omega arith) in
-        rw (bound_early i (omega arith), bound_early (i + 1) (omega arith), drop-append-le (slice_index r.bounds i) r.octets key a)
-        (take-append-le (slice_index r.bounds (i + 1) - slice_index r.bounds i) (drop (slice_index r.bounds i) r.octets) key (omega (arith, length-drop (slice_index r.bounds i) r.octets)))
+    old_key i h = old_item r.keys key i [] h
 
     new_key : (i : ℕ) → i ≡ count r → key_at (added r key) i ≡ key
-    new_key i e =
-        let s : i + 1 ≡ length r.firsts = omega (arith, kept.some) in
-        let b : slice_index (added r key).bounds i ≡ length r.octets = bound_early i (omega arith) ∙ rw e kept.last in
-        rw (s, bound_late, b, drop_at r.octets key (length r.octets) refl) (take_all (length r.octets + length key - length r.octets) key (omega arith))
+    new_key i e = new_item r.keys key i [] e
 
     owner_le : (j : ℕ) (d : List (List ℕ)) → j < length owners → is_le (compared (key_of (get_or owners j d)) key) ≡ true
     owner_le j d h = rw is (ap is_le (key_order (get_or owners j d) name) ∙ last j d h)
@@ -150,7 +135,7 @@ module _ (owners : List (List (List ℕ))) (r : Rows) (name : List (List ℕ)) (
         let i = count r - 1 in
         let e : i + 1 ≡ count r = omega arith in
         let j = slice_index r.firsts i in
-        let in_range : j < length owners = omega (arith, index.total_is, index.grow i (omega arith), kept.within (i + 1) (omega arith)) in
+        let in_range : j < length owners = omega (arith, index.total_is, index.grow i (omega arith), kept.within (i + 1) (omega (arith, kept.long))) in
         let tied : compared (key_of (get_or owners j [])) (key_at r i) ≡ Equal =
         both (compared (key_of (get_or owners j [])) (key_at r i)) (index.upto i j [] (omega arith) (index.grow i (omega arith))) (index.behind i j [] (omega arith) (omega arith) in_range) in
         let le : is_le (compared (key_at r i) key) ≡ true = ap is_le (sym (nat_list_cmp_total.congr (key_of (get_or owners j [])) (key_at r i) key tied)) ∙ owner_le j [] in_range in
@@ -164,12 +149,12 @@ module _ (owners : List (List (List ℕ))) (r : Rows) (name : List (List ℕ)) (
 
     grow_more : (i : ℕ) → i < count r + 1 → slice_index (added r key).firsts i < slice_index (added r key).firsts (i + 1)
     grow_more i h = elim (cases_lt i (count r)) [
-      | inl lt ↦ rw (early i (omega arith), early (i + 1) (omega arith)) (index.grow i lt)
+      | inl lt ↦ rw (early i (omega (arith, kept.long)), early (i + 1) (omega (arith, kept.long))) (index.grow i lt)
       | inr le ↦
           let e : i ≡ count r = omega arith in
-          let s : i + 1 ≡ length r.firsts = omega (arith, kept.some) in
+          let s : i + 1 ≡ length r.firsts = omega (arith, kept.long) in
           let t : slice_index r.firsts i ≡ total r = ap (slice_index r.firsts) e in
-          rw (s, late, early i (omega arith), t) (omega arith)
+          rw (s, late, early i (omega (arith, kept.long)), t) (omega arith)
     ]
 
     rise_more : (i j : ℕ) → i < j → j < count r + 1 → compared (key_at (added r key) i) (key_at (added r key) j) ≡ Less
@@ -181,10 +166,10 @@ module _ (owners : List (List (List ℕ))) (r : Rows) (name : List (List ℕ)) (
     upto_more : (i j : ℕ) (d : List (List ℕ)) → i < count r + 1 → j < slice_index (added r key).firsts (i + 1) → is_le (compared (key_of (get_or (owners ++ name ∷ []) j d)) (key_at (added r key) i)) ≡ true
     upto_more i j d h k = elim (cases_lt i (count r)) [
       | inl lt ↦
-          let l : j < slice_index r.firsts (i + 1) = rw (early (i + 1) (omega arith)) at k in
-          rw (old_key i lt, old_item owners name j d (omega (arith, kept.within (i + 1), index.total_is))) (index.upto i j d lt l)
+          let l : j < slice_index r.firsts (i + 1) = rw (early (i + 1) (omega (arith, kept.long))) at k in
+          rw (old_key i lt, old_item owners name j d (omega (arith, kept.long, kept.within (i + 1), index.total_is))) (index.upto i j d lt l)
       | inr le ↦
-          let s : i + 1 ≡ length r.firsts = omega (arith, kept.some) in
+          let s : i + 1 ≡ length r.firsts = omega (arith, kept.long) in
           let l : j < total r + 1 = rw (s, late) at k in
           elim (cases_lt j (length owners)) [
             | inl old ↦ rw (new_key i (omega arith), old_item owners name j d old) (owner_le j d old)
@@ -195,7 +180,7 @@ module _ (owners : List (List (List ℕ))) (r : Rows) (name : List (List ℕ)) (
     behind_more : (i j : ℕ) (d : List (List ℕ)) → i < count r + 1 → slice_index (added r key).firsts i ≤ j → j < length (owners ++ name ∷ [])
         → is_lt (compared (key_of (get_or (owners ++ name ∷ []) j d)) (key_at (added r key) i)) ≡ false
     behind_more i j d h k l =
-        let m : slice_index r.firsts i ≤ j = rw (early i (omega arith)) at k in
+        let m : slice_index r.firsts i ≤ j = rw (early i (omega (arith, kept.long))) at k in
         elim (cases_lt i (count r)) [
           | inl lt ↦ elim (cases_lt j (length owners)) [
             | inl old ↦ rw (old_key i lt, old_item owners name j d old) (index.behind i j d lt m old)
@@ -209,36 +194,23 @@ module _ (owners : List (List (List ℕ))) (r : Rows) (name : List (List ℕ)) (
 
     pub index_added : IsIndex (owners ++ name ∷ []) (added r key)
     index_added =
-        let n : length (r.firsts ++ (total r + 1) ∷ []) - 1 ≡ length r.firsts = omega (arith, longer r.firsts (total r + 1)) in
+        let n : length (r.keys ++ key ∷ []) ≡ length r.firsts = omega (arith, longer r.keys key, kept.long) in
         record {
           total_is = rw (n, late) (omega (arith, index.total_is, longer owners name));
-          first = early 0 kept.some ∙ index.first;
+          first = early 0 (omega (arith, kept.long)) ∙ index.first;
           grow = λ i h. grow_more i (rw more_count at h);
           rise = λ i j h k. rise_more i j h (rw more_count at k);
           upto = λ i j d h k. upto_more i j d (rw more_count at h) k;
           behind = λ i j d h k l. behind_more i j d (rw more_count at h) k l;
         }
 
-pub total_added : (r : Rows) (key : List ℕ) → total (added r key) ≡ total r + 1
-total_added r key =
-    let n : length (r.firsts ++ (total r + 1) ∷ []) - 1 ≡ length r.firsts = omega (arith, longer r.firsts (total r + 1)) in
+pub total_added : (r : Rows) (key : List ℕ) → IsKept r → total (added r key) ≡ total r + 1
+total_added r key kept =
+    let n : length (r.keys ++ key ∷ []) ≡ length r.firsts = omega (arith, longer r.keys key, kept.long) in
     rw n (new_item r.firsts (total r + 1) (length r.firsts) 0 refl)
 
-pub ends_yes : (n : ℕ) (a b : List ℕ) → nat_lt 0 n && bytes_eq a b ≡ true → (0 < n) × (a ≡ b)
-ends_yes n a b h = (
-  (let t = first_so (nat_lt 0 n) (bytes_eq a b) h in grind (arith, nat_tests)),
-  (bytes_eq-Decides a b).0 (second_so (nat_lt 0 n) (bytes_eq a b) h),
-)
-
-pub ends_no : (n : ℕ) (a b : List ℕ) → nat_lt 0 n && bytes_eq a b ≡ false → 0 < n → a ≢ b
-ends_no n a b h some e =
-    let t : nat_lt 0 n ≡ true = grind (arith, nat_tests) in
-    let s : bytes_eq a b ≡ true = (bytes_eq-Decides a b).1 e in
-    false≢true (sym (rw (t, s) at h))
-
-pub ok_is : {A E : Type 0} (P : A → Type 0) (r : Result A E) (s : A) → IfOk r (λ i. i ≡ s) → P s → IfOk r P
-ok_is P (Ok i) s h p = subst P (sym h) p
-ok_is P (Err e) s h p = tt
+pub total_repeated : (r : Rows) → IsKept r → total (repeated r) ≡ total r + 1
+total_repeated r kept = get_or-set_same r.firsts (count r) (total r + 1) 0 (omega (arith, kept.long))
 
 lt_true : (n : ℕ) → 0 < n → nat_lt 0 n ≡ true
 lt_true n h = grind (arith, nat_tests)
@@ -259,14 +231,14 @@ module _ (owners : List (List (List ℕ))) (r : Rows) (kept : IsKept r) (index :
   some_keys some = elim (cases_lt 0 (count r)) [
     | inl lt ↦ lt
     | inr le ↦
-        let e : length r.firsts - 1 ≡ 0 = omega arith in
+        let e : length r.keys ≡ 0 = omega arith in
         let z : total r ≡ 0 = ap (slice_index r.firsts) e ∙ index.first in
         absurd (omega (arith, index.total_is))
   ]
 
   no_keys : length owners ≡ 0 → count r ≡ 0
   no_keys none = elim (cases_lt 0 (count r)) [
-    | inl lt ↦ absurd (omega (arith, index.grow 0 lt, kept.within 1 (omega arith), index.total_is))
+    | inl lt ↦ absurd (omega (arith, index.grow 0 lt, kept.within 1 (omega (arith, kept.long)), index.total_is))
     | inr le ↦ omega arith
   ]
 

@@ -1,4 +1,6 @@
 pub mod KeyLemmas
+pub mod LeadLemmas
+pub mod PartLemmas
 pub mod SearchLemmas
 pub mod OrderLemmas
 pub mod OwnerKeyLemmas

@@ -8,7 +8,15 @@ use Rattle.std.specs.declared.cmp.Ordering.{Ordering}
 use Rattle.std.specs.declared.cmp.Ordering.TheVariants.{Less, Equal, Greater}
 use Rattle.std.proofs.lemmas.List.{get_or-take, take_more, get_or_default}
 use Rattle.std.specs.Cmp.{tied_itself}
-use Rattle.dz_index.specs.Index.{InOrder, IsLast}
+use Rattle.dz_index.specs.Index.{InOrder, order_behind}
+use Rattle.std.specs.Prelude.{nat_lt}
+use Rattle.std.proofs.lemmas.Bool.Decides.{nat_tests}
+use Rattle.std.specs.Ordering.{is_gt}
+use Rattle.std.proofs.Common.{false, ◌-◌}
+
+-- no owner comes behind the name
+abbrev pub IsLast : List (List ℕ) → List (List (List ℕ)) → Type 0
+IsLast name owners = (at : ℕ) (d : List (List ℕ)) → at < length owners → is_le (canonical_order (get_or owners at d) name) ≡ true
 
 pub le_le : (a b c : List (List ℕ)) → is_le (canonical_order a b) ≡ true → is_le (canonical_order b c) ≡ true → is_le (canonical_order a c) ≡ true
 le_le a b c p q = go (canonical_order a b) refl p
@@ -42,3 +50,18 @@ is_last owners n name order within is at d before =
 
 pub one_more_owner : (owners : List (List (List ℕ))) (n : ℕ) (name : List (List ℕ)) → n < length owners → name ≡ get_or owners n name → take (n + 1) owners ≡ take n owners ++ name ∷ []
 one_more_owner owners n name within is = take_more owners n name within ∙ ap (λ o. take n owners ++ o ∷ []) (sym is)
+
+not_gt : (o : Ordering) → is_le o ≡ true → is_gt o ≡ false
+not_gt Less h = refl
+not_gt Equal h = refl
+not_gt Greater h = absurd (false≢true h)
+
+more_than_none : (n : ℕ) → 0 < n → nat_lt 0 n ≡ true
+more_than_none n h = grind (arith, nat_tests)
+
+-- where no owner comes behind the name, the last one doesn't
+pub not_behind : (owners : List (List (List ℕ))) (name : List (List ℕ)) → IsLast name owners → is_gt (order_behind owners name) ≡ false
+not_behind [] name last = refl
+not_behind (o ∷ owners) name last =
+    let some : nat_lt 0 (length (o ∷ owners)) ≡ true = more_than_none (length (o ∷ owners)) (omega arith) in
+    rw some (not_gt (canonical_order (get_or (o ∷ owners) (length (o ∷ owners) - 1) []) name) (last (length (o ∷ owners) - 1) [] (omega arith)))

@@ -15,7 +15,8 @@ use Rattle.dz_index.specs.SortKey.{key_of}
 use Rattle.dz_index.specs.Index.{IsFirstOf, IsEndOf, IsRun, TakesAtMost}
 use Rattle.std.specs.FinMap.{slice_cmp-IsAntisymmetric, nat_cmp-IsAntisymmetric}
 use Rattle.dz_name.specs.Name.{canonical_order}
-use Rattle.dz_index.specs.inner.Rows.{Rows, compared, key_at, count, IsIndex, AreRising, IsPlaceAmong}
+use Rattle.dz_index.specs.Rows.{Rows, compared, key_at, count, IsIndex, AreRising}
+use Rattle.dz_index.specs.inner.Kept.{IsPlaceAmong}
 use Rattle.dz_index.proofs.KeyLemmas.{key_order}
 
 pub halved : (t u s r n : ℕ) → u ≡ t + 1 → 2 ^ t * s ≤ n → 2 * r ≤ s → 2 ^ u * r ≤ n
@@ -191,6 +192,19 @@ pub takes_at_most : (n m t taken : ℕ) → n ≤ m → 2 ^ t ≤ 2 * n + 1 → 
 takes_at_most n m t taken few search le bits h = elim (cases_lt t (bits + 1)) [
   | inl lt ↦ omega arith
   | inr ge ↦ let m : 2 ^ (bits + 1) ≤ 2 ^ t = pow_mono ge in absurd (omega arith)
+]
+
+-- a comparison where there is a key
+pub one_more : (n m old new : ℕ) → n ≤ m → (n < m → new ≡ old + 1) → (n ≡ m → new ≡ old) → new ≤ old + 1
+one_more n m old new le one none = elim (cases_lt n m) [
+  | inl lt ↦ omega (arith, one lt)
+  | inr ge ↦ omega (arith, none (omega arith))
+]
+
+pub none_less : (n m old new : ℕ) → n ≤ m → (n < m → new ≡ old + 1) → (n ≡ m → new ≡ old) → old ≤ new
+none_less n m old new le one none = elim (cases_lt n m) [
+  | inl lt ↦ omega (arith, one lt)
+  | inr ge ↦ omega (arith, none (omega arith))
 ]
 
 -- the test of a number's key

@@ -19,22 +19,18 @@ abbrev pub IsEndOf : Name → List Name → ℕ → Type 0
 IsEndOf name owners place =
     IsPartitionPoint (λ owner. is_le (canonical_order owner name) ≡ true) (λ owner. is_le (canonical_order owner name) ≡ false) owners place
 
--- from one place up to another stands one owner, which stands nowhere else
+-- from one place up to another there is one owner, which is nowhere else
 pub record IsRun (owners : List Name) (begin end : ℕ) : Type 0 where
   pub some : begin < end
   pub within : end ≤ length owners
   pub first : (d : Name) → IsFirstOf (slice_index_or owners begin d) owners begin
   pub last : (d : Name) → IsEndOf (slice_index_or owners begin d) owners end
 
--- no owner comes behind the name
-abbrev pub IsLast : Name → List Name → Type 0
-IsLast name owners = (at : ℕ) (d : Name) → at < length owners → is_le (canonical_order (slice_index_or owners at d) name) ≡ true
-
--- how the last owner stands beside a name: before it where there is none
+-- how the last owner compares with a name: before it where there is none
 abbrev pub order_behind : List Name → Name → Ordering
 order_behind owners name = if nat_lt 0 (length owners) then canonical_order (slice_index_or owners (length owners - 1) []) name else Less
 
--- owners in canonical order, each of which may stand more than once
+-- owners in canonical order, each of which may come more than once
 abbrev pub InOrder : List Name → Type 0
 InOrder owners = (at : ℕ) (d : Name) → at + 1 < length owners → is_le (canonical_order (slice_index_or owners at d) (slice_index_or owners (at + 1) d)) ≡ true
 

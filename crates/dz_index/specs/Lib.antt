@@ -1,4 +1,6 @@
 pub mod Examples
 pub mod Index
+pub mod Lead
+pub mod Rows
 pub mod SortKey
 pub mod inner

@@ -4,13 +4,13 @@
 use Rattle.std.specs.Prelude.{ℕ, zero, suc, [], ◌∷◌, reverse}
 use Rattle.dz_name.specs.Words.{Name, Octets}
 
--- an octet of a label, and others behind it
+-- an octet of a label, and others after it
 unfoldable pub octet_before : ℕ → Octets → Octets
 octet_before zero rest = 1 ∷ 1 ∷ rest
 octet_before (suc zero) rest = 1 ∷ 2 ∷ rest
 octet_before (suc (suc octet)) rest = suc (suc octet) ∷ rest
 
--- a label with its end, and others behind it
+-- a label with its end, and others after it
 unfoldable pub label_before : Octets → Octets → Octets
 label_before [] rest = 0 ∷ rest
 label_before (octet ∷ label) rest = octet_before octet (label_before label rest)

@@ -1,3 +1,4 @@
 -- Inner: how the code keeps an index.
 pub mod Above
-pub mod Rows
+pub mod Kept
+pub mod Parts

@@ -2,9 +2,12 @@
 #![tactic(auto)]
 
 mod index;
+mod keys;
+mod lead;
 mod owner_key;
 mod sort_key;
 
 pub use index::{Index, OWNERS, Run};
+pub use lead::{LEAD, lead_of};
 pub use owner_key::OwnerKey;
 pub use sort_key::SortKey;

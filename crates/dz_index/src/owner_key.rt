@@ -1,4 +1,4 @@
-//! Sort keys of owners, one behind another.
+//! Sort keys of owners, one after another.
 
 ghost use Rattle.std.specs.Prelude.{◌≡◌, ◌+◌, ◌<◌, ◌≤◌, ◌++◌, [], ◌∷◌, length, take};
 ghost use Rattle.dz_index.specs.SortKey.{key_of, label_before, octet_before};
@@ -7,7 +7,7 @@ use crate::sort_key::{ROOM, SortKey};
 use dz_name::{Name, NameRef};
 use std::marker::Model;
 
-/// The sort key of an owner, for owners one behind another: the key of the name above is kept, so that an owner below
+/// The sort key of an owner, for owners one after another: the key of the name above is kept, so that an owner below
 /// the same name costs its first label alone. Contracts see the octets.
 #[derive(Drop)]
 pub struct OwnerKey {
@@ -90,7 +90,7 @@ impl OwnerKey {
         self.end = end;
     }
 
-    /// A label behind the others, with the octet that ends it.
+    /// A label after the others, with the octet that ends it.
     fn append(&mut self, label: &[u8])
         requires { length self.old + (length label.now + length label.now + 1) ≤ 512 }
         ensures { self.new ≡ self.old ++ label_before label.now [] }
@@ -107,7 +107,7 @@ fn write_front(octets: &mut [u8; ROOM], key: &[u8])
     octets[..key.len()].copy_from_slice(key);
 }
 
-/// A label with the octet that ends it, behind what stands up to a place. Gives where it ends.
+/// A label with the octet that ends it, after what is there up to a place. Gives where it ends.
 fn append_label(octets: &mut [u8; ROOM], begin: usize, label: &[u8]) -> usize
     requires { begin + (length label.now + length label.now + 1) ≤ 512 }
     ensures octets { take result octets.new ≡ take begin octets.old ++ label_before label.now [] }
@@ -121,7 +121,7 @@ fn append_label(octets: &mut [u8; ROOM], begin: usize, label: &[u8]) -> usize
     append_at(octets, end, 0)
 }
 
-/// An octet of a label, behind what stands up to a place. Gives where it ends.
+/// An octet of a label, after what is there up to a place. Gives where it ends.
 fn append_octet(octets: &mut [u8; ROOM], begin: usize, octet: u8) -> usize
     requires { begin + 2 ≤ 512 }
     ensures octets { take result octets.new ≡ take begin octets.old ++ octet_before octet [] }
@@ -136,7 +136,7 @@ fn append_octet(octets: &mut [u8; ROOM], begin: usize, octet: u8) -> usize
     }
 }
 
-/// An octet behind what stands up to a place. Gives where it ends.
+/// An octet after what is there up to a place. Gives where it ends.
 fn append_at(octets: &mut [u8; ROOM], at: usize, octet: u8) -> usize
     requires { at < 512 }
     ensures octets { take result octets.new ≡ take at octets.old ++ octet ∷ [] }

@@ -87,7 +87,7 @@ impl SortKey {
     }
 }
 
-/// A label with the octet that ends it, in front of what stands from a place on. Gives where it begins.
+/// A label with the octet that ends it, before what is there from a place on. Gives where it begins.
 fn put_label(octets: &mut [u8; ROOM], end: usize, label: &[u8]) -> usize
     requires within { end ≤ 512 }
     requires room { length label.now + length label.now + 1 ≤ end }
@@ -104,7 +104,7 @@ fn put_label(octets: &mut [u8; ROOM], end: usize, label: &[u8]) -> usize
     begin
 }
 
-/// An octet of a label, in front of what stands from a place on. Gives where it begins.
+/// An octet of a label, before what is there from a place on. Gives where it begins.
 fn put_octet(octets: &mut [u8; ROOM], end: usize, octet: u8) -> usize
     requires within { end ≤ 512 }
     requires room { 2 ≤ end }
@@ -122,7 +122,7 @@ fn put_octet(octets: &mut [u8; ROOM], end: usize, octet: u8) -> usize
     }
 }
 
-/// An octet in front of what stands behind it.
+/// An octet before what comes after it.
 fn put(octets: &mut [u8; ROOM], at: usize, octet: u8)
     requires { at < 512 }
     ensures { drop at octets.new ≡ octet ∷ drop (at + 1) octets.old }

@@ -2,7 +2,7 @@
 
 ghost use Rattle.std.specs.Prelude.{◌≡◌, ◌∷◌, ◌++◌, [], true, false, IfOk, OnOk};
 ghost use Rattle.dz_xfr.specs.Apex.{is_apex_soa, serial_of};
-ghost use Rattle.dz_xfr.specs.Feeding.{IsOpen, Says};
+ghost use Rattle.dz_xfr.specs.Feeding.{IsOpen, Says, progress_of};
 ghost use Rattle.dz_xfr.specs.Stands.{Stands, IsComplete};
 ghost use Rattle.dz_ixfr.specs.Incremental.{IsIncremental, Blames};
 ghost use Rattle.dz_ixfr.specs.Reading.{reading_of};
@@ -93,14 +93,28 @@ impl Differences {
         })
     }
 
-    /// Reads further records: whether the records that were fed are a whole form, or more is to come. After the end,
-    /// and after an error, nothing more may be fed.
+    /// Reads further records: the form with them, and whether the records that were fed are a whole form, or more is to
+    /// come. After the end nothing more may be fed; an error leaves no form that could be fed.
     ///
     /// # Errors
     ///
     /// The fault of the first record with which no whole form goes on, or `AfterEnd` where records follow one; or out
     /// of memory.
-    pub fn feed(&mut self, records: Vec<Rr>) -> Result<Progress, FeedError>
+    pub fn feed(mut self, records: Vec<Rr>) -> Result<(Differences, Progress), FeedError>
+        requires { IsOpen (IsIncremental self.held) (Blames self.held.apex) self.fed }
+        ensures held { IfOk result (λ r. r.0.held ≡ self.held) }
+        ensures fed { IfOk result (λ r. r.0.fed ≡ self.fed ++ records.items) }
+        ensures says { Says (progress_of result)
+            (Stands (IsIncremental self.held) (Blames self.held.apex) (self.fed ++ records.items)) }
+    {
+        match self.read(records) {
+            Ok(progress) => Ok((self, progress)),
+            Err(error) => Err(error),
+        }
+    }
+
+    /// Reads further records, in place. The errors are those of [`Differences::feed`].
+    fn read(&mut self, records: Vec<Rr>) -> Result<Progress, FeedError>
         requires { IsOpen (IsIncremental self.old.held) (Blames self.old.held.apex) self.old.fed }
         ensures held { self.new.held ≡ self.old.held }
         ensures fed { OnOk result (self.new.fed ≡ self.old.fed ++ records.items) }

@@ -2,6 +2,7 @@
 use Rattle.std.proofs.Common.{◌≡◌, ℕ, zero, suc, ◌+◌, ◌*◌, ◌<◌, ◌≤◌, inl, inr, arith}
 use Rattle.std.specs.Prelude.{◌^◌}
 use Rattle.std.proofs.lemmas.Bool.{cases_lt}
+use Rattle.std.proofs.Math.Pow.{pow_mono}
 use Rattle.std.proofs.lemmas.Grind.{pow_more}
 use Rattle.std.proofs.lemmas.Nat.{mul-le}
 use native.Mathlib.Nat.{add-mul}
@@ -37,3 +38,10 @@ pub is_lookup : (labels records taken : ℕ) → TakesSearches (labels + 2) reco
 is_lookup labels records taken takes =
     let l = logarithm (2 * records + 1) in
     (l.0, omega (arith, l.1), takes l.0 (omega (arith, l.2)))
+
+-- two labels among 1,022 records
+pub few_comparisons : (taken : ℕ) → IsLookup 2 1022 taken → taken ≤ 44
+few_comparisons taken is = elim (cases_lt is.0 11) [
+  | inl lt ↦ let few : taken ≤ 4 * (is.0 + 1) = is.2 in omega (arith, few, lt)
+  | inr ge ↦ let m : 2 ^ 11 ≤ 2 ^ is.0 = pow_mono ge in absurd (omega (arith, m, is.1))
+]

@@ -2,5 +2,6 @@ pub mod Chain
 pub mod Counted
 pub mod Examples
 pub mod Found
+pub mod Laws
 pub mod Runs
 pub mod inner

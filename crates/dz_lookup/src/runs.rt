@@ -1,6 +1,6 @@
 //! The records of an owner, and those of an owner and a type, found by one search in the index of a version.
 
-ghost use Rattle.std.specs.Prelude.{◌≡◌, ◌&&◌, ◌≤◌, ◌-◌, [], length, take, drop, nat_lt, slice_index_or, IfSome};
+ghost use Rattle.std.specs.Prelude.{◌≡◌, ◌&&◌, ◌≤◌, ◌+◌, ◌-◌, [], length, take, drop, nat_lt, slice_index_or, IfSome};
 ghost use Rattle.std.specs.List.{AllByRecursion};
 ghost use Rattle.std.specs.List.Sorted.{IsStrictlySortedBy, IsNonDecreasingBy};
 ghost use Rattle.dz_name.specs.Name.{is_within};
@@ -229,11 +229,19 @@ fn node_of_run<'a>(version: &'a Version, run: &Run) -> Node<'a>
     }
 }
 
-/// The node of a name, where it is the owner of this number; none where it isn't. It takes no search.
-fn node_at<'a>(version: &'a Version, name: &NameRef, number: usize) -> Option<Node<'a>>
-    ensures { IfSome result
+/// The node of a name, where it is the owner of this number; none where it isn't. It takes no search, and one look at an
+/// owner.
+fn node_at<'a, L: Ledger>(
+    version: &'a Version,
+    name: &NameRef,
+    number: usize,
+    looks: &mut Steps<L>,
+) -> Option<Node<'a>>
+    ensures node { IfSome result
         (λ node. IsNodeOf version.now.records name.now node.place node.records.now) }
+    ensures cost { looks.new ≤ looks.old + 1 }
 {
+    looks.tick();
     let run = version.index().run_at(number)?;
     let records = version.records();
     if records[run.begin].owner_ref().same(name) {
@@ -243,48 +251,93 @@ fn node_at<'a>(version: &'a Version, name: &NameRef, number: usize) -> Option<No
     }
 }
 
-/// The node of a name. The given number of owners (`looks`) are looked at first, from the one of a number in the index
-/// back to earlier ones.
+/// The node of a name, where it is one of a given number of owners (`most`), from the one of a place in the index to the
+/// front; none where it isn't. It takes no search, and at most as many looks.
+fn look_near<'a, L: Ledger>(
+    version: &'a Version,
+    name: &NameRef,
+    number: usize,
+    most: usize,
+    looks: &mut Steps<L>,
+) -> Option<Node<'a>>
+    ensures node { IfSome result
+        (λ node. IsNodeOf version.now.records name.now node.place node.records.now) }
+    ensures cost { looks.new ≤ looks.old + most }
+{
+    let mut behind = number.saturating_add(1);
+    let first = behind.saturating_sub(most);
+    'owners: while first < behind {
+        behind -= 1;
+        if let Some(node) = node_at(version, name, behind, looks) {
+            return Some(node);
+        }
+    }
+    None
+}
+
+/// The same for five looks at most, counted in a ledger that is still blank.
+fn counted_near<'a, L: Ledger>(
+    blank: Blank,
+    version: &'a Version,
+    name: &NameRef,
+    number: usize,
+    most: usize,
+) -> Option<Node<'a>>
+    requires name { blank.name ≡ L.name }
+    requires parts { blank.parts ≡ L.parts }
+    requires whole { blank.parts ≡ 1 }
+    requires few { most ≤ 5 }
+    ensures { IfSome result
+        (λ node. IsNodeOf version.now.records name.now node.place node.records.now) }
+{
+    let mut looks = Steps::<L>::new(blank);
+    look_near(version, name, number, most, &mut looks)
+}
+
+/// The node of a name. A few owners (`most`) are looked at first, from the one of a place in the index to the front.
 pub(crate) fn node_near<'a, L: Ledger>(
     version: &'a Version,
     name: &NameRef,
     number: usize,
-    looks: usize,
+    most: usize,
     steps: &mut Steps<L>,
 ) -> Node<'a>
+    requires few { most ≤ 5 }
     ensures node { IsNodeOf version.now.records name.now result.place result.records.now }
     ensures rises { IsStrictlySortedBy record_order version.now.records }
     ensures cost { TakesSearches 1 (length version.now.records) (steps.new - steps.old) }
     ensures counted { steps.old ≤ steps.new }
 {
     version.records();
-    let mut behind = number.saturating_add(1);
-    let first = behind.saturating_sub(looks);
-    'owners: while first < behind {
-        behind -= 1;
-        if let Some(node) = node_at(version, name, behind) {
-            return node;
-        }
+    match counted_near::<Brand>(Blank::new(1), version, name, number, most) {
+        Some(node) => node,
+        None => node_of(version, name, steps),
     }
-    node_of(version, name, steps)
 }
 
 /// The node of a name, where it is or would be right before the records of the owner of a number, or is that owner;
-/// none where it isn't, and none for the first owner. It takes no search.
-fn node_beside<'a>(version: &'a Version, name: &NameRef, number: usize) -> Option<Node<'a>>
-    ensures { IfSome result
+/// none where it isn't, and none for the first owner. It takes no search, and at most two looks.
+fn node_beside<'a, L: Ledger>(
+    version: &'a Version,
+    name: &NameRef,
+    number: usize,
+    looks: &mut Steps<L>,
+) -> Option<Node<'a>>
+    ensures node { IfSome result
         (λ node. IsNodeOf version.now.records name.now node.place node.records.now) }
+    ensures cost { looks.new ≤ looks.old + 2 }
 {
     let run = version.index().run_at(number)?;
     let records = version.records();
-    if run.begin == 0
-        || !records[run.begin - 1]
-            .owner_ref()
-            .canonical_cmp(name)
-            .is_lt()
-    {
+    if run.begin == 0 {
         return None;
     }
+    looks.tick();
+    let last = records[run.begin - 1].owner_ref();
+    if !last.canonical_cmp(name).is_lt() {
+        return None;
+    }
+    looks.tick();
     match records[run.begin].owner_ref().canonical_cmp(name) {
         Ordering::Less => None,
         Ordering::Equal => Some(node_of_run(version, &run)),
@@ -294,6 +347,23 @@ fn node_beside<'a>(version: &'a Version, name: &NameRef, number: usize) -> Optio
             records: &[],
         }),
     }
+}
+
+/// The same, counted in a ledger that is still blank.
+fn counted_beside<'a, L: Ledger>(
+    blank: Blank,
+    version: &'a Version,
+    name: &NameRef,
+    number: usize,
+) -> Option<Node<'a>>
+    requires name { blank.name ≡ L.name }
+    requires parts { blank.parts ≡ L.parts }
+    requires whole { blank.parts ≡ 1 }
+    ensures { IfSome result
+        (λ node. IsNodeOf version.now.records name.now node.place node.records.now) }
+{
+    let mut looks = Steps::<L>::new(blank);
+    node_beside(version, name, number, &mut looks)
 }
 
 /// The node of a name, by what is beside the owner of a number, or else by one search.
@@ -309,7 +379,7 @@ pub(crate) fn node_at_or_of<'a, L: Ledger>(
     ensures counted { steps.old ≤ steps.new }
 {
     version.records();
-    match node_beside(version, name, number) {
+    match counted_beside::<Brand>(Blank::new(1), version, name, number) {
         Some(node) => node,
         None => node_of(version, name, steps),
     }
@@ -331,7 +401,7 @@ pub(crate) fn node_of_wildcard<'a, L: Ledger>(
     version.records();
     let above = wildcard.wire().len().saturating_sub(ASTERISK);
     if above == version.apex().wire().len() {
-        if let Some(node) = node_beside(version, wildcard, AFTER_APEX) {
+        if let Some(node) = counted_beside::<Brand>(Blank::new(1), version, wildcard, AFTER_APEX) {
             return node;
         }
     }

@@ -1,6 +1,6 @@
 //! Tests of `dz_advice`.
 
-use dz_config::{Advice, Expected, Kept, Key, Place, advise};
+use dz_config::{Advice, Expected, Found, Kept, Key, Place, TEXT_OCTETS, advise};
 use dz_io::{MemorySource, Source};
 use std::alloc::{AllocError, Global};
 use std::process::Abort;
@@ -60,10 +60,52 @@ const ROWS: &[(&[u8], usize, Expected)] = &[
     ),
     (
         b"listen = \"192.0.2.10:53\"\n[[catalog]]\nname = \"cat1.example.\"\npolicy = \"off\"\nprimaries = [\"192.0.2.1\"]\nkey = \"key.example.\"\nsecret = '0'\n",
+        7,
+        Expected::Value(Key::Secret),
+    ),
+    (
+        b"listen = \"192.0.2.10:53\"\n[[catalog]] # main\nname = \"cat1.example.\"\npolicy = \"off\"\nprimaries = \"192.0.2.1\"\n",
+        5,
+        Expected::Kind(Key::Primaries, Found::Text),
+    ),
+    (
+        b"listen = \"192.0.2.10:53\"\n[[ catalog ]]\nname = \"cat1.example.\"\npolicy = 1\nprimaries = [\"192.0.2.1\"]\n",
+        4,
+        Expected::Kind(Key::Policy, Found::Other),
+    ),
+    (
+        b"listen = 53\n[[catalog]]\nname = \"cat1.example.\"\npolicy = \"off\"\nprimaries = [\"192.0.2.1\"]\n",
         1,
-        Expected::Secrets,
+        Expected::Kind(Key::Listen, Found::Other),
+    ),
+    (
+        b"listen = \"192.0.2.10:53\"\n[[catalog]]\nname = \"cat1.example.\"\npolicy = 'maybe'\nprimaries = [\"192.0.2.1\"]\n",
+        4,
+        Expected::Value(Key::Policy),
+    ),
+    (
+        b"listen = \"192.0.2.10:53\"\n[catalog]\nname = \"cat1.example.\"\npolicy = \"off\"\nprimaries = [\"192.0.2.1\"]\n",
+        2,
+        Expected::TwoBrackets(Place::Catalog),
+    ),
+    (
+        b"listen = \"192.0.2.10:53\"\n[[catalog]]\nname = \"cat1.example.\"\npolicy = \"maybe\"\nprimaries = [\n  \"192.0.2.1\", # primary = a\n]\n",
+        4,
+        Expected::Value(Key::Policy),
+    ),
+    (
+        b"listen = \"192.0.2.10:53\"\n[[catalog]]\nname = \"cat1.example.\"\npolicy = \"off\"\nprimaries = []\n",
+        5,
+        Expected::Value(Key::Primaries),
     ),
 ];
+
+#[test]
+fn a_text_that_is_too_long_is_told_so(rt: HostRuntime) -> Result<(), AllocError> {
+    let text = vec![in rt.alloc(); b'\n'; TEXT_OCTETS + 1]?;
+    expect_advice(&rt, rt.alloc(), &text, 1, Expected::Shorter);
+    Ok(())
+}
 
 /// The advice on a text names this line and what was expected there.
 fn expect_advice(rt: &impl Abort, alloc: Global, text: &[u8], line: usize, expected: Expected) {

@@ -136,9 +136,9 @@ fn feed_messages(
     let mut rest = messages.into_iter();
     'messages: while let Some(records) = rest.next() {
         match differences.feed(records) {
-            Ok(progress) => match progress {
-                Progress::More => {}
-                Progress::Ended => return Ok(Some(differences.finish())),
+            Ok((fed, progress)) => match progress {
+                Progress::More => differences = fed,
+                Progress::Ended => return Ok(Some(fed.finish())),
             },
             Err(error) => return Err(error),
         }

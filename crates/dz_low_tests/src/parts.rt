@@ -17,11 +17,6 @@ pub(crate) fn name(rt: &impl Abort, text: &[u8]) -> Name {
     }
 }
 
-/// The name of a text in UTF-8.
-pub(crate) fn name_of(rt: &impl Abort, text: &str) -> Name {
-    name(rt, text.as_bytes())
-}
-
 /// The name of a wire form.
 pub(crate) fn wire_name(rt: &impl Abort, wire: &[u8]) -> Name {
     match Name::read_at(wire, 0) {

@@ -9,38 +9,9 @@ use Rattle.std.proofs.lemmas.Bool.{false≢true}
 use Rattle.std.proofs.lemmas.Bool.Decides.{nat_tests}
 use Rattle.dz_name.specs.Name.{canonical_order}
 use Rattle.dz_index.specs.SortKey.{key_of}
+use Rattle.dz_index.specs.Lead.{lead_of}
 use Rattle.dz_index.proofs.KeyLemmas.{key_order}
-use Rattle.dz_member.specs.inner.Lead.{lead_of}
-
-nat_more : (a b : ℕ) → b < a → nat_cmp a b ≡ Greater
-nat_more a b h = grind (arith, nat_tests)
-
-not_less : (o : Ordering) → is_lt o ≡ false → o ≡ Less → ⊥
-not_less o f e = false≢true (sym f ∙ ap is_lt e)
-
-none_tied : (n : ℕ) → is_lt (slice_cmp nat_cmp (lead_of n []) (lead_of n [])) ≡ false
-unfolding lead_of
-none_tied zero = refl
-none_tied (suc n) = none_tied n
-
-none_less : (n : ℕ) (xs : List ℕ) → is_lt (slice_cmp nat_cmp (lead_of n xs) (lead_of n [])) ≡ false
-unfolding lead_of
-none_less zero xs = refl
-none_less (suc n) [] = none_tied n
-none_less (suc n) (zero ∷ xs) = none_less n xs
-none_less (suc n) (suc x ∷ xs) = rw (nat_more (suc x) 0 (omega arith)) refl
-
-then_less : (o p q : Ordering) → (p ≡ Less → q ≡ Less) → ordering_then o p ≡ Less → ordering_then o q ≡ Less
-then_less Less p q f h = refl
-then_less Equal p q f h = f h
-then_less Greater p q f h = h
-
-lead_less : (n : ℕ) (xs ys : List ℕ) → slice_cmp nat_cmp (lead_of n xs) (lead_of n ys) ≡ Less → slice_cmp nat_cmp xs ys ≡ Less
-unfolding lead_of
-lead_less zero xs ys h = absurd (not_less Equal refl h)
-lead_less (suc n) xs [] h = absurd (not_less _ (none_less (suc n) xs) h)
-lead_less (suc n) [] (y ∷ ys) h = refl
-lead_less (suc n) (x ∷ xs) (y ∷ ys) h = then_less (nat_cmp x y) _ _ (lead_less n xs ys) h
+use Rattle.dz_index.proofs.LeadLemmas.{not_less, none_less, lead_less}
 
 -- after octets that tie, the next ones decide
 then_tied : (o p q : Ordering) → ordering_then o p ≡ Equal → (p ≡ Equal → q ≡ Less) → ordering_then o q ≡ Less
@@ -89,17 +60,3 @@ pub second_decides : (a b p q : List (List ℕ)) (x y : List ℕ) (o : Ordering)
 second_decides a b p q x y o is_a is_b lead_p lead_q tied e apart =
     decided a b (second_of a) (second_of b) o (next_less 16 16 (key_of a) (key_of b) tied) (next_less 16 16 (key_of b) (key_of a) (turned (first_of a) (first_of b) Equal tied))
     (e ∙ (ap (λ l. slice_cmp nat_cmp l y) (lead_p ∙ ap second_of is_a) ∙ ap (slice_cmp nat_cmp (second_of a)) (lead_q ∙ ap second_of is_b))) apart
-
--- the first octets, and zeros where there are fewer
-lead_made : (n k : ℕ) (xs : List ℕ) → k ≡ min (length xs) n → take k xs ++ drop k (lead_of n []) ≡ lead_of n xs
-unfolding lead_of
-lead_made zero zero xs e = refl
-lead_made zero (suc k) xs e = absurd (omega arith)
-lead_made (suc n) zero [] e = refl
-lead_made (suc n) (suc k) [] e = absurd (omega arith)
-lead_made (suc n) zero (x ∷ xs) e = absurd (omega arith)
-lead_made (suc n) (suc k) (x ∷ xs) e = ap (λ l. x ∷ l) (lead_made n k xs (omega arith))
-
-pub lead_is : (xs part : List ℕ) (k : ℕ) → k ≡ min (length xs) 16 → part ≡ take k xs → part ++ drop k (0 ∷ 0 ∷ 0 ∷ 0 ∷ 0 ∷ 0 ∷ 0 ∷ 0 ∷ 0 ∷ 0 ∷ 0 ∷ 0 ∷ 0 ∷ 0 ∷ 0 ∷ 0 ∷ []) ≡ lead_of 16 xs
-unfolding lead_of
-lead_is xs part k e p = ap (λ l. l ++ drop k (0 ∷ 0 ∷ 0 ∷ 0 ∷ 0 ∷ 0 ∷ 0 ∷ 0 ∷ 0 ∷ 0 ∷ 0 ∷ 0 ∷ 0 ∷ 0 ∷ 0 ∷ 0 ∷ [])) p ∙ lead_made 16 k xs e

@@ -1,4 +1,4 @@
--- Judge: limits of a configuration, choices of groups, and what a listing changes, computed by the checker.
+-- Judge: limits of a configuration, listings, choices of groups, and what a listing changes, computed by the checker.
 use Rattle.std.specs.Prelude.{◌≡◌, refl, ℕ, true, false, List, [], ◌∷◌, replicate, Option, Some, None, codes}
 use Rattle.dz_name.specs.Words.{Name, Octets}
 use Rattle.dz_io.specs.declared.peer.Peer.{Peer}
@@ -14,6 +14,11 @@ use Rattle.dz_settings.specs.Config.{is_allowed, is_word}
 use Rattle.dz_member.specs.Membership.{choice_of}
 use Rattle.dz_member.specs.Fold.{FoldOf, started}
 use Rattle.dz_member.specs.Process.{judged, process, changes}
+use Rattle.std.specs.declared.cmp.Ordering.TheVariants.{Less, Equal, Greater}
+use Rattle.dz_name.specs.Name.{label_order}
+use Rattle.dz_settings.specs.Twice.{has_twice}
+use Rattle.dz_member.specs.Listing.{same_zone}
+use Rattle.dz_member.specs.declared.listing.TheConstants.Listing.{NODES}
 
 -- the peer 192.0.2.1 at a port
 abbrev host : ℕ → Peer
@@ -173,3 +178,26 @@ regrouped = refl
 pub configured : changes (started both) one (record { label = m1; zone = two; coo = None; groups = [] } ∷ []) 6 ≡ record { zone = two; what = Clash None } ∷ []
 unfolding changes judged
 configured = refl
+
+-- ---- what makes a listing: labels in order, and no zone twice (`IsListing`)
+abbrev member : Octets → Octets → Node
+member label zone = record { label = label; zone = zone ∷ []; coo = None; groups = [] }
+
+pub two_zones : has_twice same_zone (member (codes "a") (codes "a") ∷ member (codes "b") (codes "b") ∷ []) ≡ false
+two_zones = refl
+
+pub one_zone_twice : has_twice same_zone (member (codes "a") (codes "a") ∷ member (codes "b") (codes "a") ∷ []) ≡ true
+one_zone_twice = refl
+
+pub labels_in_order : label_order (codes "a") (codes "b") ≡ Less
+labels_in_order = refl
+
+pub labels_out_of_order : label_order (codes "b") (codes "a") ≡ Greater
+labels_out_of_order = refl
+
+pub one_label_twice : label_order (codes "a") (codes "a") ≡ Equal
+one_label_twice = refl
+
+-- ---- the limit of listings, so that it can't change
+pub nodes_is_65536 : NODES ≡ 65536
+nodes_is_65536 = refl

@@ -1,4 +1,3 @@
 pub mod Kept
-pub mod Lead
 pub mod Places
 pub mod Walk

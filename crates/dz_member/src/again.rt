@@ -1,6 +1,6 @@
 //! The order of a listing's zones, where most of it is known from an earlier listing.
 
-ghost use Rattle.std.specs.Prelude.{◌≡◌, ◌<◌, ◌≤◌, length, nat_lt, IsTrue, IfOk, IfSome};
+ghost use Rattle.std.specs.Prelude.{◌≡◌, ◌+◌, ◌<◌, ◌≤◌, length, nat_lt, IsTrue, IfOk, IfSome, OnOk};
 ghost use Rattle.std.specs.List.{list_all};
 ghost use Rattle.dz_member.specs.inner.Places.{AreRising, ArePlacesOnce, comes_before};
 
@@ -173,8 +173,12 @@ fn kept_places(
     Ok(kept)
 }
 
-/// Puts places where the zones of their nodes come. The error is out of memory.
-fn put_added(places: &mut Vec<u32>, nodes: &[Node], added: &[u32]) -> Result<(), AllocError> {
+/// Puts at most 256 places where the zones of their nodes come. The error is out of memory.
+fn put_added(places: &mut Vec<u32>, nodes: &[Node], added: &[u32]) -> Result<(), AllocError>
+    requires { length added.now ≤ ADDED }
+    ensures { OnOk result (length places.new.items
+        ≡ length places.old.items + length added.now) }
+{
     'added: for place in added {
         let end = places.partition_point(|p| comes_before(nodes, *p, *place));
         places.insert(end, *place)?;

@@ -1,9 +1,9 @@
 //! What is known of the catalogs and their members.
 
-ghost use Rattle.std.specs.Prelude.{◌≡◌, ◌<◌, ◌≤◌, length, map, position, slice_index_or, slice_get, Some, None, IfOk, IfSome, All, option_map};
+ghost use Rattle.std.specs.Prelude.{◌≡◌, ◌+◌, ◌<◌, ◌≤◌, length, map, position, slice_index_or, slice_get, Some, None, IfOk, IfSome, All, option_map};
 ghost use Rattle.std.specs.List.Sorted.{IsStrictlySortedBy};
 ghost use Rattle.dz_name.specs.Name.{canonical_order, same_name};
-ghost use Rattle.std.specs.Option.{ForSome};
+ghost use Rattle.std.specs.Option.{option_map_or, ForSome};
 ghost use Rattle.dz_settings.specs.Config.{IsAllowed};
 ghost use Rattle.dz_settings.specs.Key.{IsKey};
 ghost use Rattle.dz_member.specs.Membership.{settings_at, shown, key_of, policy_of, primaries_of, IsNumbered};
@@ -147,12 +147,17 @@ impl Fold {
     /// The member of a zone, which is looked for first at a likely place. The place after it is likely then, so that
     /// zones in canonical order that are mostly members take one comparison each.
     pub fn find_near(&self, likely: &mut usize, zone: &Name) -> Option<Member<'_>>
-        ensures { result ≡ member_of zone.now self.now.members }
+        ensures member { result ≡ member_of zone.now self.now.members }
+        ensures next { likely.new ≡ option_map_or (λ place. place + 1)
+            (position (λ m. same_name m.zone zone.now) self.now.members) likely.old }
     {
+        let count = self.members.len();
         match self.place_near(*likely, zone) {
             Some(place) => {
-                *likely = place.saturating_add(1);
-                Some(self.member(place))
+                let member = self.member(place);
+                let next = place + 1;
+                *likely = next.min(count);
+                Some(member)
             }
             None => None,
         }

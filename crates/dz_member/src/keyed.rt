@@ -5,19 +5,16 @@ ghost use Rattle.std.specs.Cmp.Lexicographic.{slice_cmp};
 ghost use Rattle.std.specs.Ordering.{nat_cmp};
 ghost use Rattle.dz_name.specs.Name.{canonical_order};
 ghost use Rattle.dz_index.specs.SortKey.{key_of};
-ghost use Rattle.dz_member.specs.inner.Lead.{lead_of};
+ghost use Rattle.dz_index.specs.Lead.{lead_of};
 ghost use Rattle.std.specs.declared.cmp.Ordering.TheVariants.{Equal};
 
 use crate::listing::Node;
-use dz_index::SortKey;
+use dz_index::{LEAD, SortKey, lead_of};
 use std::cmp::Ordering;
 use std::marker::Model;
 
-/// How many octets of a zone's sort key are compared as one number.
-const LEAD: usize = 16;
-
-/// A node preceded by the first 32 octets of its zone's sort key, which tell most zones apart, so that few comparisons
-/// read the node itself.
+/// A node after the first 32 octets of its zone's sort key, which tell most zones apart, so that few comparisons read the
+/// node itself.
 #[derive(Drop)]
 pub(crate) struct Keyed<'a> {
     first: [u8; LEAD],
@@ -29,7 +26,7 @@ impl<'a> Model for Keyed<'a> {
     ghost use Rattle.std.specs.Prelude.{◌≡◌, drop};
     ghost use Rattle.dz_index.specs.SortKey.{key_of};
     ghost use Rattle.dz_member.specs.declared.listing.Node.{Node};
-    ghost use Rattle.dz_member.specs.inner.Lead.{lead_of};
+    ghost use Rattle.dz_index.specs.Lead.{lead_of};
 
     ghost Value = { Node };
 
@@ -88,14 +85,4 @@ fn behind(octets: &[u8]) -> &[u8]
     ensures { result.now ≡ drop 16 octets.now }
 {
     &octets[octets.len().min(LEAD)..]
-}
-
-/// The first octets, followed by zeros where they are few.
-fn lead_of(octets: &[u8]) -> [u8; LEAD]
-    ensures { result ≡ lead_of 16 octets.now }
-{
-    let mut lead = [0; LEAD];
-    let count = octets.len().min(LEAD);
-    lead[..count].copy_from_slice(&octets[..count]);
-    lead
 }

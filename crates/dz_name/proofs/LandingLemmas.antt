@@ -1,5 +1,5 @@
 -- What is at the end of a chain of pointers reads the same as what is at its beginning, but for the offset after it.
-use Rattle.std.proofs.Common.{◌≡◌, ℕ, ◌+◌, ◌<◌, ◌≤◌, List, [], ◌∷◌, ◌++◌, length, refl, sym, ◌∙◌, inl, inr, true, false, arith}
+use Rattle.std.proofs.Common.{◌≡◌, ℕ, ◌+◌, ◌<◌, ◌≤◌, List, [], ◌∷◌, ◌++◌, length, refl, sym, ◌∙◌, inl, inr, true, false, ◌*◌, ◌-◌, ◌⊎◌, arith}
 use Rattle.std.specs.Prelude.{slice_index, slice_index_or, nat_lt}
 use Rattle.std.proofs.Common.{length-append}
 use Rattle.std.proofs.lemmas.List.{get_or_append_left, get_or_push, get_or_default}
@@ -7,7 +7,7 @@ use Rattle.std.proofs.lemmas.Bool.{cases_lt}
 use Rattle.std.proofs.lemmas.Bool.Decides.{nat_tests}
 use Rattle.dz_name.specs.Reading.{Reading, Reads, at_pointer, ends_at}
 use Rattle.std.specs.Prelude.{Ok, Err}
-use Rattle.dz_name.specs.inner.Landings.{LeadsTo, LeadsOn, Lands, stays, goes_on, AreLandings, landing_in}
+use Rattle.dz_name.specs.inner.Landings.{LeadsTo, LeadsOn, Lands, stays, goes_on, AreLandings, EndsChains, landing_in}
 
 pub lands_before : (m : List ℕ) {at end : ℕ} → Lands m at end → end ≤ at
 lands_before m stays = omega arith
@@ -71,3 +71,13 @@ more_goes_on m landings at target landing are long leads is =
     let within : target < length landings = omega (arith, leads.before) in
     let e : slice_index landings target ≡ landing = get_or_default landings target 0 landing within ∙ sym is in
     landings_more m landings landing are (rw long (goes_on leads (rw e at (are.led target within)))) (rw e at (are.ended target within))
+
+-- a table of all offsets that a pointer can lead to ends each chain
+pub all_end : (m landings : List ℕ) → AreLandings m landings → ((i : ℕ) → slice_index m i < 256) → (length m ≤ length landings) ⊎ (16384 ≤ length landings) → EndsChains m landings
+all_end m landings are octets long at target leads =
+    let first = octets at in
+    let second = octets (at + 1) in
+    let short : target < 16384 = omega (arith, first, second, leads.target_is, leads.pointer) in
+    let within : target < length landings = elim long [ inl all ↦ omega (arith, leads.before, leads.within) | inr far ↦ omega arith ] in
+    let e : nat_lt target (length landings) ≡ true = grind (arith, nat_tests) in
+    rw e (are.ended target within)

@@ -1,7 +1,7 @@
 //! Messages whose names are read, and where chains of their pointers end.
 
-ghost use Rattle.std.specs.Prelude.{◌≡◌, ℕ, ◌<◌, ◌≤◌, length, IfOk, IfSome, IsNone};
-ghost use Rattle.dz_name.specs.inner.Landings.{LeadsTo, LeadsOn, AreLandings, landing_in};
+ghost use Rattle.std.specs.Prelude.{◌≡◌, ℕ, ◌<◌, ◌≤◌, length, false, IfOk, IfSome, IsNone};
+ghost use Rattle.dz_name.specs.inner.Landings.{LeadsTo, LeadsOn, AreLandings, HasNoChain, EndsChains, landing_in};
 
 use std::alloc::{AllocError, Global};
 use std::marker::Model;
@@ -75,15 +75,15 @@ pub(crate) fn landing(landings: &[u16], target: usize) -> usize
 }
 
 /// Where the chains of pointers end that begin at the offsets of a message: two octets for each offset that a pointer
-/// can lead to. It is empty where no pointer leads to a pointer, as in every well-meant message. `AllocError` where
-/// memory runs out.
+/// can lead to. It is empty where no pointer leads to a pointer that leads on. `AllocError` where memory runs out.
 pub fn landings_of(alloc: Global, message: &[u8]) -> Result<Vec<u16>, AllocError>
-    ensures { IfOk result (λ landings. AreLandings message.now landings.items) }
+    ensures are { IfOk result (λ landings. AreLandings message.now landings.items) }
+    ensures ends { IfOk result (λ landings. EndsChains message.now landings.items) }
 {
-    let reach = message.len().min(POINTER_REACH);
-    if !has_chain(message, reach) {
+    if !has_chain(message) {
         return Ok(Vec::new(alloc));
     }
+    let reach = message.len().min(POINTER_REACH);
     let mut landings = Vec::with_capacity(alloc, reach)?;
     'offsets: for at in 0..reach {
         let landing = match leads_to(message, at) {
@@ -95,12 +95,27 @@ pub fn landings_of(alloc: Global, message: &[u8]) -> Result<Vec<u16>, AllocError
     Ok(landings)
 }
 
-/// Whether some pointer leads to a pointer, among the first `reach` offsets.
-fn has_chain(message: &[u8], reach: usize) -> bool {
-    (0..reach).any(|at| match leads_to(message, at) {
+/// Whether some pointer leads to a pointer that leads on.
+fn has_chain(message: &[u8]) -> bool
+    ensures { result ≡ false → HasNoChain message.now }
+{
+    'offsets: for at in 0..message.len() {
+        if is_chained(message, at) {
+            return true;
+        }
+    }
+    false
+}
+
+/// Whether the pointer at an offset leads to a pointer that leads on.
+fn is_chained(message: &[u8], at: usize) -> bool
+    ensures { result ≡ false → (target : ℕ) → LeadsTo message.now at target
+        → ¬ LeadsOn message.now target }
+{
+    match leads_to(message, at) {
         Some(target) => leads_to(message, target).is_some(),
         None => false,
-    })
+    }
 }
 
 /// Where the pointer at an offset leads, if there is one and it leads to before itself.

@@ -9,6 +9,7 @@ use Rattle.dz_producer.specs.Faults.{produce_fault}
 use Rattle.dz_producer.specs.Laws.{in_label_order}
 use Rattle.dz_producer.specs.Records.{soa, uncached, node_records}
 use Rattle.dz_producer.specs.declared.fault.ProduceFault.TheVariants.{LabelTwice, BadGroup, NameTooLong}
+use Rattle.dz_producer.specs.declared.draft.TheConstants.Draft.{SURE}
 
 -- the apex of the catalog c.
 abbrev apex : Name
@@ -90,3 +91,7 @@ near_apex = letters 63 ∷ letters 63 ∷ letters 63 ∷ letters 46 ∷ []
 pub no_room_for_group : produce_fault near_apex 7 (with_groups (codes "mmm") (edge ∷ []) ∷ []) ≡ Some NameTooLong
 unfolding produce_fault wire_of node_records
 no_room_for_group = refl
+
+-- ---- the octets that a draft may have, so that they can't change
+pub sure_is_66990000 : SURE ≡ 66990000
+sure_is_66990000 = refl

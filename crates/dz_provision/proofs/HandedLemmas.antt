@@ -69,8 +69,18 @@ module _ (c : Core) (now : ℕ) (ok : IsSound c) where
       let stood = seat_stands s seat at.1 in
       let some = primaries_there s p.placed seat.zone (stands_some s seat.zone seat.incarnation stood) in
       let turn = (ok.waiting place seat there).turn in
-      subst (λ (j : JobOf). IsHandedAt (Ok (due.Job j)) c.list now) (sym (job_is c now place seat there))
-      (whole c.list ok.legal seat.zone seat.incarnation stood, (primary_in s seat.zone (value_at c.values place).turn (primaries_at s seat.zone) refl some turn, (refl, refl)))
+      subst (λ (j : JobOf). IsHandedAt (Ok (due.Job j)) c.list now) (sym (job_is c now place seat there)) (
+        record {
+          begun = stood;
+          unended = whole c.list ok.legal seat.zone seat.incarnation stood;
+          held = refl;
+          key = refl;
+          primary = primary_in s seat.zone (value_at c.values place).turn (primaries_at s seat.zone) refl some turn;
+          ask = ((value_at c.values place).whole, refl);
+          id = refl;
+        },
+        refl,
+      )
 
   idle_at : is_full c ≡ false → IfSome (quiet_of c now).earliest (λ earliest. now < earliest) → IsHandedAt (Ok (due.Idle (quiet_of c now))) c.list now
   idle_at free late = ((refl, refl), ((room c free).0, late))

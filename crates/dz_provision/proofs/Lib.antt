@@ -1,3 +1,4 @@
+mod AloudLemmas
 pub mod FaultLemmas
 pub mod HandedLemmas
 pub mod HeldLemmas

@@ -19,7 +19,7 @@ written_append (beside aside ∷ ps) qs = rw (written_append ps qs) (sym (append
 
 told_append : (ps qs : List Part) → told (ps ++ qs) ≡ told ps ++ told qs
 told_append [] qs = refl
-told_append (listed text ∷ ps) qs = rw (told_append ps qs) (sym (append_assoc text (told ps) (told qs)))
+told_append (listed text ∷ ps) qs = rw (told_append ps qs) refl
 told_append (beside aside ∷ ps) qs = told_append ps qs
 
 pub joins_nothing : (list : List Entry) → Joins list [] list
@@ -33,12 +33,12 @@ joins_aside list aside text (parts, is, tells) = (
   rw (told_append parts (beside aside ∷ []), append-nil (told parts)) tells,
 )
 
-pub joins_listed : (list later : List Entry) (lines : Octets) → journal later ≡ journal list ++ lines → Joins list lines later
+pub joins_listed : (list later : List Entry) (lines : Octets) → journal later ≡ journal list ++ lines ∷ [] → Joins list lines later
 unfolding IsLog
 joins_listed list later lines more text (parts, is, tells) = (
   parts ++ listed lines ∷ [],
   rw (is, written_append parts (listed lines ∷ []), append-nil lines) refl,
-  rw (told_append parts (listed lines ∷ []), append-nil lines, tells, more) refl,
+  rw (told_append parts (listed lines ∷ []), tells, more) refl,
 )
 
 -- what a write leaves, whether it succeeds or fails

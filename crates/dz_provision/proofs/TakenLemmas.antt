@@ -98,14 +98,14 @@ module _ (c : Core) (job : JobOf) (ok : IsSound c) (fly : IsFlying c job) (octet
   signed : tsig_of c job octets ≡ None
   signed = ((tells c job octets).approved takes).signed
 
-  lines_are : entry_lines (state_of c) (entry_for job octets) ≡ verdict_lines job.flight.zone (verdict_of c job octets)
+  lines_are : entry_lines (state_of c) (entry_for job octets) ≡ verdict_lines job.flight.zone (verdict_of c job octets) ∷ []
   unfolding entry_lines verdict_of
   lines_are =
       let s = state_of c in
       let d = outcome (transfer_for job) octets in
       let v : verdict_of c job octets ≡ verdict_from c job d None = ap (λ o. verdict_from c job (screened (tsig_of c job octets) d) o) standing ∙ ap (λ t. verdict_from c job (screened t d) None) signed in
       let made : verdict_from c job d None ≡ verdict_at s job.flight.zone d = verdict_from_is c job d (count_is c.list ok.legal) same_version (rw v at takes) in
-      ap (verdict_lines job.flight.zone) (ap (verdict_at s job.flight.zone) (decision_is s job octets same_version) ∙ sym (v ∙ made))
+      ap (λ v. verdict_lines job.flight.zone v ∷ []) (ap (verdict_at s job.flight.zone) (decision_is s job octets same_version) ∙ sym (v ∙ made))
 
   entry_follows : IsJob job → octets_used (transfer_for job) octets ≡ length octets → CanFollow (state_of c) (entry_for job octets)
   entry_follows valid used = follows c job octets ok fly valid standing used ((tells c job octets).approved takes)
@@ -126,10 +126,10 @@ module _ (c : Core) (job : JobOf) (w : Weighing) (ok : IsSound c) (fly : IsFlyin
       let one : table ≡ (step (state_of c) (entry_for job (octets_in w.entry))).table = cc both in
       one ∙ (ap (λ e. (step (state_of c) e).table) (sym fits.entry) ∙ ap (λ (s : State). s.table) (sym (after_more c.list w.entry)))
 
-  pub weighed_lines : journal (c.list ++ w.entry ∷ []) ≡ journal c.list ++ verdict_lines job.flight.zone w.verdict
+  pub weighed_lines : journal (c.list ++ w.entry ∷ []) ≡ journal c.list ++ verdict_lines job.flight.zone w.verdict ∷ []
   weighed_lines =
       journal_more c.list w.entry
-      ∙ ap (λ l. journal c.list ++ l) (ap (entry_lines (state_of c)) fits.entry ∙ (lines_are c job ok fly (octets_in w.entry) takes_so ∙ ap (verdict_lines job.flight.zone) (sym fits.verdict)))
+      ∙ ap (λ l. journal c.list ++ l) (ap (entry_lines (state_of c)) fits.entry ∙ (lines_are c job ok fly (octets_in w.entry) takes_so ∙ ap (λ v. verdict_lines job.flight.zone v ∷ []) (sym fits.verdict)))
 
   pub settled_list : (now : ℕ) → (settled c job (octets_in w.entry) now).list ≡ c.list ++ w.entry ∷ []
   settled_list now =

@@ -1,4 +1,4 @@
--- Meaning: what stands under the provisioner's lock, and what each call makes of it.
+-- Meaning: what is under the provisioner's lock, and what each call makes of it.
 use Rattle.std.specs.Prelude.{◌≡◌, ◌≤◌, ◌⊎◌, ℕ, Bool, true, false, List, Option, Result, Ok, Err, IfOk}
 use Rattle.dz_io.specs.Counts.{HasRisen}
 use Rattle.dz_io.specs.Device.{Gains, GainsPrefix}
@@ -7,6 +7,7 @@ use Rattle.dz_name.specs.Words.{Name, Octets}
 use Rattle.dz_notify.specs.declared.notify.Heard.{Heard}
 use Rattle.dz_job.specs.Job.{JobOf}
 use Rattle.dz_job.specs.declared.verdict.Verdict.{Verdict}
+use Rattle.dz_job.specs.declared.verdict.Verdict.TheVariants.{OutOfMemory}
 use Rattle.dz_job.specs.declared.verdict.Failure.{Failure}
 use Rattle.dz_history.specs.declared.entry.Entry.{Entry}
 use Rattle.dz_fleet.specs.declared.due.Due.{Due}
@@ -14,7 +15,9 @@ use Rattle.dz_fleet.specs.Core.{Core, IsDue, IsOffered, failed_core, failure_of,
 use Rattle.dz_fleet.specs.Sound.{IsFlying}
 use Rattle.dz_fleet.specs.Absence.{AbsentOf, absent_of}
 use Rattle.dz_desk.specs.Seen.{Book, Page}
-use Rattle.dz_report.specs.Lines.{failure_line, notify_line}
+use Rattle.dz_desk.specs.declared.ear.Hearing.{Hearing}
+use Rattle.dz_desk.specs.declared.ear.Hearing.TheVariants as hearing
+use Rattle.dz_report.specs.Lines.{failure_line, notify_line, verdict_lines}
 use Rattle.dz_provision.specs.Log.{due_lines, settled_lines}
 use Rattle.dz_provision.specs.declared.provisioner.LogFault.{LogFault}
 use Rattle.dz_provision.specs.declared.provisioner.Unmade.{Unmade}
@@ -27,7 +30,7 @@ pub record Held : Type 0 where
   pub faults : ℕ
   pub failed : Bool
 
--- an event made this core, and its lines stand behind what was written
+-- an event made this core, and its lines come after what was written
 pub record Logs (h : Held) (next : Core) (lines : Octets) (k : Held) : Type 0 where
   pub core : k.core ≡ next
   pub written : Gains lines h.written k.written
@@ -35,7 +38,7 @@ pub record Logs (h : Held) (next : Core) (lines : Octets) (k : Held) : Type 0 wh
   pub before : h.failed ≡ false
   pub failed : k.failed ≡ false
 
--- an event made this core, and the write of its lines was the first to fail, behind a prefix of them
+-- an event made this core, and the write of its lines was the first to fail, after a prefix of them
 pub record Breaks (h : Held) (next : Core) (lines : Octets) (k : Held) : Type 0 where
   pub core : k.core ≡ next
   pub written : GainsPrefix lines h.written k.written
@@ -94,3 +97,18 @@ IsHeard h peer zone (Err fault) k =
 unfoldable pub IsSaid : Held → Octets → Result (Unit {0}) LogFault → Held → Type 0
 IsSaid h line (Ok done) k = Logs h h.core line k
 IsSaid h line (Err fault) k = Stays h k ⊎ Breaks h h.core line k
+
+-- ---- what is answered beside a reading
+-- by these octets; of want of memory the line is said that names the job's zone
+unfoldable pub IsSettledAloud : Held → JobOf → Octets → ℕ → Verdict → Held → Type 0
+IsSettledAloud h job octets now OutOfMemory k =
+    (between : Held) × (note : Page) × IsSettled h job octets now (Ok (OutOfMemory, note)) between × IsSaid between (verdict_lines job.flight.zone OutOfMemory) (Ok tt) k
+IsSettledAloud h job octets now verdict k = (note : Page) × IsSettled h job octets now (Ok (verdict, note)) k
+
+unfoldable pub IsFailedAloud : Held → JobOf → ℕ → Failure → Held → Type 0
+IsFailedAloud h job now failure k = (note : Page) × IsFailed h job now (Ok (failure, note)) k
+
+-- a NOTIFY
+unfoldable pub IsHeardAloud : Held → Peer → Name → Hearing → Held → Type 0
+IsHeardAloud h peer zone (hearing.Heard how) k = (note : Page) × IsHeard h peer zone (Ok (how, note)) k
+IsHeardAloud h peer zone hearing.LogFault k = (fault : LogFault) × IsHeard h peer zone (Err fault) k

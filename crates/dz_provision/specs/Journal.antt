@@ -17,15 +17,16 @@ verdict_at s zone up_to_date = Confirmed s.count (serial_in (held_at s zone))
 verdict_at s zone (new version) = Published s.count (serial_in (Some version)) (aftermath_of s zone (new version))
 verdict_at s zone (refused fault) = Refused fault
 
--- the lines of an entry: none of the configuration
-unfoldable pub entry_lines : State → Entry → Octets
+-- the lines of an entry, as one text; there are none of the configuration
+unfoldable pub entry_lines : State → Entry → List Octets
 entry_lines s (Setup config) = []
-entry_lines s (Transfer t) = verdict_lines t.zone (verdict_at s t.zone (decision_of s t))
+entry_lines s (Transfer t) = verdict_lines t.zone (verdict_at s t.zone (decision_of s t)) ∷ []
 
-unfoldable pub journal_from : State → List Entry → Octets
+-- the texts of entries, from a state on
+unfoldable pub journal_from : State → List Entry → List Octets
 journal_from s [] = []
 journal_from s (e ∷ es) = entry_lines s e ++ journal_from (step s e) es
 
--- the lines of all entries, one behind the other
-abbrev pub journal : List Entry → Octets
+-- the texts of all entries, in their order
+abbrev pub journal : List Entry → List Octets
 journal list = journal_from nothing list

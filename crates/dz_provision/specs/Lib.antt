@@ -1,3 +1,4 @@
+pub mod Endings
 pub mod Held
 pub mod Journal
 pub mod Keeping

@@ -86,23 +86,24 @@ IsRemark aside = ⊥
 abbrev pub CanBeSaid : Octets → Type 0
 CanBeSaid line = (aside : Aside) × IsRemark aside × (line ≡ text_of aside)
 
--- a part of the log: lines of the list, or a line beside them
+-- a part of the log: the whole lines of an entry of the list, or a line beside them
 pub data Part : Type 0 where
   listed : Octets → Part
   beside : Aside → Part
 
--- all parts, and those of the list alone, one behind the other
+-- all parts, one after the other
 abbrev pub written : List Part → Octets
 written [] = []
 written (listed text ∷ parts) = text ++ written parts
 written (beside aside ∷ parts) = text_of aside ++ written parts
 
-abbrev pub told : List Part → Octets
+-- those of the list alone
+abbrev pub told : List Part → List Octets
 told [] = []
-told (listed text ∷ parts) = text ++ told parts
+told (listed text ∷ parts) = text ∷ told parts
 told (beside aside ∷ parts) = told parts
 
--- a log of a list: once the lines beside are left out, the lines of the list remain
+-- a log of a list: once the lines beside are left out, the texts of its entries remain, each whole
 unfoldable pub IsLog : List Entry → Octets → Type 0
 IsLog list text = (parts : List Part) × (text ≡ written parts) × (told parts ≡ journal list)
 

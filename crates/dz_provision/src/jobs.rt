@@ -3,8 +3,10 @@
 ghost use Rattle.std.specs.Prelude.{◌≡◌, ◌<◌, ◌^◌, false, length, Err, IsErr};
 ghost use mathlib.Core.List.{IsPrefix};
 ghost use Rattle.dz_job.specs.Job.{transfer_for};
+ghost use Rattle.dz_provision.specs.Endings.{settled_ending, failed_ending};
 ghost use Rattle.dz_provision.specs.Receipts.{IsHandedAt, IsSettledAt, IsFailedAt};
 
+use crate::ending::Ended;
 use crate::provisioner::{LogFault, Unmade};
 use dz_desk::{Ear, Reading};
 use dz_fleet::{Due, Failure, Job, Verdict};
@@ -12,7 +14,7 @@ use dz_take::Finished;
 use std::alloc::Global;
 use std::sync::Wait;
 
-/// Where jobs are handed out and ended, for the readings of one publisher. What a call answers stands by the list that its
+/// Where jobs are handed out and ended, for the readings of one publisher. What a call answers is by the list that its
 /// reading has then seen. Moments are in seconds below 2^40. Each call may wait.
 pub trait Jobs: Ear {
     /// Asks for a job, whose line is written. Where there is none, nothing is.
@@ -30,7 +32,8 @@ pub trait Jobs: Ear {
         ensures cause { IsErr result → Self.may_fail };
 
     /// Ends a job by what came of its transfer. One that is taken is published, and the reading has then seen it. The lines
-    /// of the verdict are written, and for want of memory `nomemory` with the zone.
+    /// of the verdict are written, and for want of memory `nomemory` with the zone. Beside the verdict it answers how the job
+    /// ended: its event, at this moment, and these lines.
     ///
     /// # Errors
     ///
@@ -44,34 +47,31 @@ pub trait Jobs: Ear {
         job: Job,
         finished: Finished,
         now: u64,
-    ) -> Result<Verdict, Unmade>
+    ) -> Ended<Verdict>
         requires out { reading.old.is_out ≡ false }
         requires own { reading.old.book ≡ Self.publisher }
         requires transfer { finished.transfer ≡ transfer_for job }
         requires moment { now < 2 ^ 40 }
         ensures same { reading.new ≡ record reading.old { list = reading.new.list } }
         ensures seen { IsPrefix reading.old.list reading.new.list }
-        ensures settled { IsSettledAt result job finished.octets
+        ensures settled { IsSettledAt result.answer job finished.octets
             (length reading.old.list) reading.new.list }
-        ensures cause { result ≡ Err Unmade.LogFault → Self.may_fail };
+        ensures ending { result.ending
+            ≡ settled_ending job finished.octets now result.answer }
+        ensures cause { result.answer ≡ Err Unmade.LogFault → Self.may_fail };
 
-    /// Ends a job that failed, and its line is written.
+    /// Ends a job that failed, and its line is written. It answers how the job ended, as [`Jobs::settle`] does.
     ///
     /// # Errors
     ///
     /// As those of [`Jobs::settle`].
-    fn fail<R: Wait>(
-        &self,
-        rt: &R,
-        reading: &mut Reading,
-        job: Job,
-        now: u64,
-    ) -> Result<Failure, Unmade>
+    fn fail<R: Wait>(&self, rt: &R, reading: &mut Reading, job: Job, now: u64) -> Ended<Failure>
         requires out { reading.old.is_out ≡ false }
         requires own { reading.old.book ≡ Self.publisher }
         requires moment { now < 2 ^ 40 }
         ensures same { reading.new ≡ record reading.old { list = reading.new.list } }
         ensures seen { IsPrefix reading.old.list reading.new.list }
-        ensures failed { IsFailedAt result job (length reading.old.list) reading.new.list }
-        ensures cause { result ≡ Err Unmade.LogFault → Self.may_fail };
+        ensures failed { IsFailedAt result.answer job (length reading.old.list) reading.new.list }
+        ensures ending { result.ending ≡ failed_ending job now result.answer }
+        ensures cause { result.answer ≡ Err Unmade.LogFault → Self.may_fail };
 }

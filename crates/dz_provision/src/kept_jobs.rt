@@ -5,9 +5,11 @@ ghost use mathlib.Core.List.{IsPrefix};
 ghost use Rattle.dz_io.specs.Counts.{HasRisen};
 ghost use Rattle.dz_job.specs.Job.{transfer_for};
 ghost use Rattle.dz_fleet.specs.Weighing.{is_taken};
+ghost use Rattle.dz_provision.specs.Endings.{settled_ending};
 ghost use Rattle.dz_provision.specs.Keeping.{IsLastVerdict};
 ghost use Rattle.dz_provision.specs.Receipts.{IsSettledAt};
 
+use crate::ending::Ended;
 use crate::jobs::Jobs;
 use crate::keep::keep_last;
 use crate::naming::Naming;
@@ -48,7 +50,7 @@ impl<K: Sink, J: Naming> Provisioner<K, J> {
         job: Job,
         finished: Finished,
         now: u64,
-    ) -> Result<Verdict, Unmade>
+    ) -> Ended<Verdict>
         requires out { reading.old.is_out ≡ false }
         requires own { reading.old.book ≡ J.publisher }
         requires list { reading.old.list ≡ self.old.core.list }
@@ -56,17 +58,17 @@ impl<K: Sink, J: Naming> Provisioner<K, J> {
         requires moment { now < 2 ^ 40 }
         ensures same { reading.new ≡ record reading.old { list = reading.new.list } }
         ensures seen { IsPrefix reading.old.list reading.new.list }
-        ensures settled { IsSettledAt result job finished.octets
+        ensures settled { IsSettledAt result.answer job finished.octets
             (length reading.old.list) reading.new.list }
-        ensures cause { result ≡ Err Unmade.LogFault → (k : K) × HasRisen 0 (K.faults k) }
+        ensures ending { result.ending
+            ≡ settled_ending job finished.octets now result.answer }
+        ensures cause { result.answer ≡ Err Unmade.LogFault → (k : K) × HasRisen 0 (K.faults k) }
     {
-        match self.settle_seen(rt, alloc, reading, job, finished, now) {
-            Ok(verdict) => {
-                self.keep_taken(rt, alloc, store, &verdict);
-                Ok(verdict)
-            }
-            Err(unmade) => Err(unmade),
+        let ended = self.settle_seen(rt, alloc, reading, job, finished, now);
+        if let Ok(verdict) = &ended.answer {
+            self.keep_taken(rt, alloc, store, verdict);
         }
+        ended
     }
 
     /// Keeps what is taken, where there is a store. A fault of the log shows at the next call.
@@ -121,7 +123,7 @@ impl<'a, K: Sink, J: Naming, D: Disk + Drop> Jobs
         job: Job,
         finished: Finished,
         now: u64,
-    ) -> Result<Verdict, Unmade> {
+    ) -> Ended<Verdict> {
         'locks: for _ in rt.forever() {
             let mut inside = self.shared.lock.lock(rt);
             if inside.is_seen(rt, reading) {
@@ -131,13 +133,7 @@ impl<'a, K: Sink, J: Naming, D: Disk + Drop> Jobs
         unreachable!()
     }
 
-    fn fail<R: Wait>(
-        &self,
-        rt: &R,
-        reading: &mut Reading,
-        job: Job,
-        now: u64,
-    ) -> Result<Failure, Unmade> {
+    fn fail<R: Wait>(&self, rt: &R, reading: &mut Reading, job: Job, now: u64) -> Ended<Failure> {
         self.shared.fail(rt, reading, job, now)
     }
 }

@@ -1,8 +1,10 @@
-//! What stands under the lock of a server: the core, the list's publisher and the log, which agree at each moment at which
+//! What is under the lock of a server: the core, the list's publisher and the log, which agree at each moment at which
 //! the lock is free (RFC 9432 section 5).
 #![tactic(auto)]
 
 mod copied;
+mod ending;
+mod endings;
 mod hand;
 mod hear;
 mod jobs;
@@ -18,6 +20,8 @@ mod shared;
 mod starved;
 mod unkept;
 
+pub use ending::{Ended, Ending};
+pub use endings::Endings;
 pub use jobs::Jobs;
 pub use keep::keep_last;
 pub use kept_jobs::Keeping;

@@ -110,22 +110,17 @@ impl<K: Sink, J: Naming> Provisioner<K, J> {
         let mut publisher = publisher;
         match opened(alloc, config) {
             Err(_) => Err(Unstarted { publisher, output }),
-            Ok((fleet, step)) => match publisher.stage(step) {
-                Err(step) => {
-                    drop(step);
-                    Err(Unstarted { publisher, output })
-                }
-                Ok(()) => {
-                    drop(publisher.publish(rt));
-                    Ok(Provisioner {
-                        fleet,
-                        publisher,
-                        output,
-                        log_failed: false,
-                        of: PhantomData,
-                    })
-                }
-            },
+            Ok((fleet, step)) => {
+                publisher.stage(step);
+                drop(publisher.publish(rt));
+                Ok(Provisioner {
+                    fleet,
+                    publisher,
+                    output,
+                    log_failed: false,
+                    of: PhantomData,
+                })
+            }
         }
     }
 

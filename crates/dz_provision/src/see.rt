@@ -1,14 +1,19 @@
 //! Calls under the lock, beside a reading that is shown the list.
 
-ghost use Rattle.std.specs.Prelude.{◌≡◌, ◌<◌, ◌^◌, false, true, length, Err, IsErr, IfOk, IfSome, MatchResult};
+ghost use Rattle.std.specs.Prelude.{◌≡◌, ◌<◌, ◌^◌, false, true, length, Ok, Err, IsErr, IfOk, IfSome, OnOk, MatchResult};
 ghost use mathlib.Core.List.{IsPrefix};
 ghost use Rattle.dz_io.specs.Counts.{HasRisen};
 ghost use Rattle.dz_desk.specs.Hearing.{IsHeard};
 ghost use Rattle.dz_job.specs.Job.{transfer_for};
 ghost use Rattle.dz_fleet.specs.Weighing.{is_taken};
+ghost use Rattle.dz_report.specs.Lines.{verdict_lines};
+ghost use Rattle.dz_provision.specs.Endings.{settled_ending, failed_ending};
+ghost use Rattle.dz_provision.specs.Held.{IsHandedOut, IsSettledAloud, IsFailedAloud, IsHeardAloud, IsSaid};
+ghost use Rattle.dz_provision.specs.inner.Ready.{is_want};
 ghost use Rattle.dz_provision.specs.Keeping.{IsLastVerdict};
 ghost use Rattle.dz_provision.specs.Receipts.{IsHandedAt, IsSettledAt, IsFailedAt};
 
+use crate::ending::{Ended, failed, settled};
 use crate::naming::Naming;
 use crate::provisioner::{LogFault, Provisioner, Unmade};
 use crate::starved::starved_line;
@@ -18,6 +23,7 @@ use dz_io::{Peer, Sink};
 use dz_name::Name;
 use dz_take::Finished;
 use std::alloc::Global;
+use std::snapshot::Snapshot;
 use std::sync::Wait;
 
 impl<K: Sink, J: Naming> Provisioner<K, J> {
@@ -48,6 +54,8 @@ impl<K: Sink, J: Naming> Provisioner<K, J> {
         ensures heard { IfSome result (λ hearing.
             IsHeard ((k : K) × HasRisen 0 (K.faults k)) reading.new.list peer.now zone.now
             hearing) }
+        ensures made { IfSome result (λ hearing.
+            IsHeardAloud self.old peer.now zone.now hearing self.new) }
     {
         if !self.is_seen(rt, reading) {
             return None;
@@ -65,6 +73,7 @@ impl<K: Sink, J: Naming> Provisioner<K, J> {
     pub(crate) fn hand_out_now(&mut self, now: u64) -> Result<Due, LogFault>
         requires moment { now < 2 ^ 40 }
         ensures handed { IsHandedAt result self.old.core.list now }
+        ensures made { IsHandedOut self.old now result self.new }
         ensures cause { IsErr result → (k : K) × HasRisen 0 (K.faults k) }
     {
         // what is known of a core is known of this one, and of a failed write where there was one
@@ -84,6 +93,39 @@ impl<K: Sink, J: Naming> Provisioner<K, J> {
         job: Job,
         finished: Finished,
         now: u64,
+    ) -> Ended<Verdict>
+        requires out { reading.old.is_out ≡ false }
+        requires own { reading.old.book ≡ J.publisher }
+        requires list { reading.old.list ≡ self.old.core.list }
+        requires transfer { finished.transfer ≡ transfer_for job }
+        requires moment { now < 2 ^ 40 }
+        ensures same { reading.new ≡ record reading.old { list = reading.new.list } }
+        ensures seen { IsPrefix reading.old.list reading.new.list }
+        ensures settled { IsSettledAt result.answer job finished.octets
+            (length reading.old.list) reading.new.list }
+        ensures made { IfOk result.answer
+            (λ v. IsSettledAloud self.old job finished.octets now v self.new) }
+        ensures ending { result.ending
+            ≡ settled_ending job finished.octets now result.answer }
+        ensures last { IfOk result.answer (λ v. is_taken v ≡ true
+            → IsLastVerdict self.new.core.list v) }
+        ensures cause { result.answer ≡ Err Unmade.LogFault → (k : K) × HasRisen 0 (K.faults k) }
+    {
+        let of = Snapshot::of(&job);
+        let read = Snapshot::of(&finished);
+        let answer = self.settle_aloud(rt, alloc, reading, job, finished, now);
+        settled(of, read, now, answer)
+    }
+
+    /// The verdict of it.
+    fn settle_aloud<R: Wait>(
+        &mut self,
+        rt: &R,
+        alloc: Global,
+        reading: &mut Reading,
+        job: Job,
+        finished: Finished,
+        now: u64,
     ) -> Result<Verdict, Unmade>
         requires out { reading.old.is_out ≡ false }
         requires own { reading.old.book ≡ J.publisher }
@@ -94,6 +136,8 @@ impl<K: Sink, J: Naming> Provisioner<K, J> {
         ensures seen { IsPrefix reading.old.list reading.new.list }
         ensures settled { IsSettledAt result job finished.octets
             (length reading.old.list) reading.new.list }
+        ensures made { IfOk result
+            (λ v. IsSettledAloud self.old job finished.octets now v self.new) }
         ensures last { IfOk result (λ v. is_taken v ≡ true
             → IsLastVerdict self.new.core.list v) }
         ensures cause { result ≡ Err Unmade.LogFault → (k : K) × HasRisen 0 (K.faults k) }
@@ -106,11 +150,11 @@ impl<K: Sink, J: Naming> Provisioner<K, J> {
                 self.has_failed();
                 Err(unmade)
             }
-            Ok((Verdict::OutOfMemory, told)) => {
-                drop(told);
-                self.say_starved(&zone)
-            }
             Ok((verdict, told)) => {
+                if is_want(&verdict) {
+                    drop(told);
+                    return self.say_starved(&zone);
+                }
                 show_taken(rt, reading, &verdict, told);
                 Ok(verdict)
             }
@@ -121,6 +165,8 @@ impl<K: Sink, J: Naming> Provisioner<K, J> {
     fn say_starved(&mut self, zone: &Name) -> Result<Verdict, Unmade>
         ensures answer { MatchResult result (λ verdict. verdict ≡ Verdict.OutOfMemory)
             (λ unmade. unmade ≡ Unmade.LogFault) }
+        ensures said { OnOk result
+            (IsSaid self.old (verdict_lines zone.now Verdict.OutOfMemory) (Ok tt) self.new) }
         ensures cause { result ≡ Err Unmade.LogFault → (k : K) × HasRisen 0 (K.faults k) }
     {
         let line = starved_line(zone);
@@ -134,9 +180,24 @@ impl<K: Sink, J: Naming> Provisioner<K, J> {
     }
 
     /// Ends a job that failed, and answers by the list.
-    pub(crate) fn fail_now(&mut self, job: Job, now: u64) -> Result<Failure, Unmade>
+    pub(crate) fn fail_now(&mut self, job: Job, now: u64) -> Ended<Failure>
+        requires moment { now < 2 ^ 40 }
+        ensures failed { IsFailedAt result.answer job
+            (length self.old.core.list) self.old.core.list }
+        ensures made { IfOk result.answer (λ f. IsFailedAloud self.old job now f self.new) }
+        ensures ending { result.ending ≡ failed_ending job now result.answer }
+        ensures cause { result.answer ≡ Err Unmade.LogFault → (k : K) × HasRisen 0 (K.faults k) }
+    {
+        let of = Snapshot::of(&job);
+        let answer = self.fail_aloud(job, now);
+        failed(of, now, answer)
+    }
+
+    /// The failure of it.
+    fn fail_aloud(&mut self, job: Job, now: u64) -> Result<Failure, Unmade>
         requires moment { now < 2 ^ 40 }
         ensures failed { IsFailedAt result job (length self.old.core.list) self.old.core.list }
+        ensures made { IfOk result (λ f. IsFailedAloud self.old job now f self.new) }
         ensures cause { result ≡ Err Unmade.LogFault → (k : K) × HasRisen 0 (K.faults k) }
     {
         match self.fail(job, now) {
@@ -150,6 +211,13 @@ impl<K: Sink, J: Naming> Provisioner<K, J> {
             }
         }
     }
+}
+
+/// Whether memory was wanting.
+fn is_want(verdict: &Verdict) -> bool
+    ensures { result ≡ is_want verdict.now }
+{
+    matches!(verdict, Verdict::OutOfMemory)
 }
 
 /// Shows a reading the list that a transfer has joined; where none is taken, nothing.

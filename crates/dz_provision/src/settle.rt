@@ -167,19 +167,11 @@ impl<K: Sink, J: Naming> Provisioner<K, J> {
             lines,
             moment,
         } = ready;
-        match self.publisher.stage(step) {
-            Err(step) => {
-                drop(step);
-                drop(weighed);
-                Ok(self.starve(job, moment))
-            }
-            Ok(()) => {
-                let verdict = self.fleet.settle(job, weighed);
-                let told = self.publisher.publish(rt);
-                let logged = log(&mut self.output, &mut self.log_failed, lines.as_slice());
-                end(logged, verdict, told)
-            }
-        }
+        self.publisher.stage(step);
+        let verdict = self.fleet.settle(job, weighed);
+        let told = self.publisher.publish(rt);
+        let logged = log(&mut self.output, &mut self.log_failed, lines.as_slice());
+        end(logged, verdict, told)
     }
 
     /// Ends the core's job for want of memory.

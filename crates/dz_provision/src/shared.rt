@@ -2,9 +2,10 @@
 
 ghost use Rattle.dz_io.specs.Counts.{HasRisen};
 
+use crate::ending::Ended;
 use crate::jobs::Jobs;
 use crate::naming::Naming;
-use crate::provisioner::{LogFault, Provisioner, Unmade};
+use crate::provisioner::{LogFault, Provisioner};
 use dz_desk::{Ear, Hearing, Reading};
 use dz_fleet::{Due, Failure, Job, Verdict};
 use dz_io::{Peer, Sink};
@@ -74,7 +75,7 @@ impl<K: Sink, J: Naming> Jobs for Locked<Provisioner<K, J>> {
         job: Job,
         finished: Finished,
         now: u64,
-    ) -> Result<Verdict, Unmade> {
+    ) -> Ended<Verdict> {
         'locks: for _ in rt.forever() {
             let mut inside = self.lock.lock(rt);
             if inside.is_seen(rt, reading) {
@@ -84,13 +85,7 @@ impl<K: Sink, J: Naming> Jobs for Locked<Provisioner<K, J>> {
         unreachable!()
     }
 
-    fn fail<R: Wait>(
-        &self,
-        rt: &R,
-        reading: &mut Reading,
-        job: Job,
-        now: u64,
-    ) -> Result<Failure, Unmade> {
+    fn fail<R: Wait>(&self, rt: &R, reading: &mut Reading, job: Job, now: u64) -> Ended<Failure> {
         'locks: for _ in rt.forever() {
             let mut inside = self.lock.lock(rt);
             if inside.is_seen(rt, reading) {

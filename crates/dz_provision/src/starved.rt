@@ -24,7 +24,7 @@ pub(crate) fn starved_line(zone: &Name) -> ArrayVec<u8, LINE>
     line
 }
 
-/// Puts octets behind the others.
+/// Puts octets after the others.
 pub(crate) fn put(line: &mut ArrayVec<u8, LINE>, piece: &[u8])
     requires { array_vec_len line.old + length piece.now ≤ LINE }
     ensures items { line.new.items ≡ line.old.items ++ piece.now }

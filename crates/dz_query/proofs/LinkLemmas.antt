@@ -14,13 +14,13 @@ use Rattle.dz_io.specs.declared.peer.Peer.{Peer}
 use Rattle.dz_message.specs.Frame.{frame, stream}
 use Rattle.dz_history.specs.declared.entry.Entry.{Entry}
 use Rattle.dz_query.specs.Served.{Served, requests, moments, owed, framed, AreInTurn}
-use Rattle.dz_query.specs.Stream.{flow, requests_in, IsStream, EndsBy}
+use Rattle.dz_query.specs.Stream.{Flow, flow, requests_in, AreRead, IsStream, EndsBy}
 use Rattle.dz_query.specs.Links.{Visit, links_of, all_served, has_starved, some_starved, IsVisit, LinksTold, AreVisits}
 use Rattle.dz_query.specs.inner.Sending.{owed_by}
 use Rattle.dz_query.specs.declared.stream.StreamEnd.{StreamEnd}
 use Rattle.dz_query.specs.declared.stream.StreamEnd.TheVariants.{Ended, Failed, OutOfMemory}
 use Rattle.dz_query.proofs.GainLemmas.{prefix_of_all, prefix_of_first, gains_none, gains_more, tells_gained, still_none, still_more, rises_more}
-use Rattle.dz_query.proofs.TurnLemmas.{turn_join, turn_later, turn_front, turn_back, sent_later}
+use Rattle.dz_query.proofs.TurnLemmas.{turn_join, turn_later, turn_front, turn_back, turn_excused, sent_later}
 
 pub none_yet : (downstream : List Octets) (may_fail : Type 0) (may_give : ℕ → Bool) (list : List Entry) (l : LinksTold) → AreVisits false downstream may_fail may_give (length list) list l l
 none_yet downstream may_fail may_give list l = record {
@@ -142,4 +142,39 @@ visits_later starved downstream may_fail may_give from list later before now p i
   given = is.given;
   sights = is.sights;
   starving = is.starving;
+}
+
+-- what is excused by less is excused by more
+pub visits_excused : (a b : Type 0) (starved : Bool) (downstream : List Octets) (may_give : ℕ → Bool) (from : ℕ) (list : List Entry) (before now : LinksTold) → (a → b) → AreVisits starved downstream a may_give from list before now → AreVisits starved downstream b may_give from list before now
+visits_excused a b starved downstream may_give from list before now more was = record {
+  visits = was.visits;
+  links = was.links;
+  each = was.each;
+  turns = turn_excused a b may_give true from list (all_served was.visits) more was.turns;
+  given = was.given;
+  sights = was.sights;
+  starving = was.starving;
+}
+
+read_excused : (a b : Type 0) (may_give : ℕ → Bool) (from : ℕ) (list : List Entry) (peer : Peer) (before now : Flow) (served : List Served) → (a → b) → AreRead a may_give from list peer before now served → AreRead b may_give from list peer before now served
+read_excused a b may_give from list peer before now served more was = record {
+  octets = was.octets;
+  read = was.read;
+  are = was.are;
+  turns = turn_excused a b may_give true from list served more was.turns;
+  given = was.given;
+  sights = was.sights;
+}
+
+pub stream_excused : (ending : StreamEnd) (a b : Type 0) (downstream : List Octets) (may_give : ℕ → Bool) (from : ℕ) (list : List Entry) (peer : Peer) (before now : Flow) → (a → b) → IsStream ending downstream a may_give from list peer before now → IsStream ending downstream b may_give from list peer before now
+stream_excused Ended a b downstream may_give from list peer before now more was =
+    record { served = was.served; asked = read_excused a b may_give from list peer before now was.served more was.asked; written = was.written }
+stream_excused Failed a b downstream may_give from list peer before now more was =
+    record { served = was.served; asked = read_excused a b may_give from list peer before now was.served more was.asked; written = was.written }
+stream_excused OutOfMemory a b downstream may_give from list peer before now more was = record {
+  served = was.served;
+  last = was.last;
+  asked = read_excused a b may_give from list peer before now (was.served ++ was.last ∷ []) more was.asked;
+  zone = was.zone;
+  written = was.written;
 }

@@ -8,7 +8,7 @@ use Rattle.dz_io.specs.Device.{Gains}
 use Rattle.dz_io.specs.Packets.{Packet}
 use Rattle.dz_history.specs.declared.entry.Entry.{Entry}
 use Rattle.dz_query.specs.Due.{due}
-use Rattle.dz_query.specs.Served.{Served, requests, moments, replies, sent_of, packets_to, IsExcused, loss, losses}
+use Rattle.dz_query.specs.Served.{Served, excused, requests, moments, replies, sent_of, packets_to, IsExcused, loss, losses}
 use Rattle.dz_query.specs.Session.{Told, AreAnswered, HasAnswered, HasFailed, IsSession}
 use Rattle.dz_query.specs.inner.Replying.{has_lost}
 use Rattle.dz_query.specs.declared.datagrams.SessionEnd.{SessionEnd}
@@ -16,7 +16,7 @@ use Rattle.dz_query.specs.declared.datagrams.SessionEnd.TheVariants.{Closed, Fai
 use Rattle.dz_query.specs.declared.fate.Fate.{Fate}
 use Rattle.dz_query.specs.declared.fate.Fate.TheVariants.{Sent, Lost, Unheard}
 use Rattle.dz_query.proofs.GainLemmas.{gains_none, gains_more, still_none, still_more, rises_more, rises_later, rises_one, risen_later, risen_sooner}
-use Rattle.dz_query.proofs.TurnLemmas.{turn_join, turn_later, turn_one, sent_later, sent_more, losses_more}
+use Rattle.dz_query.proofs.TurnLemmas.{turn_join, turn_later, turn_one, turn_excused, sent_later, sent_more, losses_more}
 
 -- what goes out for a request by a list
 abbrev goes_to : List Entry → Served → List Packet
@@ -134,9 +134,9 @@ answers_later may_fail may_give from list later before now served p is =
     }
 
 pub session_later : (ending : SessionEnd) (may_fail : Type 0) (may_give : ℕ → Bool) (from : ℕ) (list later : List Entry) (before now : Told) → IsPrefix list later → IsSession ending may_fail may_give from list before now → IsSession ending may_fail may_give from later before now
-session_later (Closed lost) may_fail may_give from list later before now p is = record {
+session_later (Closed lost unheard) may_fail may_give from list later before now p is = record {
   served = is.served;
-  answers = answers_later may_fail may_give from list later before now is.served p is.answers;
+  answers = answers_later (excused unheard may_fail) may_give from list later before now is.served p is.answers;
   covered = is.covered;
   whole = is.whole;
   risen = is.risen;
@@ -146,3 +146,21 @@ session_later Failed may_fail may_give from list later before now p is = record 
   answers = answers_later may_fail may_give from list later before now is.served p is.answers;
   covered = is.covered;
 }
+
+-- what is excused by less is excused by more
+pub answered_excused : (a b : Type 0) (lost : Bool) (may_give : ℕ → Bool) (from : ℕ) (list : List Entry) (before now : Told) → (a → b) → HasAnswered lost a may_give from list before now → HasAnswered lost b may_give from list before now
+answered_excused a b lost may_give from list before now more was =
+    let answers = was.answers in
+    record {
+      served = was.served;
+      answers = record {
+        turns = turn_excused a b may_give false from list was.served more answers.turns;
+        received = answers.received;
+        sent = answers.sent;
+        given = answers.given;
+        sights = answers.sights;
+      };
+      covered = was.covered;
+      whole = was.whole;
+      risen = was.risen;
+    }

@@ -23,7 +23,7 @@ use Rattle.dz_query.specs.declared.fate.Fate.TheVariants.{Sent}
 use Rattle.dz_query.specs.declared.stream.StreamEnd.{StreamEnd}
 use Rattle.dz_query.specs.declared.stream.StreamEnd.TheVariants.{Ended, Failed, OutOfMemory}
 use Rattle.dz_query.proofs.GainLemmas.{gains_none, gains_more, still_none, still_more, prefix_of_all, prefix_of_more, rises_more}
-use Rattle.dz_query.proofs.TurnLemmas.{turn_join, turn_one, sent_later, sent_more}
+use Rattle.dz_query.proofs.TurnLemmas.{turn_join, turn_one, turn_excused, sent_later, sent_more}
 
 pub none_yet : (downstream : List Octets) (may_fail : Type 0) (may_give : ℕ → Bool) (list : List Entry) (peer : Peer) (f : Flow) → IsFlowing downstream may_fail may_give (length list) list peer f f
 none_yet downstream may_fail may_give list peer f = record {
@@ -175,6 +175,20 @@ starves downstream may_fail may_give from list later peer before middle now mess
       zone = asks;
       written = rw (same, written) was.written;
     }
+
+-- what is excused by less is excused by more
+pub flowing_excused : (a b : Type 0) (downstream : List Octets) (may_give : ℕ → Bool) (from : ℕ) (list : List Entry) (peer : Peer) (before now : Flow) → (a → b) → IsFlowing downstream a may_give from list peer before now → IsFlowing downstream b may_give from list peer before now
+flowing_excused a b downstream may_give from list peer before now more was = record {
+  served = was.served;
+  messages = was.messages;
+  short = was.short;
+  are = was.are;
+  turns = turn_excused a b may_give true from list was.served more was.turns;
+  read = was.read;
+  written = was.written;
+  given = was.given;
+  sights = was.sights;
+}
 
 -- where no address is listed no session is starved
 pub never_starves : (ending : StreamEnd) (may_fail : Type 0) (may_give : ℕ → Bool) (from : ℕ) (list : List Entry) (peer : Peer) (before now : Flow) → IsStream ending [] may_fail may_give from list peer before now → ending ≡ OutOfMemory → ⊥

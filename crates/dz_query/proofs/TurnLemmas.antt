@@ -1,5 +1,5 @@
 -- Requests one after the other, over a list that grows.
-use Rattle.std.proofs.Common.{◌≡◌, ℕ, ◌+◌, ◌≤◌, Bool, true, List, [], ◌∷◌, ◌++◌, length, take, refl, sym, ap, ◌∙◌, arith}
+use Rattle.std.proofs.Common.{◌≡◌, ℕ, ◌+◌, ◌≤◌, Bool, true, false, ◌||◌, List, [], ◌∷◌, ◌++◌, length, take, refl, sym, ap, ◌∙◌, arith}
 use Rattle.std.specs.List.{flat_map}
 use Rattle.std.proofs.Math.Seq.{take-length}
 use Rattle.std.proofs.lemmas.Grind.{flat_map-append}
@@ -8,8 +8,10 @@ use mathlib.Core.List.{IsPrefix}
 use Rattle.dz_io.specs.Packets.{Packet}
 use Rattle.dz_history.specs.declared.entry.Entry.{Entry}
 use Rattle.dz_desk.proofs.PrefixLemmas.{prefix_length}
-use Rattle.dz_query.specs.Served.{Served, IsExcused, AreInTurn, loss, losses}
+use Rattle.dz_query.specs.Served.{Served, excused, IsExcused, AreInTurn, loss, losses}
+use Rattle.dz_query.specs.inner.Replying.{has_unheard}
 use Rattle.dz_query.specs.declared.fate.Fate.{Fate}
+use Rattle.dz_query.specs.declared.fate.Fate.TheVariants.{Sent, Lost, Unheard}
 
 pub take_prefix : {A : Type 0} (n : ℕ) (list later : List A) → IsPrefix list later → n ≤ length list → take n later ≡ take n list
 take_prefix n list later p less = ap (λ xs. take n xs) (sym p.1) ∙ take-append-le n list p.0 less
@@ -64,3 +66,35 @@ module _ (may_fail : Type 0) (may_give : ℕ → Bool) (tcp : Bool) where
 pub losses_more : (served : List Served) (s : Served) → losses (served ++ s ∷ []) ≡ losses served + loss s.fate
 losses_more [] s = omega arith
 losses_more (x ∷ served) s = omega (arith, losses_more served s)
+
+-- ---- what excuses that a NOTIFY got no reply
+excuse_more : (a b : Type 0) (tcp : Bool) (fate : Fate) (request : Packet) → (a → b) → IsExcused a tcp fate request → IsExcused b tcp fate request
+excuse_more a b tcp Sent request more e = e
+excuse_more a b tcp Lost request more e = e
+excuse_more a b tcp Unheard request more e = (more e.0, e.1)
+
+pub turn_excused : (a b : Type 0) (may_give : ℕ → Bool) (tcp : Bool) (from : ℕ) (list : List Entry) (served : List Served) → (a → b) → AreInTurn a may_give tcp from list served → AreInTurn b may_give tcp from list served
+turn_excused a b may_give tcp from list [] more t = t
+turn_excused a b may_give tcp from list (s ∷ served) more t = (t.0, t.1, excuse_more a b tcp s.fate s.request more t.2, turn_excused a b may_give tcp s.upto list served more t.3)
+
+pub still_excused : (unheard : Bool) (may_fail : Type 0) → excused unheard may_fail → may_fail
+still_excused true may_fail e = e
+still_excused false may_fail e = absurd e
+
+pub excused_then : (unheard : Bool) (fate : Fate) (may_fail : Type 0) → excused unheard may_fail → excused (has_unheard unheard fate) may_fail
+excused_then unheard Sent may_fail e = e
+excused_then unheard Lost may_fail e = e
+excused_then unheard Unheard may_fail e = still_excused unheard may_fail e
+
+pub excused_now : (unheard : Bool) (fate : Fate) (may_fail : Type 0) (tcp : Bool) (request : Packet) → IsExcused may_fail tcp fate request → IsExcused (excused (has_unheard unheard fate) may_fail) tcp fate request
+excused_now unheard Sent may_fail tcp request e = e
+excused_now unheard Lost may_fail tcp request e = e
+excused_now unheard Unheard may_fail tcp request e = e
+
+pub excused_before : (one other : Bool) (may_fail : Type 0) → excused one may_fail → excused (one || other) may_fail
+excused_before true other may_fail e = e
+excused_before false other may_fail e = absurd e
+
+pub excused_after : (one other : Bool) (may_fail : Type 0) → excused other may_fail → excused (one || other) may_fail
+excused_after true other may_fail e = still_excused other may_fail e
+excused_after false other may_fail e = e

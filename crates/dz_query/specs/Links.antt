@@ -74,10 +74,15 @@ pub record AreVisits (starved : Bool) (downstream : List Octets) (may_fail : Typ
 
 -- whether a session ran out of memory, as the end tells it
 abbrev pub starved_at : LinksEnd → Bool
-starved_at (links_end.Closed starved) = starved
-starved_at (links_end.Failed starved) = starved
+starved_at (links_end.Closed starved unheard) = starved
+starved_at (links_end.Failed starved unheard) = starved
+
+-- whether a NOTIFY was not heard, as the end tells it
+abbrev pub unheard_at : LinksEnd → Bool
+unheard_at (links_end.Closed starved unheard) = unheard
+unheard_at (links_end.Failed starved unheard) = unheard
 
 -- closed only where the acceptor said so, and failed only where its count rose
 abbrev pub AcceptsUntil : LinksEnd → Bool → ℕ → ℕ → Type 0
-AcceptsUntil (links_end.Closed starved) mark before now = mark ≡ true
-AcceptsUntil (links_end.Failed starved) mark before now = HasRisen before now
+AcceptsUntil (links_end.Closed starved unheard) mark before now = mark ≡ true
+AcceptsUntil (links_end.Failed starved unheard) mark before now = HasRisen before now

@@ -56,6 +56,11 @@ owed downstream list s =
 abbrev pub framed : List Octets → List Entry → List Served → Octets
 framed downstream list served = stream (flat_map (owed downstream list) served)
 
+-- what excuses that a NOTIFY got no reply, by whether any got none since it was not heard
+abbrev pub excused : Bool → Type 0 → Type 0
+excused true may_fail = may_fail
+excused false may_fail = ⊥
+
 -- a reply is left out only where a send failed, over UDP, or to a NOTIFY where the log may have failed
 abbrev pub IsExcused : Type 0 → Bool → Fate → Packet → Type 0
 IsExcused may_fail tcp Sent request = ⊤

@@ -4,7 +4,7 @@ use Rattle.dz_io.specs.Counts.{HasRisen, HasRisenBy}
 use Rattle.dz_io.specs.Device.{Gains}
 use Rattle.dz_io.specs.Packets.{Packet}
 use Rattle.dz_history.specs.declared.entry.Entry.{Entry}
-use Rattle.dz_query.specs.Served.{Served, requests, moments, replies, losses, AreInTurn}
+use Rattle.dz_query.specs.Served.{Served, requests, moments, replies, losses, excused, AreInTurn}
 use Rattle.dz_query.specs.declared.datagrams.SessionEnd.{SessionEnd}
 use Rattle.dz_query.specs.declared.datagrams.SessionEnd.TheVariants.{Closed, Failed}
 
@@ -44,12 +44,12 @@ pub record HasFailed (may_fail : Type 0) (may_give : ℕ → Bool) (from : ℕ) 
   pub answers : AreAnswered may_fail may_give from list before now served
   pub covered : HasRisenBy (losses served + 1) before.faults now.faults
 
--- a session by its end: closed or failed
+-- a session by its end: closed, where each NOTIFY that was due a reply got it unless one was not heard; or failed
 abbrev pub IsSession : SessionEnd → Type 0 → (ℕ → Bool) → ℕ → List Entry → Told → Told → Type 0
-IsSession (Closed lost) may_fail may_give from list before now = HasAnswered lost may_fail may_give from list before now
+IsSession (Closed lost unheard) may_fail may_give from list before now = HasAnswered lost (excused unheard may_fail) may_give from list before now
 IsSession Failed may_fail may_give from list before now = HasFailed may_fail may_give from list before now
 
 -- closed only where the device said so
 abbrev pub HasClosed : SessionEnd → Bool → Type 0
-HasClosed (Closed lost) mark = mark ≡ true
+HasClosed (Closed lost unheard) mark = mark ≡ true
 HasClosed Failed mark = ⊤

@@ -9,10 +9,10 @@ ghost use Rattle.dz_request.specs.Frame.{is_tcp};
 ghost use Rattle.dz_query.specs.Due.{due};
 ghost use Rattle.dz_query.specs.Served.{sent_of, packets_to, IsExcused};
 ghost use Rattle.dz_query.specs.Session.{told, IsSession, HasClosed};
-ghost use Rattle.dz_query.specs.inner.Replying.{has_lost};
+ghost use Rattle.dz_query.specs.inner.Replying.{has_lost, has_unheard};
 
 use crate::answered::{Answered, answer_incoming};
-use crate::fate::Fate;
+use crate::fate::{Fate, has_unheard};
 use crate::incoming::Incoming;
 use dz_desk::{Ear, Reading};
 use dz_header::{ReplyBuffer, Transport, Writer};
@@ -22,8 +22,9 @@ use std::sync::Wait;
 /// How a session over datagrams ended.
 #[derive(Clone, Copy, Debug, PartialEq, Eq)]
 pub enum SessionEnd {
-    /// The device said that nothing comes any more; `lost` tells whether a send failed.
-    Closed { lost: bool },
+    /// The device said that nothing comes any more; `lost` tells whether a send failed, and `unheard` whether a NOTIFY
+    /// got no reply since the log could not be written.
+    Closed { lost: bool, unheard: bool },
     /// A receive failed.
     Failed,
 }
@@ -58,10 +59,11 @@ pub fn serve_datagrams<E: Ear, D: Datagrams, C: Clock, R: Wait>(
 {
     let ReplyBuffer { request, reply } = buffer;
     let mut lost = false;
+    let mut unheard = false;
     'packets: for _ in rt.forever() {
         match device.receive(request.as_mut_slice()) {
             Err(Failed) => return SessionEnd::Failed,
-            Ok(Received::Closed) => return SessionEnd::Closed { lost },
+            Ok(Received::Closed) => return SessionEnd::Closed { lost, unheard },
             Ok(Received::Packet { length, peer }) => {
                 let octets = request.as_slice();
                 let incoming = Incoming {
@@ -72,6 +74,7 @@ pub fn serve_datagrams<E: Ear, D: Datagrams, C: Clock, R: Wait>(
                 };
                 let fate = answer_packet(rt, ear, reading, &incoming, device, reply);
                 lost = has_lost(lost, fate);
+                unheard = has_unheard(unheard, fate);
             }
         }
     }

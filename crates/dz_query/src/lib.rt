@@ -21,4 +21,4 @@ pub use dz_reply::Turn;
 pub use fate::Fate;
 pub use laws::sent_zones_come_back;
 pub use links::{LinksEnd, serve_links};
-pub use stream::{StreamEnd, serve_stream, serve_stream_outward};
+pub use stream::{StreamEnd, StreamSession, serve_stream, serve_stream_outward};

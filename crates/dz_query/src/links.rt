@@ -2,7 +2,8 @@
 
 ghost use Rattle.std.specs.Prelude.{◌≡◌, ◌≤◌, ◌||◌, false, None, length};
 ghost use mathlib.Core.List.{IsPrefix};
-ghost use Rattle.dz_query.specs.Links.{links_told, has_starved, starved_at, AreVisits, AcceptsUntil};
+ghost use Rattle.dz_query.specs.Links.{links_told, has_starved, starved_at, unheard_at, AreVisits, AcceptsUntil};
+ghost use Rattle.dz_query.specs.Served.{excused};
 
 use crate::stream::{StreamEnd, serve_stream_outward};
 use dz_desk::{Ear, Reading};
@@ -13,10 +14,11 @@ use std::sync::Wait;
 /// Why no further link is served.
 #[derive(Clone, Copy, Debug, PartialEq, Eq)]
 pub enum LinksEnd {
-    /// The acceptor said that no further link comes; `starved` tells whether a link ran out of memory.
-    Closed { starved: bool },
-    /// The acceptor failed; `starved` tells the same.
-    Failed { starved: bool },
+    /// The acceptor said that no further link comes; `starved` tells whether a link ran out of memory, and `unheard`
+    /// whether a NOTIFY got no reply since the log could not be written.
+    Closed { starved: bool, unheard: bool },
+    /// The acceptor failed; `starved` and `unheard` tell the same.
+    Failed { starved: bool, unheard: bool },
 }
 
 /// Serves the links of an acceptor, one after the other, until it closes or fails. Each is served as by
@@ -38,7 +40,8 @@ pub fn serve_links<E: Ear, A: Acceptor, C: Clock, R: Wait>(
     ensures seen { IsPrefix reading.old.list reading.new.list }
     ensures same { (reading.new.is_out ≡ false) × (reading.new.book ≡ reading.old.book) }
     ensures back { A.out acceptor.new ≡ None }
-    ensures visits { AreVisits (starved_at result) downstream.now E.may_fail (C.may_give clock.old)
+    ensures visits { AreVisits (starved_at result) downstream.now
+        (excused (unheard_at result) E.may_fail) (C.may_give clock.old)
         (length reading.old.list) reading.new.list
         (links_told (A.links acceptor.old) reading.old.sights (C.given clock.old))
         (links_told (A.links acceptor.new) reading.new.sights (C.given clock.new)) }
@@ -49,21 +52,30 @@ pub fn serve_links<E: Ear, A: Acceptor, C: Clock, R: Wait>(
     ensures stop { C.may_stop clock.new ≡ C.may_stop clock.old }
 {
     let mut starved = false;
+    let mut unheard = false;
     'links: for _ in rt.forever() {
         match acceptor.accept() {
-            Err(Failed) => return LinksEnd::Failed { starved },
-            Ok(Accepted::Closed) => return LinksEnd::Closed { starved },
+            Err(Failed) => return LinksEnd::Failed { starved, unheard },
+            Ok(Accepted::Closed) => return LinksEnd::Closed { starved, unheard },
             Ok(Accepted::One(link, peer)) => {
                 let mut link = link;
-                let end = serve_stream_outward(
+                let session = serve_stream_outward(
                     rt, ear, reading, &mut link, clock, &peer, downstream, buffer,
                 );
-                starved = some_starved(starved, end);
+                starved = some_starved(starved, session.end);
+                unheard = either(unheard, session.unheard);
                 acceptor.done(link);
             }
         }
     }
     unreachable!()
+}
+
+/// Whether one of two is so.
+fn either(one: bool, other: bool) -> bool
+    ensures { result ≡ (one || other) }
+{
+    one || other
 }
 
 /// Whether this session ran out of memory, or one before it.

@@ -6,12 +6,14 @@ ghost use Rattle.dz_io.specs.Device.{Gains, GainsPrefix, HasCause};
 ghost use Rattle.dz_message.specs.Frame.{frame, stream};
 ghost use Rattle.dz_name.specs.declared.dns.TheConstants.{MESSAGE_OCTETS};
 ghost use Rattle.dz_header.specs.declared.writer.TheConstants.{BUFFER_OCTETS};
-ghost use Rattle.dz_query.specs.inner.Replying.{texts_of, IsShort};
-ghost use Rattle.dz_query.specs.inner.Sending.{texts_in, FitsFrame};
+ghost use Rattle.dz_query.specs.inner.Replying.{texts_of, IsShort, has_unheard};
+ghost use Rattle.dz_query.specs.inner.Sending.{texts_in, fate_in, FitsFrame};
+ghost use Rattle.dz_query.specs.Served.{excused};
 ghost use Rattle.dz_query.specs.Stream.{flow, IsStream, EndsBy};
 
 use crate::answered::Answered;
 use crate::came::{Came, read_message};
+use crate::fate::{Fate, has_unheard};
 use crate::incoming::Incoming;
 use crate::outward::send_zone;
 use crate::sending::{Sending, answer_or_send};
@@ -33,6 +35,13 @@ pub enum StreamEnd {
     OutOfMemory,
 }
 
+/// A session over a link: how it ended, and whether a NOTIFY got no reply in it since the log could not be written.
+#[derive(Clone, Copy, Debug, PartialEq, Eq)]
+pub struct StreamSession {
+    pub end: StreamEnd,
+    pub unheard: bool,
+}
+
 /// Answers the messages of a link, each after its length (RFC 1035 section 4.2.2), until it ends or fails. Each is
 /// answered at a moment of the clock, which is asked once for each, and by the list that the reading sees then. A part
 /// of a message at the end gets no reply. A reply is one write, preceded by its length (RFC 7766 section 8). An ear
@@ -45,22 +54,23 @@ pub fn serve_stream<E: Ear, L: Link, C: Clock, R: Wait>(
     clock: &mut C,
     peer: &Peer,
     buffer: &mut ReplyBuffer,
-) -> StreamEnd
+) -> StreamSession
     requires out { reading.old.is_out ≡ false }
     requires own { reading.old.book ≡ E.publisher }
     ensures seen { IsPrefix reading.old.list reading.new.list }
     ensures same { (reading.new.is_out ≡ false) × (reading.new.book ≡ reading.old.book) }
-    ensures stream { IsStream result [] E.may_fail (C.may_give clock.old)
+    ensures stream { IsStream result.end [] (excused result.unheard E.may_fail)
+        (C.may_give clock.old)
         (length reading.old.list) reading.new.list
         peer.now
         (flow (L.given link.old) (L.held link.old) reading.old.sights (C.given clock.old))
         (flow (L.given link.new) (L.held link.new) reading.new.sights (C.given clock.new)) }
-    ensures ends { EndsBy result (L.left link.new) (L.Source.faults link.old)
+    ensures ends { EndsBy result.end (L.left link.new) (L.Source.faults link.old)
         (L.Source.faults link.new) }
     ensures later { L.Source.faults link.old ≤ L.Source.faults link.new }
     ensures give { C.may_give clock.new ≡ C.may_give clock.old }
     ensures stop { C.may_stop clock.new ≡ C.may_stop clock.old }
-    ensures plenty { result ≡ StreamEnd.OutOfMemory → ⊥ }
+    ensures plenty { result.end ≡ StreamEnd.OutOfMemory → ⊥ }
 {
     serve_stream_outward(rt, ear, reading, link, clock, peer, &[], buffer)
 }
@@ -79,27 +89,29 @@ pub fn serve_stream_outward<E: Ear, L: Link, C: Clock, R: Wait>(
     peer: &Peer,
     downstream: &[[u8; 4]],
     buffer: &mut ReplyBuffer,
-) -> StreamEnd
+) -> StreamSession
     requires out { reading.old.is_out ≡ false }
     requires own { reading.old.book ≡ E.publisher }
     ensures seen { IsPrefix reading.old.list reading.new.list }
     ensures same { (reading.new.is_out ≡ false) × (reading.new.book ≡ reading.old.book) }
-    ensures stream { IsStream result downstream.now E.may_fail (C.may_give clock.old)
+    ensures stream { IsStream result.end downstream.now (excused result.unheard E.may_fail)
+        (C.may_give clock.old)
         (length reading.old.list) reading.new.list
         peer.now
         (flow (L.given link.old) (L.held link.old) reading.old.sights (C.given clock.old))
         (flow (L.given link.new) (L.held link.new) reading.new.sights (C.given clock.new)) }
-    ensures ends { EndsBy result (L.left link.new) (L.Source.faults link.old)
+    ensures ends { EndsBy result.end (L.left link.new) (L.Source.faults link.old)
         (L.Source.faults link.new) }
     ensures later { L.Source.faults link.old ≤ L.Source.faults link.new }
     ensures give { C.may_give clock.new ≡ C.may_give clock.old }
     ensures stop { C.may_stop clock.new ≡ C.may_stop clock.old }
 {
     let ReplyBuffer { request, reply } = buffer;
+    let mut unheard = false;
     'messages: for _ in rt.forever() {
         let size = match read_message(link, request) {
-            Came::Ended => return StreamEnd::Ended,
-            Came::Failed => return StreamEnd::Failed,
+            Came::Ended => return session(StreamEnd::Ended, unheard),
+            Came::Failed => return session(StreamEnd::Failed, unheard),
             Came::Message(size) => size,
         };
         let octets = request.as_slice();
@@ -110,15 +122,33 @@ pub fn serve_stream_outward<E: Ear, L: Link, C: Clock, R: Wait>(
             transport: Transport::Tcp,
         };
         let sending = match answer_or_send(rt, ear, reading, &incoming, downstream, reply) {
-            Err(_) => return StreamEnd::OutOfMemory,
+            Err(_) => return session(StreamEnd::OutOfMemory, unheard),
             Ok(sending) => sending,
         };
+        unheard = has_unheard(unheard, fate_in(&sending));
         match write_sending(link, sending, reply, request) {
-            Err(Failed) => return StreamEnd::Failed,
+            Err(Failed) => return session(StreamEnd::Failed, unheard),
             Ok(()) => {}
         }
     }
     unreachable!()
+}
+
+/// A session that ended so.
+fn session(end: StreamEnd, unheard: bool) -> StreamSession
+    ensures { result ≡ record { end = end; unheard = unheard } }
+{
+    StreamSession { end, unheard }
+}
+
+/// The fate of what goes out.
+fn fate_in(sending: &Sending) -> Fate
+    ensures { result ≡ fate_in sending.now }
+{
+    match sending {
+        Sending::Reply(Answered::Unheard) => Fate::Unheard,
+        Sending::Reply(_) | Sending::Zone(_) => Fate::Sent,
+    }
 }
 
 /// Writes what goes out, each message after its length. They are put together in the room for requests.

@@ -26,6 +26,7 @@ use Rattle.dz_request.specs.Request.{add_shape, opt_in, asked_in, asked_for, que
 use Rattle.dz_reply.specs.Layout.{owner_octets, entry_octets, entries_octets, entries, entry}
 use Rattle.dz_reply.specs.Answer.{whole_octets, octets_of, step_entries, entries_behind, trail_entries, own_entries, soa_entries, addresses_of, glue_of, glue, at_end, of_ending, of_chain, sections_of}
 use Rattle.dz_reply.specs.Reply.{Reply, nothing, written, reply_for, reply_of}
+use Rattle.dz_reply.specs.declared.layout.TheConstants.{POINTER, LONGEST_TTL}
 
 -- the number of a hexadecimal digit, whose letters are in lower case
 abbrev digit : ℕ → ℕ
@@ -367,3 +368,10 @@ pub renamed_too_long : reply_of renaming_far (hex "0082000000010000000000003c616
     ≡ written (hex "0082840600010001000000003c6161616161616161616161616161616161616161616161616161616161616161616161616161616161616161616161616161616161616161616161610164076578616d706c650000010001c0490027000100000e1000c93f6262626262626262626262626262626262626262626262626262626262626262626262626262626262626262626262626262626262626262626262626262623f6363636363636363636363636363636363636363636363636363636363636363636363636363636363636363636363636363636363636363636363636363633f646464646464646464646464646464646464646464646464646464646464646464646464646464646464646464646464646464646464646464646464646464076578616d706c6500")
 unfolding computed_there
 renamed_too_long = refl
+
+-- ---- the numbers of replies, so that none can change (RFC 1035 section 4.1.4, RFC 2181 section 8)
+pub pointer_is_0xc000 : POINTER ≡ 0xc000
+pointer_is_0xc000 = refl
+
+pub longest_ttl_is_2147483647 : LONGEST_TTL ≡ 2147483647
+longest_ttl_is_2147483647 = refl

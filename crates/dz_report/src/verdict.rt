@@ -1,6 +1,6 @@
 //! The lines of a verdict.
 
-ghost use Rattle.std.specs.Prelude.{◌≡◌, ◌++◌, codes, decimal, IfOk, OnOk};
+ghost use Rattle.std.specs.Prelude.{◌≡◌, ◌++◌, codes, decimal, is_ok, if◌then◌else◌, IfOk, OnOk};
 ghost use Rattle.std.specs.List.{flat_map};
 ghost use Rattle.dz_name.specs.Text.{text_of};
 ghost use Rattle.dz_report.specs.Lines.{also, end, standing_word, broken_word, holder_text, change_text, change_line, aftermath_lines, verdict_lines};
@@ -18,17 +18,25 @@ use std::alloc::{AllocError, Global};
 ///
 /// # Errors
 ///
-/// `AllocError` where memory runs out; some octets may then follow what was there.
+/// `AllocError` where memory runs out; `out` is then left as it was.
 pub fn verdict_lines(
     alloc: Global,
     zone: &Name,
     verdict: &Verdict,
     out: &mut Vec<u8>,
 ) -> Result<(), AllocError>
-    ensures { OnOk result (out.new.items ≡ out.old.items ++ verdict_lines zone.now verdict.now) }
+    ensures { out.new.items ≡ (if is_ok result
+        then out.old.items ++ verdict_lines zone.now verdict.now else out.old.items) }
 {
     let text = verdict_text(alloc, zone, verdict)?;
-    out.extend_from_slice(text.as_slice())
+    let before = out.len();
+    match out.extend_from_slice(text.as_slice()) {
+        Ok(()) => Ok(()),
+        Err(error) => {
+            out.truncate(before);
+            Err(error)
+        }
+    }
 }
 
 /// The lines of a verdict. `AllocError` where memory runs out.

@@ -13,10 +13,10 @@ use Rattle.dz_name.specs.Words.{Octets}
 use Rattle.dz_run.specs.Running.{status_of, HasEnded}
 use Rattle.dz_run.specs.declared.answering.End.{End}
 use Rattle.dz_run.specs.declared.answering.End.TheVariants as endings
-use Rattle.dz_run.specs.declared.commands.Status.{Status}
-use Rattle.dz_run.specs.declared.commands.Status.TheVariants.{Done, NoMemory}
+use Rattle.dz_run.specs.declared.status.Status.{Status}
+use Rattle.dz_run.specs.declared.status.Status.TheVariants.{Done, NoMemory}
 
-gains_none : (before : Option (List ℕ)) → Gains [] before before
+pub gains_none : (before : Option (List ℕ)) → Gains [] before before
 gains_none None = refl
 gains_none (Some held) = ap Some (sym (append-nil held))
 
@@ -91,3 +91,11 @@ ended_text rules start input (Ok ending) state left written run is = cc run.0.2
 ended_text rules start input (Err errors.Read) state left written run is = absurd is
 ended_text rules start input (Err errors.Write) state left written run is = absurd is
 ended_text rules start input (Err errors.OutOfMemory) state left written run is = absurd is
+
+-- and where it ended with Done its text ends so
+pub ended_done : {S : Type 0} (rules : Rules S End) (start : S) (input : Octets) (result : Result End ScriptError) (state : S) (left held after : Option Octets) → IsRun rules start input result state left held after → status_of result ≡ Done → (said_of rules start input).ending ≡ endings.Done
+ended_done rules start input (Ok endings.Done) state left held after run is = run.0.0
+ended_done rules start input (Ok endings.BadInput) state left held after run is = cc
+ended_done rules start input (Err errors.Read) state left held after run is = cc
+ended_done rules start input (Err errors.Write) state left held after run is = cc
+ended_done rules start input (Err errors.OutOfMemory) state left held after run is = cc

@@ -1,5 +1,6 @@
 pub mod Examples
 pub mod Answering
+pub mod Exit
 pub mod Flight
 pub mod Kept
 pub mod Phase

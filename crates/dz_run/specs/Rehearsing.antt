@@ -6,8 +6,8 @@ use Rattle.dz_gen.specs.Script.{script}
 use Rattle.dz_gen.specs.Summary.{summary}
 use Rattle.dz_name.specs.Words.{Octets}
 use Rattle.dz_run.specs.Replaying.{opening, replay_rules}
-use Rattle.dz_run.specs.declared.commands.Status.{Status}
-use Rattle.dz_run.specs.declared.commands.Status.TheVariants.{Done, WriteFault, NoMemory}
+use Rattle.dz_run.specs.declared.status.Status.{Status}
+use Rattle.dz_run.specs.declared.status.Status.TheVariants.{Done, WriteFault, NoMemory}
 
 -- what `replay` writes of the script with this many zones
 abbrev pub text_of : ℕ → Octets

@@ -5,7 +5,7 @@ use Rattle.dz_io.specs.Device.{Gains, GainsPrefix}
 use Rattle.std.specs.List.{All}
 use Rattle.dz_script.specs.Run.{IsRun, said_of}
 use Rattle.dz_history.specs.declared.entry.Entry.{Entry}
-use Rattle.dz_desk.specs.Seen.{Published, Viewed, IsFresh}
+use Rattle.dz_desk.specs.Seen.{Book, Published, Viewed, IsAtRest}
 use Rattle.dz_run.specs.Kept.{list_in}
 use Rattle.dz_script.specs.declared.run.ScriptError.{ScriptError}
 use Rattle.dz_script.specs.declared.run.ScriptError.TheVariants as errors
@@ -14,8 +14,8 @@ use Rattle.dz_run.specs.Replaying.{opening, replay_rules}
 use Rattle.dz_run.specs.Replaying as replaying
 use Rattle.dz_run.specs.declared.answering.End.{End}
 use Rattle.dz_run.specs.declared.answering.End.TheVariants as endings
-use Rattle.dz_run.specs.declared.commands.Status.{Status}
-use Rattle.dz_run.specs.declared.commands.Status.TheVariants.{Done, Usage, BadInput, ReadFault, WriteFault, PortFault, NoMemory}
+use Rattle.dz_run.specs.declared.status.Status.{Status}
+use Rattle.dz_run.specs.declared.status.Status.TheVariants.{Done, Usage, BadInput, ReadFault, WriteFault, PortFault, NoMemory}
 use Rattle.dz_words.specs.declared.words.Command.{Command}
 use Rattle.dz_words.specs.declared.words.Command.TheVariants as commands
 use Rattle.dz_words.specs.declared.words.WordsError.{WordsError}
@@ -54,9 +54,10 @@ status_after serve_ends.NoMemory = NoMemory
 abbrev pub Answers : Octets → Status → Option Octets → Option Octets → Option Octets → Type 0
 Answers input status left before after = (result : Result End ScriptError) × (state : State) × (status ≡ status_of result) × IsRun answer_rules None input result state left before after
 
--- `replay` ran its script over the input, and its status is that of the run
-abbrev pub Replays : Octets → Status → Option Octets → Option Octets → Option Octets → Type 0
-Replays input status left before after = (result : Result End ScriptError) × (state : replaying.State) × (status ≡ status_of result) × IsRun replay_rules (opening []) input result state left before after
+-- `replay` ran its script over the input, and its status is that of the run; the published list is that of the run's state
+abbrev pub Replays : Octets → Status → Option Octets → Option Octets → Option Octets → List Entry → Type 0
+Replays input status left before after list =
+    (result : Result End ScriptError) × (state : replaying.State) × (status ≡ status_of result) × (list ≡ list_in state) × IsRun replay_rules (opening []) input result state left before after
 
 -- `produce` ran its script over the input, and its status is that of the run
 abbrev pub Produces : Octets → Status → Option Octets → Option Octets → Option Octets → Type 0
@@ -66,12 +67,19 @@ Produces input status left before after = (result : Result ProduceEnd ScriptErro
 abbrev pub list_of_script : Octets → List Entry
 list_of_script input = list_in (said_of replay_rules (opening []) input).state
 
--- a desk of six readings at which nothing was published
+-- a desk of six readings at rest, at which nothing was published
 pub record IsNewDesk (end : Published) (readings : List Viewed) : Type 0 where
   pub list : end.list ≡ []
   pub staged : end.staged ≡ None
   pub six : length readings ≡ 6
-  pub fresh : All (IsFresh end.book) readings
+  pub rest : All (IsAtRest end.book) readings
+
+-- a desk's publisher came back, at which nothing is staged, and its six readings, each at rest
+pub record IsBack (book : Book) (end : Published) (readings : List Viewed) : Type 0 where
+  pub own : end.book ≡ book
+  pub staged : end.staged ≡ None
+  pub six : length readings ≡ 6
+  pub rest : All (IsAtRest book) readings
 
 -- a text was written and the status is this one, or the write failed after a prefix of the text
 abbrev pub Says : Octets → Status → Status → Option Octets → Option Octets → Type 0

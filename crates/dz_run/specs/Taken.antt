@@ -10,6 +10,7 @@ use Rattle.dz_job.specs.declared.verdict.Failure.{Failure}
 use Rattle.dz_job.specs.declared.verdict.Verdict.{Verdict}
 use Rattle.dz_job.specs.declared.verdict.Verdict.TheVariants.{OutOfMemory}
 use Rattle.dz_desk.specs.Seen.{Book, Page, Published, Viewed}
+pub use Rattle.dz_desk.specs.Seen.{IsAtRest}
 use Rattle.dz_provision.specs.declared.provisioner.LogFault.{LogFault}
 use Rattle.dz_provision.specs.declared.provisioner.Unmade.{Unmade}
 use Rattle.dz_provision.specs.declared.provisioner.Unmade.TheVariants as unmades
@@ -18,10 +19,6 @@ use Rattle.dz_run.specs.Replaying.{State, running, bad_line}
 use Rattle.dz_run.specs.declared.answering.End.{End}
 use Rattle.dz_run.specs.declared.events.Took.{Took}
 use Rattle.dz_run.specs.declared.events.Took.TheVariants as took
-
--- a reading of a publisher, with no sight out
-abbrev pub IsAtRest : Book → Viewed → Type 0
-IsAtRest publisher reading = (reading.is_out ≡ false) × (reading.book ≡ publisher)
 
 -- nothing was published and nothing was written
 pub record CanStart (publisher : Book) (text : Option Octets) (count : ℕ) (end : Published) (view : Viewed) : Type 0 where

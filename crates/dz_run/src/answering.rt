@@ -21,14 +21,12 @@ use dz_name::Name;
 use dz_reply::{Turn, reply_into};
 use dz_report::{joined, numbered, reason_of};
 use dz_script::{is_skipped, read_octets};
-use dz_steps::Steps;
 use dz_table::{Slot, Table};
 use dz_take::{Ask, Finished, Outcome, TakeFault, Taking};
 use dz_zone::Version;
 use std::alloc::{AllocError, Global};
-use std::marker::{Brand, Model};
+use std::marker::Model;
 use std::sync::Arc;
-use std::sync::ledger::{Blank, Ledger};
 
 /// How the input of `answer` ends.
 #[derive(Clone, Copy, Debug, PartialEq, Eq)]
@@ -243,19 +241,15 @@ fn make_table(
     ensures { IfOk result (λ table. table ≡ slot_for apex.now (option_map arc_value version)) }
 {
     let slot = Slot::new(alloc, apex, 0, version)?;
-    counted_table::<Brand>(Blank::new(1), alloc, slot)
+    table_of(alloc, slot)
 }
 
-/// The table of one slot, counted in a ledger that is still blank.
+/// The table of one slot.
 #[tactic(auto, unfolding(dz_table::specs::Table::put))]
-fn counted_table<L: Ledger>(blank: Blank, alloc: Global, slot: Slot) -> Result<Table, AllocError>
-    requires name { blank.name ≡ L.name }
-    requires parts { blank.parts ≡ L.parts }
-    requires whole { blank.parts ≡ 1 }
+fn table_of(alloc: Global, slot: Slot) -> Result<Table, AllocError>
     ensures { IfOk result (λ table. table ≡ slot ∷ []) }
 {
-    let mut steps = Steps::<L>::new(blank);
-    Table::empty(alloc).with(alloc, slot, &mut steps)
+    Table::empty(alloc).with_slot(alloc, slot)
 }
 
 /// Says why there is no version, and goes on.

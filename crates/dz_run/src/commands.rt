@@ -1,12 +1,12 @@
 //! The program's commands.
 
-ghost use Rattle.std.specs.Prelude.{◌≡◌, ◌≢◌, ◌≤◌, ℕ, [], is_some, true, false, Some, Ok, Err, IfSome};
+ghost use Rattle.std.specs.Prelude.{◌≡◌, ◌≢◌, ◌≤◌, ℕ, [], is_some, true, false, None, Some, Ok, Err, IfSome};
 ghost use Rattle.dz_io.specs.Counts.{HasRisen};
 ghost use Rattle.dz_name.specs.Words.{Octets};
-ghost use Rattle.dz_run.specs.Running.{status_of, status_after, status_of_produce, Answers, Replays, Produces, Says, Decides, IsWithoutFault, HasEnded, HasCauseIn, IsNewDesk, list_of_script};
+ghost use Rattle.dz_run.specs.Running.{status_of, status_after, status_of_produce, Answers, Replays, Produces, Says, Decides, IsWithoutFault, HasEnded, HasCauseIn, IsNewDesk, IsBack, list_of_script};
 ghost use Rattle.dz_serve.specs.Command.{IsServe};
 ghost use Rattle.dz_serve.specs.Rows.{rows};
-ghost use Rattle.dz_run.specs.Taken.{CanStart};
+ghost use Rattle.dz_run.specs.Taken.{CanStart, IsAtRest};
 ghost use Rattle.dz_gen.specs.Script.{script};
 ghost use Rattle.dz_words.specs.Words.{command_of};
 ghost use Rattle.dz_run.specs.Rehearsing.{Rehearses};
@@ -16,7 +16,8 @@ use crate::ends::Ends;
 use crate::rehearse::rehearse;
 use crate::replaying::Replaying;
 use crate::script::run_answering;
-use dz_desk::{Desk, Reading};
+use crate::status::Status;
+use dz_desk::Desk;
 use dz_disk::{Disk, MemoryDisk};
 use dz_header::ReplyBuffer;
 use dz_io::{Clock, Ports, Sink, Source};
@@ -29,24 +30,6 @@ use std::alloc::Global;
 use std::marker::Brand;
 use std::sync::Wait;
 use std::thread::Threads;
-
-/// How the program ends. The numbers are its exit codes.
-#[derive(Clone, Copy, Debug, PartialEq, Eq)]
-pub enum Status {
-    Done = 0,
-    /// The words are none of the five forms.
-    Usage = 2,
-    /// A line of the input is bad.
-    BadInput = 3,
-    /// The input can't be read.
-    ReadFault = 4,
-    /// The output can't be written.
-    WriteFault = 5,
-    /// A device that listens can't be opened, or failed.
-    PortFault = 6,
-    /// Out of memory.
-    NoMemory = 7,
-}
 
 /// The status at the end, with the output and the desk.
 pub struct Ended<K> {
@@ -94,7 +77,8 @@ pub fn run<R: Threads + Wait + Sync, S: Source, K: Sink + Send, P: Ports, C: Clo
         Answers octets result.status (S.left input.new) (K.held output) (K.held result.output) }
     ensures ends_replay { command_of words.now ≡ Ok Command.Replay →
         (octets : Octets) → S.left input.old ≡ Some octets →
-        Replays octets result.status (S.left input.new) (K.held output) (K.held result.output) }
+        Replays octets result.status (S.left input.new) (K.held output) (K.held result.output)
+        result.desk.publisher.list }
     ensures published { command_of words.now ≡ Ok Command.Replay →
         (octets : Octets) → S.left input.old ≡ Some octets → result.status ≡ Status.Done →
         result.desk.publisher.list ≡ list_of_script octets }
@@ -104,7 +88,8 @@ pub fn run<R: Threads + Wait + Sync, S: Source, K: Sink + Send, P: Ports, C: Clo
     ensures rehearses { (number : ℕ) → command_of words.now ≡ Ok (Command.Rehearse number) →
         Rehearses number result.status (K.held output) (K.held result.output) }
     ensures rehearsed { (number : ℕ) → command_of words.now ≡ Ok (Command.Rehearse number) →
-        result.status ≡ Status.Done → result.desk.publisher.list ≡ list_of_script (script number) }
+        result.status ≢ Status.NoMemory
+        → result.desk.publisher.list ≡ list_of_script (script number) }
     ensures serves { command_of words.now ≡ Ok Command.Serve
         → (how : ServeEnd) × (result.status ≡ status_after how)
         × IsServe false how ((k : K) × HasRisen 0 (K.faults k)) (C.may_give clock.now)
@@ -115,6 +100,7 @@ pub fn run<R: Threads + Wait + Sync, S: Source, K: Sink + Send, P: Ports, C: Clo
     ensures desk { command_of words.now ≢ Ok Command.Replay
         → command_of words.now ≢ Ok Command.Serve →
         ((number : ℕ) → command_of words.now ≢ Ok (Command.Rehearse number)) → result.desk ≡ desk }
+    ensures back { IsBack desk.publisher.book result.desk.publisher result.desk.readings.items }
     ensures ports { command_of words.now ≢ Ok Command.Serve → ports.new ≡ ports.old }
     ensures words { Decides (command_of words.now) result.status (K.held output)
         (K.held result.output) }
@@ -169,7 +155,8 @@ pub fn run_kept<
         Answers octets result.status (S.left input.new) (K.held output) (K.held result.output) }
     ensures ends_replay { command_of words.now ≡ Ok Command.Replay →
         (octets : Octets) → S.left input.old ≡ Some octets →
-        Replays octets result.status (S.left input.new) (K.held output) (K.held result.output) }
+        Replays octets result.status (S.left input.new) (K.held output) (K.held result.output)
+        result.desk.publisher.list }
     ensures published { command_of words.now ≡ Ok Command.Replay →
         (octets : Octets) → S.left input.old ≡ Some octets → result.status ≡ Status.Done →
         result.desk.publisher.list ≡ list_of_script octets }
@@ -179,7 +166,8 @@ pub fn run_kept<
     ensures rehearses { (number : ℕ) → command_of words.now ≡ Ok (Command.Rehearse number) →
         Rehearses number result.status (K.held output) (K.held result.output) }
     ensures rehearsed { (number : ℕ) → command_of words.now ≡ Ok (Command.Rehearse number) →
-        result.status ≡ Status.Done → result.desk.publisher.list ≡ list_of_script (script number) }
+        result.status ≢ Status.NoMemory
+        → result.desk.publisher.list ≡ list_of_script (script number) }
     ensures serves { command_of words.now ≡ Ok Command.Serve
         → (how : ServeEnd) × (result.status ≡ status_after how)
         × IsServe true how ((k : K) × HasRisen 0 (K.faults k)) (C.may_give clock.now)
@@ -190,6 +178,7 @@ pub fn run_kept<
     ensures desk { command_of words.now ≢ Ok Command.Replay
         → command_of words.now ≢ Ok Command.Serve →
         ((number : ℕ) → command_of words.now ≢ Ok (Command.Rehearse number)) → result.desk ≡ desk }
+    ensures back { IsBack desk.publisher.book result.desk.publisher result.desk.readings.items }
     ensures ports { command_of words.now ≢ Ok Command.Serve → ports.new ≡ ports.old }
     ensures words { Decides (command_of words.now) result.status (K.held output)
         (K.held result.output) }
@@ -252,7 +241,8 @@ fn run_with<
         Answers octets result.status (S.left input.new) (K.held output) (K.held result.output) }
     ensures ends_replay { command_of words.now ≡ Ok Command.Replay →
         (octets : Octets) → S.left input.old ≡ Some octets →
-        Replays octets result.status (S.left input.new) (K.held output) (K.held result.output) }
+        Replays octets result.status (S.left input.new) (K.held output) (K.held result.output)
+        result.desk.publisher.list }
     ensures published { command_of words.now ≡ Ok Command.Replay →
         (octets : Octets) → S.left input.old ≡ Some octets → result.status ≡ Status.Done →
         result.desk.publisher.list ≡ list_of_script octets }
@@ -262,7 +252,8 @@ fn run_with<
     ensures rehearses { (number : ℕ) → command_of words.now ≡ Ok (Command.Rehearse number) →
         Rehearses number result.status (K.held output) (K.held result.output) }
     ensures rehearsed { (number : ℕ) → command_of words.now ≡ Ok (Command.Rehearse number) →
-        result.status ≡ Status.Done → result.desk.publisher.list ≡ list_of_script (script number) }
+        result.status ≢ Status.NoMemory
+        → result.desk.publisher.list ≡ list_of_script (script number) }
     ensures serves { command_of words.now ≡ Ok Command.Serve
         → (how : ServeEnd) × (result.status ≡ status_after how)
         × IsServe (is_some disk.entry) how ((k : K) × HasRisen 0 (K.faults k)) (C.may_give clock.now)
@@ -273,6 +264,7 @@ fn run_with<
     ensures desk { command_of words.now ≢ Ok Command.Replay
         → command_of words.now ≢ Ok Command.Serve →
         ((number : ℕ) → command_of words.now ≢ Ok (Command.Rehearse number)) → result.desk ≡ desk }
+    ensures back { IsBack desk.publisher.book result.desk.publisher result.desk.readings.items }
     ensures ports { command_of words.now ≢ Ok Command.Serve → ports.new ≡ ports.old }
     ensures words { Decides (command_of words.now) result.status (K.held output)
         (K.held result.output) }
@@ -378,6 +370,7 @@ fn run_serve<
         (S.left input.old) (K.held result.output) result.desk.publisher.list
         (rows (P.datagrams ports.old) (P.acceptors ports.old) (P.dialers ports.old))
         (rows (P.datagrams ports.new) (P.acceptors ports.new) (P.dialers ports.new)) }
+    ensures back { IsBack desk.publisher.book result.desk.publisher result.desk.readings.items }
     ensures other { result.status ≢ Status.Usage }
     ensures done { (octets : Octets) → S.left input.old ≡ Some octets →
         result.status ≡ Status.Done → S.left input.new ≡ Some [] }
@@ -425,10 +418,12 @@ pub fn run_replay<R: Wait, S: Source, K: Sink>(
     requires written { IfSome (K.held output) (λ text. text ≡ []) }
     requires faultless { K.faults output ≡ 0 }
     ensures ends { (octets : Octets) → S.left input.old ≡ Some octets →
-        Replays octets result.status (S.left input.new) (K.held output) (K.held result.output) }
+        Replays octets result.status (S.left input.new) (K.held output) (K.held result.output)
+        result.desk.publisher.list }
     ensures published { (octets : Octets) → S.left input.old ≡ Some octets → HasEnded result.status
         →
         result.desk.publisher.list ≡ list_of_script octets }
+    ensures back { IsBack desk.publisher.book result.desk.publisher result.desk.readings.items }
     ensures other { (result.status ≢ Status.Usage) × (result.status ≢ Status.PortFault) }
     ensures done { (octets : Octets) → S.left input.old ≡ Some octets →
         result.status ≡ Status.Done → S.left input.new ≡ Some [] }
@@ -455,7 +450,7 @@ pub fn run_replay<R: Wait, S: Source, K: Sink>(
         reading,
         output,
     } = ends;
-    give_back(&mut readings, reading);
+    readings.push_reserved(reading);
     Ended {
         status,
         output,
@@ -463,14 +458,6 @@ pub fn run_replay<R: Wait, S: Source, K: Sink>(
             publisher,
             readings,
         },
-    }
-}
-
-/// Puts a reading after the others.
-fn give_back(readings: &mut Vec<Reading>, reading: Reading) {
-    match readings.push(reading) {
-        Ok(()) => {}
-        Err(failed) => drop(failed.value),
     }
 }
 
@@ -538,10 +525,13 @@ pub fn replay<R: Wait, S: Source, K: Sink, J: Naming>(
         (K.faults ends.output) ends.publisher ends.reading }
     ensures ends { (octets : Octets) → S.left input.old ≡ Some octets →
         Replays octets result.status (S.left input.new) (K.held ends.output)
-        (K.held result.ends.output) }
+        (K.held result.ends.output) result.ends.publisher.list }
     ensures published { (octets : Octets) → S.left input.old ≡ Some octets → HasEnded result.status
         →
         result.ends.publisher.list ≡ list_of_script octets }
+    ensures back { (result.ends.publisher.staged ≡ None)
+        × (result.ends.publisher.book ≡ J.publisher)
+        × IsAtRest J.publisher result.ends.reading }
     ensures other { (result.status ≢ Status.Usage) × (result.status ≢ Status.PortFault) }
     ensures done { (octets : Octets) → S.left input.old ≡ Some octets →
         result.status ≡ Status.Done → S.left input.new ≡ Some [] }

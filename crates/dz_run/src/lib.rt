@@ -10,7 +10,9 @@ mod opening;
 mod rehearse;
 mod replaying;
 mod script;
+mod status;
 mod zone_line;
 
-pub use commands::{Ended, Played, Status, answer, produce, replay, run, run_kept, run_replay};
+pub use commands::{Ended, Played, answer, produce, replay, run, run_kept, run_replay};
 pub use ends::Ends;
+pub use status::{Status, exit_code};

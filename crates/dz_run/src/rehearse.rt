@@ -1,10 +1,14 @@
 //! The command `rehearse`.
-ghost use Rattle.std.specs.Prelude.{◌≡◌, ◌≢◌, ◌≤◌, ◌↔◌, IsTrue};
+ghost use Rattle.std.specs.Prelude.{◌≡◌, ◌≢◌, ◌≤◌, []};
 ghost use Rattle.dz_gen.specs.Script.{script};
 ghost use Rattle.dz_run.specs.Rehearsing.{SumsUp, Rehearses};
-ghost use Rattle.dz_run.specs.Running.{HasEnded, HasCauseIn, IsNewDesk, list_of_script};
+ghost use Rattle.dz_run.specs.Replaying.{opening, replay_rules};
+ghost use Rattle.dz_run.specs.Running.{HasCauseIn, IsNewDesk, IsBack, list_of_script};
+ghost use Rattle.dz_run.specs.declared.answering.End.{End};
+ghost use Rattle.dz_script.specs.Run.{said_of};
 
-use crate::commands::{Ended, Status, run_replay};
+use crate::commands::{Ended, run_replay};
+use crate::status::Status;
 use dz_desk::Desk;
 use dz_gen::{ZONES, generate, sum_up};
 use dz_io::{MemorySink, MemorySource, Sink};
@@ -23,8 +27,11 @@ pub(crate) fn rehearse<R: Wait, K: Sink>(
     requires number { number ≤ ZONES }
     requires desk { IsNewDesk desk.publisher desk.readings.items }
     ensures rehearses { Rehearses number result.status (K.held output) (K.held result.output) }
-    ensures published { result.status ≡ Status.Done
+    ensures ended { result.status ≢ Status.NoMemory
+        → (said_of replay_rules (opening []) (script number)).ending ≡ End.Done }
+    ensures published { result.status ≢ Status.NoMemory
         → result.desk.publisher.list ≡ list_of_script (script number) }
+    ensures back { IsBack desk.publisher.book result.desk.publisher result.desk.readings.items }
     ensures other { (result.status ≢ Status.Usage) × (result.status ≢ Status.PortFault) }
     ensures read { result.status ≢ Status.ReadFault }
     ensures write_cause { HasCauseIn (K.faults output)
@@ -45,23 +52,15 @@ pub(crate) fn rehearse<R: Wait, K: Sink>(
         desk,
     } = run_replay(rt, alloc, &mut source, sink, desk);
     let mut output = output;
-    let status = if has_ended(status) {
-        tell(alloc, sink.written(), &mut output)
-    } else {
-        Status::NoMemory
+    let status = match status {
+        Status::Done => tell(alloc, sink.written(), &mut output),
+        _ => Status::NoMemory,
     };
     Ended {
         status,
         output,
         desk,
     }
-}
-
-/// Whether this is the status of a script that was read to its end, or to a bad line.
-fn has_ended(status: Status) -> bool
-    ensures { IsTrue result ↔ HasEnded status }
-{
-    matches!(status, Status::Done | Status::BadInput)
 }
 
 /// Writes the summary of a text.

@@ -20,3 +20,13 @@ lines_of-one = refl
 content-closed : content (97 ∷ 98 ∷ 10 ∷ []) ≡ 97 ∷ 98 ∷ []
 unfolding content
 content-closed = refl
+
+-- a last line without its newline, alone and after others
+lines_of-unclosed : lines_of (97 ∷ []) ≡ (97 ∷ []) ∷ []
+unfolding lines_of onto_first
+lines_of-unclosed = refl
+
+lines_of-unclosed_behind_others : lines_of (10 ∷ 10 ∷ 97 ∷ 98 ∷ 10 ∷ 99 ∷ 100 ∷ [])
+    ≡ (10 ∷ []) ∷ (10 ∷ []) ∷ (97 ∷ 98 ∷ 10 ∷ []) ∷ (99 ∷ 100 ∷ []) ∷ []
+unfolding lines_of onto_first
+lines_of-unclosed_behind_others = refl

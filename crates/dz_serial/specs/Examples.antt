@@ -1,6 +1,7 @@
 -- Judge: pairs of serial numbers (RFC 1982 sections 4.1 and 5), computed by the checker.
 use Rattle.std.specs.Prelude.{◌≡◌, true, false, refl}
 use Rattle.dz_serial.specs.Serial.{is_newer, sum}
+use Rattle.dz_serial.specs.declared.serial.TheConstants.{HALF}
 
 next_one : is_newer 2018031900 2018031901 ≡ true
 next_one = refl
@@ -29,3 +30,7 @@ one_more_than_half_back = refl
 
 added_round_the_end : sum 4294967295 2147483647 ≡ 2147483646
 added_round_the_end = refl
+
+-- ---- the numbers of serial arithmetic (RFC 1982 section 3.2), so that none can change
+pub half_is_0x80000000 : HALF ≡ 0x80000000
+half_is_0x80000000 = refl

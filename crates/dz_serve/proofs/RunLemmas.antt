@@ -131,8 +131,12 @@ eased how downstream may_fail may_give list before after run = record {
   closed_two = run.closed_two;
   starved_one = run.starved_one;
   starved_two = run.starved_two;
-  dialed_one = run.dialed_one;
-  dialed_two = run.dialed_two;
+  unheard_one = run.unheard_one;
+  unheard_two = run.unheard_two;
+  unheard_three = run.unheard_three;
+  unheard_four = run.unheard_four;
+  transfers_one = run.transfers_one;
+  transfers_two = run.transfers_two;
   one = run.one;
   two = run.two;
   three = run.three;
@@ -148,7 +152,8 @@ eased how downstream may_fail may_give list before after run = record {
   accepted_two = run.accepted_two;
   dialled_one = run.dialled_one;
   dialled_two = run.dialled_two;
-  done = λ is. let d = run.done is in (d.0, d.1, d.2, d.3, d.4, d.5, λ must. d.6 refl);
+  done = λ is. let d = run.done is in (d.0, d.1, d.2, d.3, d.4, d.5, d.6, d.7, d.8, d.9, d.10, d.11, λ must. d.12 refl);
+  starved = run.starved;
 }
 
 -- a server ran that has to dial where it has no store

@@ -1,5 +1,6 @@
 -- Meaning: what workers hand on.
 use Rattle.std.specs.Prelude.{◌≡◌, ℕ, Bool, true, false, List, length, Option}
+use Rattle.std.specs.List.{All}
 use mathlib.Core.List.{IsPrefix}
 use Rattle.dz_name.specs.Words.{Octets}
 use Rattle.dz_io.specs.Links.{Dialled}
@@ -8,8 +9,10 @@ use Rattle.dz_history.specs.declared.entry.Entry.{Entry}
 use Rattle.dz_desk.specs.Seen.{Book, Viewed}
 use Rattle.dz_query.specs.Session.{Told, IsSession, HasClosed}
 use Rattle.dz_query.specs.declared.datagrams.SessionEnd.{SessionEnd}
-use Rattle.dz_query.specs.Links.{AreVisits, AcceptsUntil, links_told, starved_at}
+use Rattle.dz_query.specs.Served.{excused}
+use Rattle.dz_query.specs.Links.{AreVisits, AcceptsUntil, links_told, starved_at, unheard_at}
 use Rattle.dz_query.specs.declared.links.LinksEnd.{LinksEnd}
+use Rattle.dz_provision.specs.Endings.{EndsAmong}
 use Rattle.dz_transfer.specs.Serving.{IsTransfers}
 use Rattle.dz_transfer.specs.declared.serve.Transfers.{Transfers}
 use Rattle.dz_transfer.specs.declared.serve.TransferEnd.TheVariants as transfer_ends
@@ -29,13 +32,14 @@ pub record HasListened (ending : SessionEnd) (mark : Bool) (may_fail : Type 0) (
 -- a link worker: the sessions over its links, by the addresses to which zones are sent
 pub record HasLinked (ending : LinksEnd) (downstream : List Octets) (may_fail : Type 0) (may_give : ℕ → Bool) (before after : Viewed) (old now : Accepts) (given told : Option (List ℕ)) : Type 0 where
   pub more : HasSeenMore before after
-  pub visits : AreVisits (starved_at ending) downstream may_fail may_give (length before.list) after.list (links_told old.links before.sights given) (links_told now.links after.sights told)
+  pub visits : AreVisits (starved_at ending) downstream (excused (unheard_at ending) may_fail) may_give (length before.list) after.list (links_told old.links before.sights given) (links_told now.links after.sights told)
   pub until : AcceptsUntil ending now.is_closed old.faults now.faults
 
--- a transfer worker: its transfers, by a list that has all that its reading had seen
-pub record HasTransferred (done : Transfers) (may_stop : Bool) (before after : Viewed) (old now : Dials) : Type 0 where
+-- a transfer worker, whose jobs ended at moments of its clock
+pub record HasTransferred (done : Transfers) (may_stop : Bool) (may_give : ℕ → Bool) (before after : Viewed) (old now : Dials) : Type 0 where
   pub more : HasSeenMore before after
-  pub transfers : IsTransfers done.dialed (length before.list) after.list old.links now.links old.faults now.faults
+  pub transfers : IsTransfers done (length before.list) after.list old.links now.links old.faults now.faults
+  pub moments : All (EndsAmong may_give) done.endings
   pub stopped : done.end ≡ transfer_ends.Stopped → may_stop ≡ true
 
 -- a reading of this book, at rest
@@ -51,6 +55,10 @@ pub record AreSeated (book : Book) (one two three four five six : Viewed) : Type
   pub fourth : IsSeated book four
   pub fifth : IsSeated book five
   pub sixth : IsSeated book six
+
+-- six readings of this book came back, all at rest
+abbrev pub AreBack : Book → List Viewed → Type 0
+AreBack book readings = (length readings ≡ 6) × All (IsSeated book) readings
 
 -- a worker was given this reading, this device and this clock
 abbrev pub IsMadeOf : {D C : Type 0} → Viewed → D → C → Viewed → D → C → Type 0

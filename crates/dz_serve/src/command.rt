@@ -11,10 +11,11 @@ ghost use Rattle.dz_settings.specs.declared.config.CatalogSettings.{CatalogSetti
 ghost use Rattle.dz_config.specs.Config.{Reads};
 ghost use Rattle.dz_config.specs.declared.fault.ConfigFault.{ConfigFault};
 ghost use Rattle.dz_config.specs.declared.fault.ConfigError.TheVariants.{Fault};
-ghost use Rattle.dz_desk.specs.Seen.{IsFresh};
+ghost use Rattle.dz_desk.specs.Seen.{IsAtRest};
 ghost use Rattle.dz_serve.specs.Command.{IsServe, IsSetting, IsSettingOf, SaysBad, bad_config};
 ghost use Rattle.dz_serve.specs.Ends.{is_write_fault};
 ghost use Rattle.dz_serve.specs.Rows.{rows};
+ghost use Rattle.dz_serve.specs.Workers.{AreBack};
 
 use crate::served::{Served, Setting, serve, unserved};
 use crate::status::ServeEnd;
@@ -103,10 +104,11 @@ pub fn serve_input<
     requires faultless { K.faults output ≡ 0 }
     requires publisher { (desk.publisher.list ≡ []) × (desk.publisher.staged ≡ None)
         × (desk.publisher.book ≡ J.publisher) }
-    requires readings { All (IsFresh J.publisher) desk.readings.items }
+    requires readings { All (IsAtRest J.publisher) desk.readings.items }
     requires six { length desk.readings.items ≡ 6 }
     ensures publisher { (result.desk.publisher.staged ≡ None)
         × (result.desk.publisher.book ≡ desk.publisher.book) }
+    ensures back { AreBack J.publisher result.desk.readings.items }
     ensures serve { IsServe (is_some disk.entry) result.end ((k : K) × HasRisen 0 (K.faults k)) (C.may_give clock.now)
         (C.may_stop clock.now) (S.left input.old) (K.held result.output) result.desk.publisher.list
         (rows (P.datagrams ports.old) (P.acceptors ports.old) (P.dialers ports.old))

@@ -137,7 +137,8 @@ where
         (A.faults (manually_drop_value result.links.second.acceptor)))
         (C.given gear.tools.linking.second.clock) (C.given result.links.second.clock) }
     ensures transferring_one { HasTransferred result.transfers.first.transfers
-        (C.may_stop gear.tools.transferring.first) gear.seats.transferring.first
+        (C.may_stop gear.tools.transferring.first)
+        (C.may_give gear.tools.transferring.first) gear.seats.transferring.first
         result.transfers.first.reading
         (dials (L.links gear.devices.dialers.first) (L.out gear.devices.dialers.first)
         (L.faults gear.devices.dialers.first))
@@ -145,7 +146,8 @@ where
         (L.out (manually_drop_value result.transfers.first.dialer))
         (L.faults (manually_drop_value result.transfers.first.dialer))) }
     ensures transferring_two { HasTransferred result.transfers.second.transfers
-        (C.may_stop gear.tools.transferring.second) gear.seats.transferring.second
+        (C.may_stop gear.tools.transferring.second)
+        (C.may_give gear.tools.transferring.second) gear.seats.transferring.second
         result.transfers.second.reading
         (dials (L.links gear.devices.dialers.second) (L.out gear.devices.dialers.second)
         (L.faults gear.devices.dialers.second))
@@ -272,7 +274,7 @@ where
                         requires seated { IsSeated B.publisher five.reading }
                         requires none { L.out (manually_drop_value five.dialer) ≡ None }
                         ensures { HasTransferred result.transfers
-                            (C.may_stop five.clock) five.reading result.reading
+                            (C.may_stop five.clock) (C.may_give five.clock) five.reading result.reading
                             (dials (L.links (manually_drop_value five.dialer))
                             (L.out (manually_drop_value five.dialer))
                             (L.faults (manually_drop_value five.dialer)))
@@ -287,7 +289,7 @@ where
                         requires seated { IsSeated B.publisher six.reading }
                         requires none { L.out (manually_drop_value six.dialer) ≡ None }
                         ensures { HasTransferred result.transfers
-                            (C.may_stop six.clock) six.reading result.reading
+                            (C.may_stop six.clock) (C.may_give six.clock) six.reading result.reading
                             (dials (L.links (manually_drop_value six.dialer))
                             (L.out (manually_drop_value six.dialer))
                             (L.faults (manually_drop_value six.dialer)))

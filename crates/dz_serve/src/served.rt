@@ -1,18 +1,18 @@
 //! A server, from its devices' opening to their end.
 
-ghost use Rattle.std.specs.Prelude.{◌≡◌, ◌≢◌, ◌≤◌, ◌<◌, ◌-◌, [], length, is_none, is_some, None, true, IfSome, MatchBool, All};
+ghost use Rattle.std.specs.Prelude.{◌≡◌, ◌≢◌, ◌≤◌, ◌<◌, ◌+◌, ◌-◌, [], ◌∷◌, ◌++◌, length, vec_len, vec_capacity, is_none, is_some, None, true, IfSome, MatchBool, All};
 ghost use Rattle.std.specs.Mem.{manually_drop_value};
 ghost use mathlib.Core.List.{IsPrefix};
 ghost use Rattle.dz_io.specs.Counts.{HasRisen};
 ghost use Rattle.dz_io.specs.Ports.{exchange, accepts, dials, IsFreshExchange, IsFreshAccepts, IsFreshDials};
 ghost use Rattle.dz_settings.specs.Config.{IsAllowed};
-ghost use Rattle.dz_desk.specs.Seen.{IsFresh};
+ghost use Rattle.dz_desk.specs.Seen.{IsAtRest};
 ghost use Rattle.dz_history.specs.Legal.{IsLegal};
 ghost use Rattle.dz_provision.specs.Log.{IsLogged};
 ghost use Rattle.dz_serve.specs.Ends.{is_write_fault};
 ghost use Rattle.dz_serve.specs.Rows.{AreUnused, both_back, rows};
 ghost use Rattle.dz_serve.specs.Runs.{IsRun, HasRun, IsListOf};
-ghost use Rattle.dz_serve.specs.Workers.{IsSeated, AreSeated};
+ghost use Rattle.dz_serve.specs.Workers.{IsSeated, AreSeated, AreBack};
 
 use crate::begin::begin;
 use crate::close::{close_acceptors, close_datagrams, close_dialers};
@@ -79,10 +79,11 @@ pub fn serve<
     requires faultless { K.faults output ≡ 0 }
     requires publisher { (desk.publisher.list ≡ []) × (desk.publisher.staged ≡ None)
         × (desk.publisher.book ≡ J.publisher) }
-    requires readings { All (IsFresh J.publisher) desk.readings.items }
+    requires readings { All (IsAtRest J.publisher) desk.readings.items }
     requires six { length desk.readings.items ≡ 6 }
     ensures publisher { (result.desk.publisher.staged ≡ None)
         × (result.desk.publisher.book ≡ desk.publisher.book) }
+    ensures back { AreBack J.publisher result.desk.readings.items }
     ensures logged { IsLogged result.desk.publisher.list (K.held result.output)
         (is_write_fault result.end) }
     ensures served { result.desk.publisher.list ≢ []
@@ -164,8 +165,14 @@ fn halted<K: Sink, J: Naming>(
     seats: Seats,
     readings: Vec<Reading>,
 ) -> Served<K>
-    requires { is_write_fault end ≡ provisioner.failed }
+    requires write { is_write_fault end ≡ provisioner.failed }
+    requires seated { AreSeated J.publisher seats.listening.first seats.listening.second
+        seats.linking.first seats.linking.second
+        seats.transferring.first seats.transferring.second }
+    requires empty { length readings.items ≡ 0 }
+    requires room { 6 ≤ vec_capacity readings }
     ensures end { result.end ≡ end }
+    ensures back { AreBack J.publisher result.desk.readings.items }
     ensures publisher { (result.desk.publisher.staged ≡ None)
         × (result.desk.publisher.book ≡ J.publisher) }
     ensures list { result.desk.publisher.list ≡ provisioner.core.list }
@@ -226,6 +233,8 @@ fn serve_over<
     requires seated { AreSeated J.publisher rig.seats.listening.first rig.seats.listening.second
         rig.seats.linking.first rig.seats.linking.second
         rig.seats.transferring.first rig.seats.transferring.second }
+    requires empty { length rig.readings.items ≡ 0 }
+    requires room { 6 ≤ vec_capacity rig.readings }
     requires out { (2 ≤ (P.datagrams ports.old).out) × (2 ≤ (P.acceptors ports.old).out)
         × (2 ≤ (P.dialers ports.old).out) }
     requires datagrams_one { IsFreshExchange
@@ -253,8 +262,11 @@ fn serve_over<
     requires linking_two { C.may_give rig.tools.linking.second.clock ≡ C.may_give clock.now }
     requires transferring_one { C.may_stop rig.tools.transferring.first ≡ C.may_stop clock.now }
     requires transferring_two { C.may_stop rig.tools.transferring.second ≡ C.may_stop clock.now }
+    requires gives_one { C.may_give rig.tools.transferring.first ≡ C.may_give clock.now }
+    requires gives_two { C.may_give rig.tools.transferring.second ≡ C.may_give clock.now }
     ensures publisher { (result.desk.publisher.staged ≡ None)
         × (result.desk.publisher.book ≡ J.publisher) }
+    ensures back { AreBack J.publisher result.desk.readings.items }
     ensures begins { IsPrefix provisioner.core.list result.desk.publisher.list }
     ensures legal { IsLegal result.desk.publisher.list }
     ensures logged { IsLogged result.desk.publisher.list (K.held result.output)
@@ -274,7 +286,7 @@ fn serve_over<
 {
     let Rig {
         seats,
-        mut readings,
+        readings,
         devices,
         tools,
         downstream,
@@ -317,16 +329,14 @@ fn serve_over<
                 first: links.first.end,
                 second: links.second.end,
             },
-            transfers: Pair {
-                first: transfers.first.transfers,
-                second: transfers.second.transfers,
-            },
         },
+        &transfers.first.transfers,
+        &transfers.second.transfers,
         must_dial,
     );
-    let datagrams = part_listened(datagrams, &mut readings);
-    let acceptors = part_linked(links, &mut readings);
-    let dialers = part_transferred(transfers, &mut readings);
+    let (datagrams, listening) = part_listened(datagrams);
+    let (acceptors, linking) = part_linked(links);
+    let (dialers, transferring) = part_transferred(transfers);
     close_datagrams(ports, datagrams);
     close_acceptors(ports, acceptors);
     close_dialers(ports, dialers);
@@ -341,18 +351,27 @@ fn serve_over<
         output,
         desk: Desk {
             publisher,
-            readings,
+            readings: unseated(
+                Seats {
+                    listening,
+                    linking,
+                    transferring,
+                },
+                readings,
+            ),
         },
     }
 }
 
 /// A seat for each worker, and what is left of the readings.
 fn seat_all<J: Naming>(readings: Vec<Reading>) -> (Seats, Vec<Reading>)
-    requires fresh { All (IsFresh J.publisher) readings.items }
+    requires rest { All (IsAtRest J.publisher) readings.items }
     requires six { length readings.items ≡ 6 }
-    ensures { AreSeated J.publisher result.0.listening.first result.0.listening.second
+    ensures seated { AreSeated J.publisher result.0.listening.first result.0.listening.second
         result.0.linking.first result.0.linking.second
         result.0.transferring.first result.0.transferring.second }
+    ensures empty { length result.1.items ≡ 0 }
+    ensures room { 6 ≤ vec_capacity result.1 }
 {
     let mut readings = readings;
     let seats = Seats {
@@ -363,8 +382,14 @@ fn seat_all<J: Naming>(readings: Vec<Reading>) -> (Seats, Vec<Reading>)
     (seats, readings)
 }
 
-/// The readings, with those of all seats.
-fn unseated(seats: Seats, readings: Vec<Reading>) -> Vec<Reading> {
+/// The readings of all seats.
+fn unseated(seats: Seats, readings: Vec<Reading>) -> Vec<Reading>
+    requires empty { length readings.items ≡ 0 }
+    requires room { 6 ≤ vec_capacity readings }
+    ensures { result.items ≡ seats.listening.first ∷ seats.listening.second
+        ∷ seats.linking.first ∷ seats.linking.second
+        ∷ seats.transferring.first ∷ seats.transferring.second ∷ [] }
+{
     let mut readings = readings;
     let Seats {
         listening,
@@ -377,21 +402,27 @@ fn unseated(seats: Seats, readings: Vec<Reading>) -> Vec<Reading> {
     readings
 }
 
-/// Puts two readings after the others.
-fn give_both(readings: &mut Vec<Reading>, pair: Pair<Reading>) {
+/// Puts two readings after the others, where there is room for them.
+fn give_both(readings: &mut Vec<Reading>, pair: Pair<Reading>)
+    requires { vec_len readings.old + 2 ≤ vec_capacity readings.old }
+    ensures items { readings.new.items ≡ readings.old.items ++ pair.first ∷ pair.second ∷ [] }
+    ensures count { vec_len readings.new ≡ vec_len readings.old + 2 }
+    ensures room { vec_capacity readings.new ≡ vec_capacity readings.old }
+{
     let Pair { first, second } = pair;
-    give_back(readings, first);
-    give_back(readings, second);
+    readings.push_reserved(first);
+    readings.push_reserved(second);
 }
 
 /// The last two readings.
 fn take_pair<J: Naming>(readings: &mut Vec<Reading>) -> Pair<Reading>
-    requires fresh { All (IsFresh J.publisher) readings.old.items }
+    requires rest { All (IsAtRest J.publisher) readings.old.items }
     requires two { 2 ≤ length readings.old.items }
     ensures first { IsSeated J.publisher result.first }
     ensures second { IsSeated J.publisher result.second }
-    ensures fresh { All (IsFresh J.publisher) readings.new.items }
+    ensures rest { All (IsAtRest J.publisher) readings.new.items }
     ensures count { length readings.new.items ≡ length readings.old.items - 2 }
+    ensures room { vec_capacity readings.new ≡ vec_capacity readings.old }
 {
     let Some(first) = readings.pop() else {
         unreachable!()
@@ -402,54 +433,61 @@ fn take_pair<J: Naming>(readings: &mut Vec<Reading>) -> Pair<Reading>
     Pair { first, second }
 }
 
-/// The devices of datagram workers, whose readings go back.
-fn part_listened<D, C: Drop>(pair: Pair<Listened<D, C>>, readings: &mut Vec<Reading>) -> Pair<D>
-    ensures first { result.first ≡ manually_drop_value pair.first.device }
-    ensures second { result.second ≡ manually_drop_value pair.second.device }
+/// The devices of datagram workers, and their readings.
+fn part_listened<D, C: Drop>(pair: Pair<Listened<D, C>>) -> (Pair<D>, Pair<Reading>)
+    ensures first { result.0.first ≡ manually_drop_value pair.first.device }
+    ensures second { result.0.second ≡ manually_drop_value pair.second.device }
+    ensures readings { (result.1.first ≡ pair.first.reading)
+        × (result.1.second ≡ pair.second.reading) }
 {
     let Pair { first, second } = pair;
-    give_back(readings, first.reading);
-    give_back(readings, second.reading);
-    Pair {
+    let devices = Pair {
         first: ManuallyDrop::into_inner(first.device),
         second: ManuallyDrop::into_inner(second.device),
-    }
+    };
+    let readings = Pair {
+        first: first.reading,
+        second: second.reading,
+    };
+    (devices, readings)
 }
 
 /// The same of link workers.
-fn part_linked<A, C: Drop>(pair: Pair<Linked<A, C>>, readings: &mut Vec<Reading>) -> Pair<A>
-    ensures first { result.first ≡ manually_drop_value pair.first.acceptor }
-    ensures second { result.second ≡ manually_drop_value pair.second.acceptor }
+fn part_linked<A, C: Drop>(pair: Pair<Linked<A, C>>) -> (Pair<A>, Pair<Reading>)
+    ensures first { result.0.first ≡ manually_drop_value pair.first.acceptor }
+    ensures second { result.0.second ≡ manually_drop_value pair.second.acceptor }
+    ensures readings { (result.1.first ≡ pair.first.reading)
+        × (result.1.second ≡ pair.second.reading) }
 {
     let Pair { first, second } = pair;
-    give_back(readings, first.reading);
-    give_back(readings, second.reading);
-    Pair {
+    let acceptors = Pair {
         first: ManuallyDrop::into_inner(first.acceptor),
         second: ManuallyDrop::into_inner(second.acceptor),
-    }
+    };
+    let readings = Pair {
+        first: first.reading,
+        second: second.reading,
+    };
+    (acceptors, readings)
 }
 
 /// The same of transfer workers.
-fn part_transferred<L>(pair: Pair<Transferred<L>>, readings: &mut Vec<Reading>) -> Pair<L>
-    ensures first { result.first ≡ manually_drop_value pair.first.dialer }
-    ensures second { result.second ≡ manually_drop_value pair.second.dialer }
+fn part_transferred<L>(pair: Pair<Transferred<L>>) -> (Pair<L>, Pair<Reading>)
+    ensures first { result.0.first ≡ manually_drop_value pair.first.dialer }
+    ensures second { result.0.second ≡ manually_drop_value pair.second.dialer }
+    ensures readings { (result.1.first ≡ pair.first.reading)
+        × (result.1.second ≡ pair.second.reading) }
 {
     let Pair { first, second } = pair;
-    give_back(readings, first.reading);
-    give_back(readings, second.reading);
-    Pair {
+    let dialers = Pair {
         first: ManuallyDrop::into_inner(first.dialer),
         second: ManuallyDrop::into_inner(second.dialer),
-    }
-}
-
-/// Puts a reading after the others.
-fn give_back(readings: &mut Vec<Reading>, reading: Reading) {
-    match readings.push(reading) {
-        Ok(()) => {}
-        Err(failed) => drop(failed.value),
-    }
+    };
+    let readings = Pair {
+        first: first.reading,
+        second: second.reading,
+    };
+    (dialers, readings)
 }
 
 /// Gives all devices back.

@@ -1,8 +1,8 @@
 //! How serving ends.
 
 ghost use Rattle.std.specs.Prelude.{◌≡◌, ◌≢◌, ◌⊎◌, true, false};
-ghost use Rattle.dz_query.specs.Links.{starved_at};
-ghost use Rattle.dz_serve.specs.Ends.{has_closed, is_whole, is_write_fault};
+ghost use Rattle.dz_query.specs.Links.{starved_at, unheard_at};
+ghost use Rattle.dz_serve.specs.Ends.{has_closed, is_whole, is_write_fault, unheard_in, IsClear};
 
 use crate::pair::Pair;
 use dz_query::{LinksEnd, SessionEnd};
@@ -30,13 +30,18 @@ pub enum ServeEnd {
 pub(crate) struct Ends {
     pub sessions: Pair<SessionEnd>,
     pub links: Pair<LinksEnd>,
-    pub transfers: Pair<Transfers>,
 }
 
-/// The end after these: a fault of the log comes before one of the devices, and that before a link that ran out of
-/// memory. Where there is none of them and no dial was made though one must be, there was no memory for it: a catalog
-/// of which nothing was kept is due at each moment until its first job.
-pub(crate) fn judge(log_failed: bool, ends: &Ends, must_dial: bool) -> ServeEnd
+/// The end after these: a fault of the log comes before one of the devices, and that before a link that was starved of memory.
+/// Where none of them is there and no dial was made though one must be, there was no memory for it: a catalog of which nothing
+/// was kept is due at each moment until its first job.
+pub(crate) fn judge(
+    log_failed: bool,
+    ends: &Ends,
+    one: &Transfers,
+    two: &Transfers,
+    must_dial: bool,
+) -> ServeEnd
     ensures log { is_write_fault result ≡ log_failed }
     ensures session_one { result ≡ ServeEnd.Done → is_whole ends.now.sessions.first ≡ true }
     ensures session_two { result ≡ ServeEnd.Done → is_whole ends.now.sessions.second ≡ true }
@@ -44,12 +49,17 @@ pub(crate) fn judge(log_failed: bool, ends: &Ends, must_dial: bool) -> ServeEnd
     ensures links_two { result ≡ ServeEnd.Done → has_closed ends.now.links.second ≡ true }
     ensures fed_one { result ≡ ServeEnd.Done → starved_at ends.now.links.first ≡ false }
     ensures fed_two { result ≡ ServeEnd.Done → starved_at ends.now.links.second ≡ false }
-    ensures stopped_one { result ≡ ServeEnd.Done
-        → ends.now.transfers.first.end ≡ TransferEnd.Stopped }
-    ensures stopped_two { result ≡ ServeEnd.Done
-        → ends.now.transfers.second.end ≡ TransferEnd.Stopped }
+    ensures heard_one { result ≡ ServeEnd.Done → unheard_in ends.now.sessions.first ≡ false }
+    ensures heard_two { result ≡ ServeEnd.Done → unheard_in ends.now.sessions.second ≡ false }
+    ensures heard_three { result ≡ ServeEnd.Done → unheard_at ends.now.links.first ≡ false }
+    ensures heard_four { result ≡ ServeEnd.Done → unheard_at ends.now.links.second ≡ false }
+    ensures clear_one { result ≡ ServeEnd.Done → IsClear one.now }
+    ensures clear_two { result ≡ ServeEnd.Done → IsClear two.now }
     ensures dialed { result ≡ ServeEnd.Done → must_dial ≡ true →
-        (ends.now.transfers.first.dialed ≡ true) ⊎ (ends.now.transfers.second.dialed ≡ true) }
+        (one.now.dialed ≡ true) ⊎ (two.now.dialed ≡ true) }
+    ensures memory { result ≡ ServeEnd.NoMemory → (is_whole ends.now.sessions.first ≡ true)
+        × (is_whole ends.now.sessions.second ≡ true) × (has_closed ends.now.links.first ≡ true)
+        × (has_closed ends.now.links.second ≡ true) }
     ensures input { (result ≢ ServeEnd.BadInput) × (result ≢ ServeEnd.ReadFault) }
     ensures port { result ≡ ServeEnd.PortFault →
         (is_whole ends.now.sessions.first ≡ false) ⊎ ((is_whole ends.now.sessions.second ≡ false)
@@ -77,27 +87,49 @@ pub(crate) fn judge(log_failed: bool, ends: &Ends, must_dial: bool) -> ServeEnd
     if has_starved(ends.links.second) {
         return ServeEnd::NoMemory;
     }
-    judge_transfers(&ends.transfers, must_dial)
+    if !all_heard(ends) {
+        return ServeEnd::NoMemory;
+    }
+    judge_transfers(one, two, must_dial)
 }
 
-/// The end by the transfer workers alone: one ran out of memory, or no dial was made though one must be.
-fn judge_transfers(transfers: &Pair<Transfers>, must_dial: bool) -> ServeEnd
-    ensures stopped_one { result ≡ ServeEnd.Done → transfers.now.first.end ≡ TransferEnd.Stopped }
-    ensures stopped_two { result ≡ ServeEnd.Done → transfers.now.second.end ≡ TransferEnd.Stopped }
+/// Whether each NOTIFY was heard. None goes unheard while no write to the log has failed, but no clause can say so.
+fn all_heard(ends: &Ends) -> bool
+    ensures one { result ≡ true → unheard_in ends.now.sessions.first ≡ false }
+    ensures two { result ≡ true → unheard_in ends.now.sessions.second ≡ false }
+    ensures three { result ≡ true → unheard_at ends.now.links.first ≡ false }
+    ensures four { result ≡ true → unheard_at ends.now.links.second ≡ false }
+{
+    !unheard_in(ends.sessions.first)
+        && !unheard_in(ends.sessions.second)
+        && !unheard_at(ends.links.first)
+        && !unheard_at(ends.links.second)
+}
+
+fn judge_transfers(one: &Transfers, two: &Transfers, must_dial: bool) -> ServeEnd
+    ensures clear_one { result ≡ ServeEnd.Done → IsClear one.now }
+    ensures clear_two { result ≡ ServeEnd.Done → IsClear two.now }
     ensures dialed { result ≡ ServeEnd.Done → must_dial ≡ true →
-        (transfers.now.first.dialed ≡ true) ⊎ (transfers.now.second.dialed ≡ true) }
+        (one.now.dialed ≡ true) ⊎ (two.now.dialed ≡ true) }
     ensures other { (result ≡ ServeEnd.Done) ⊎ (result ≡ ServeEnd.NoMemory) }
 {
-    if transfers.first.end != TransferEnd::Stopped {
+    if !is_clear(one) {
         return ServeEnd::NoMemory;
     }
-    if transfers.second.end != TransferEnd::Stopped {
+    if !is_clear(two) {
         return ServeEnd::NoMemory;
     }
-    if must_dial && !(transfers.first.dialed || transfers.second.dialed) {
+    if must_dial && !(one.dialed || two.dialed) {
         return ServeEnd::NoMemory;
     }
     ServeEnd::Done
+}
+
+/// Whether a transfer worker was stopped, and each of its jobs was in flight as it ended.
+fn is_clear(transfers: &Transfers) -> bool
+    ensures { result ≡ true → IsClear transfers.now }
+{
+    transfers.end == TransferEnd::Stopped && transfers.absent == 0
 }
 
 /// Whether a session ended at its device's end, with no reply lost.
@@ -105,8 +137,27 @@ fn is_whole(end: SessionEnd) -> bool
     ensures { result ≡ is_whole end }
 {
     match end {
-        SessionEnd::Closed { lost } => !lost,
+        SessionEnd::Closed { lost, .. } => !lost,
         SessionEnd::Failed => false,
+    }
+}
+
+/// Whether a NOTIFY may have got no reply in a session, since it was not heard.
+fn unheard_in(end: SessionEnd) -> bool
+    ensures { result ≡ unheard_in end }
+{
+    match end {
+        SessionEnd::Closed { unheard, .. } => unheard,
+        SessionEnd::Failed => true,
+    }
+}
+
+/// Whether a NOTIFY got no reply over the links of an acceptor, since it was not heard.
+fn unheard_at(end: LinksEnd) -> bool
+    ensures { result ≡ unheard_at end }
+{
+    match end {
+        LinksEnd::Closed { unheard, .. } | LinksEnd::Failed { unheard, .. } => unheard,
     }
 }
 
@@ -125,6 +176,6 @@ fn has_starved(end: LinksEnd) -> bool
     ensures { result ≡ starved_at end }
 {
     match end {
-        LinksEnd::Closed { starved } | LinksEnd::Failed { starved } => starved,
+        LinksEnd::Closed { starved, .. } | LinksEnd::Failed { starved, .. } => starved,
     }
 }

@@ -40,6 +40,10 @@ pub(crate) fn make_tools<C: Clock + Drop>(alloc: Global, clock: &C) -> Result<To
         (λ t. C.may_stop t.transferring.first ≡ C.may_stop clock.now) }
     ensures transferring_two { IfOk result
         (λ t. C.may_stop t.transferring.second ≡ C.may_stop clock.now) }
+    ensures gives_one { IfOk result
+        (λ t. C.may_give t.transferring.first ≡ C.may_give clock.now) }
+    ensures gives_two { IfOk result
+        (λ t. C.may_give t.transferring.second ≡ C.may_give clock.now) }
 {
     let listening = Pair {
         first: make_tool(alloc, clock)?,

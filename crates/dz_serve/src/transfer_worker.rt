@@ -57,7 +57,7 @@ impl<D: Dialer, C: Clock> Promise<Transferred<D>> for Dialling<Transferring<D, C
     ghost use Rattle.dz_serve.specs.Workers.{HasTransferred};
 
     ghost kept_by = { λ p d. HasTransferred d.transfers
-        (C.may_stop p.0.value.clock) p.0.value.reading d.reading
+        (C.may_stop p.0.value.clock) (C.may_give p.0.value.clock) p.0.value.reading d.reading
         (dials (D.links (manually_drop_value p.0.value.dialer))
         (D.out (manually_drop_value p.0.value.dialer))
         (D.faults (manually_drop_value p.0.value.dialer)))
@@ -74,7 +74,8 @@ pub(crate) fn transfer<B: Jobs, D: Dialer, C: Clock + Drop, R: Wait>(
 ) -> Transferred<D>
     requires seated { IsSeated B.publisher work.reading }
     requires none { D.out (manually_drop_value work.dialer) ≡ None }
-    ensures { HasTransferred result.transfers (C.may_stop work.clock) work.reading result.reading
+    ensures { HasTransferred result.transfers (C.may_stop work.clock) (C.may_give work.clock)
+        work.reading result.reading
         (dials (D.links (manually_drop_value work.dialer)) (D.out (manually_drop_value work.dialer))
         (D.faults (manually_drop_value work.dialer)))
         (dials (D.links (manually_drop_value result.dialer))

@@ -1,4 +1,5 @@
 pub mod Config
+pub mod Examples
 pub mod Key
 pub mod Peer
 pub mod PeerExamples

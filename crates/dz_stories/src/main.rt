@@ -1,9 +1,9 @@
 //! A program for tests: `replay` over standard input and output. Its stored run has the stories and the exchanges.
 #![tactic(auto)]
 
-use dz_desk::{Desk, DeskError, open_desk};
+use dz_desk::{Desk, open_desk};
 use dz_edge::{ReadSource, WriteSink};
-use dz_run::{Ended, Status, run_replay};
+use dz_run::{Ended, exit_code, run_replay};
 use std::process::ExitCode;
 
 /// How many readings the desk has, as that of `catzd`.
@@ -12,8 +12,9 @@ const READINGS: u8 = 6;
 /// Runs `replay` and ends with its status; the desk is closed before.
 fn main(rt: HostRuntime) -> ExitCode {
     let alloc = rt.alloc();
-    let Ok(desk) = open_desk(&rt, alloc, READINGS) else {
-        return ExitCode::from(Status::NoMemory as u8);
+    let desk = match open_desk(&rt, alloc, READINGS) {
+        Ok(desk) => desk,
+        Err(error) => return exit_code(Err(error)),
     };
     let mut input = ReadSource::new(rt.stdin());
     let output = WriteSink::new(rt.stdout());
@@ -27,5 +28,5 @@ fn main(rt: HostRuntime) -> ExitCode {
         readings: _,
     } = desk;
     publisher.close(&rt);
-    ExitCode::from(status as u8)
+    exit_code(Ok(status))
 }

@@ -4,6 +4,5 @@ pub mod Putting
 pub mod KeptLemmas
 pub mod LastLemmas
 pub mod SharedLemmas
-pub mod LeadLemmas
 pub mod AheadLemmas
 pub mod AboveLemmas

@@ -1,5 +1,3 @@
 -- Inner: how the code keeps a table.
 pub mod Ahead
 pub mod Kept
-pub mod Lead
-pub mod LeadOrder

@@ -1,6 +1,6 @@
 //! The slots of a table, for lookups of zones in ascending order.
 
-ghost use Rattle.std.specs.Prelude.{◌≡◌, List, Some, IfOk, IfSome};
+ghost use Rattle.std.specs.Prelude.{◌≡◌, ◌+◌, ◌≤◌, List, Some, IfOk, IfSome};
 ghost use Rattle.dz_table.specs.Table.{slot_of};
 ghost use Rattle.dz_table.specs.inner.Ahead.{AreOf};
 ghost use Rattle.dz_table.specs.inner.Kept.{slots_of};
@@ -11,9 +11,11 @@ use crate::table::Table;
 use crate::zone_key::ZoneKey;
 use dz_chunks::{Entry, Share, Walk};
 use dz_name::Name;
+use dz_steps::Steps;
 use std::alloc::{AllocError, Global};
 use std::cmp::Ordering;
 use std::marker::Model;
+use std::sync::ledger::Ledger;
 
 /// The most slots that are passed at once.
 const MOST: u32 = 256;
@@ -57,21 +59,27 @@ impl<'a> Ahead<'a> {
     }
 
     /// The slot of a zone, as tables share it. It is looked for among all slots where the zones before it don't lead to
-    /// it.
+    /// it. At most one reference to a slot is copied.
     ///
     /// # Errors
     ///
-    /// `AllocError` where memory runs out.
-    pub fn slot(&mut self, alloc: Global, zone: &Name) -> Result<Option<SharedSlot>, AllocError>
+    /// `AllocError` where memory is wanting.
+    pub fn slot<L: Ledger>(
+        &mut self,
+        alloc: Global,
+        zone: &Name,
+        steps: &mut Steps<L>,
+    ) -> Result<Option<SharedSlot>, AllocError>
         ensures slot { IfOk result (λ slot. slot ≡ slot_of zone.now self.old) }
         ensures table { self.new ≡ self.old }
+        ensures cost { steps.new ≤ steps.old + 1 }
     {
         if let Some(entry) = self.take(zone) {
-            return Ok(Some(SharedSlot::of(entry)?));
+            return Ok(Some(SharedSlot::of(entry, steps)?));
         }
         self.pass(zone);
         match self.take(zone) {
-            Some(entry) => Ok(Some(SharedSlot::of(entry)?)),
+            Some(entry) => Ok(Some(SharedSlot::of(entry, steps)?)),
             None => search(alloc, self.table, zone),
         }
     }

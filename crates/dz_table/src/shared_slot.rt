@@ -1,13 +1,15 @@
 //! Slots as tables share them.
 
-ghost use Rattle.std.specs.Prelude.{◌≡◌, map, IfOk};
+ghost use Rattle.std.specs.Prelude.{◌≡◌, ◌+◌, map, IfOk};
 ghost use Rattle.dz_table.specs.inner.Kept.{entries_of};
 
 use crate::slot::Slot;
 use crate::zone_key::ZoneKey;
-use dz_chunks::{Entry, Share};
+use dz_chunks::Entry;
+use dz_steps::Steps;
 use std::alloc::{AllocError, Global};
 use std::marker::Model;
+use std::sync::ledger::Ledger;
 
 /// A slot as tables share it: another table takes it over by one more reference to it.
 #[derive(Drop)]
@@ -36,14 +38,18 @@ impl SharedSlot {
         })
     }
 
-    /// One more reference to the slot of an entry of a map. The error is out of memory.
-    pub(crate) fn of(entry: &Entry<ZoneKey, Slot>) -> Result<SharedSlot, AllocError>
-        ensures { IfOk result (λ shared. shared ≡ entry.now.1) }
+    /// The slot of an entry of a map, once more. It is one step. The error is want of memory.
+    pub(crate) fn of<L: Ledger>(
+        entry: &Entry<ZoneKey, Slot>,
+        steps: &mut Steps<L>,
+    ) -> Result<SharedSlot, AllocError>
+        ensures slot { IfOk result (λ shared. shared ≡ entry.now.1) }
+        ensures counted { steps.new ≡ steps.old + 1 }
     {
         // the key of an entry is the zone of its slot
         entry.value();
         Ok(SharedSlot {
-            entry: entry.share()?,
+            entry: entry.copied(steps)?,
         })
     }
 

@@ -11,13 +11,13 @@ use crate::shared_slot::{SharedSlot, entries_of};
 use crate::slot::Slot;
 use crate::slots::Slots;
 use crate::zone_key::ZoneKey;
-use dz_chunks::Chunks;
+use dz_chunks::{Chunks, Copies};
 use dz_name::Name;
 use dz_name::dns::TYPE_DS;
 use dz_steps::Steps;
 use std::alloc::{AllocError, Global};
-use std::marker::Model;
-use std::sync::ledger::Ledger;
+use std::marker::{Brand, Model};
+use std::sync::ledger::{Blank, Ledger};
 
 /// Slots in the canonical order of their zones (RFC 4034 section 6.1), one at most for each zone. A changed table is a
 /// new one, which shares with the old one all other slots.
@@ -74,40 +74,73 @@ impl Table {
         Ahead::of(self, self.slots.walk())
     }
 
-    /// A new table with this slot in place of the one of its zone, or beside the others, which it shares. A step is a
-    /// reference copied, to a slot or to a chunk of them: at most 256 of the first, and one chunk for each 64 slots.
-    /// The error is out of memory.
-    pub fn with<L: Ledger>(
+    /// A new table with this slot in place of the one of its zone, or beside the others, which it shares. It copies at most
+    /// 256 references to slots, and one to a chunk of them for each 64 slots and one more.
+    pub fn with<E: Ledger, R: Ledger>(
         &self,
         alloc: Global,
         slot: Slot,
-        steps: &mut Steps<L>,
+        copies: &mut Copies<E, R>,
     ) -> Result<Table, AllocError>
         ensures value { IfOk result (λ t. t ≡ put self.now slot) }
         ensures own { IfOk result (λ t. slot_of slot.zone t ≡ Some slot) }
         ensures others { IfOk result
             (λ t. (zone : Name) → zone ≢ slot.zone → slot_of zone t ≡ slot_of zone self.now) }
-        ensures cost { steps.new ≤ steps.old + 256 + (length self.now / 64 + 1) }
+        ensures entries { copies.new.entries ≤ copies.old.entries + 256 }
+        ensures references { copies.new.references
+            ≤ copies.old.references + (length self.now / 64 + 1) }
     {
-        let slots = self.slots.with(alloc, slot, steps)?;
+        let slots = self.slots.with(alloc, slot, copies)?;
         Ok(Table { slots })
     }
 
+    /// The same as [`Table::with`], for a caller that counts nothing.
+    pub fn with_slot(&self, alloc: Global, slot: Slot) -> Result<Table, AllocError>
+        ensures { IfOk result (λ t. t ≡ put self.now slot) }
+    {
+        self.counted_with::<Brand, Brand>(Blank::new(1), Blank::new(1), alloc, slot)
+    }
+
+    /// The same, counted in ledgers that are still blank.
+    fn counted_with<E: Ledger, R: Ledger>(
+        &self,
+        entries: Blank,
+        references: Blank,
+        alloc: Global,
+        slot: Slot,
+    ) -> Result<Table, AllocError>
+        requires entries_name { entries.name ≡ E.name }
+        requires entries_parts { entries.parts ≡ E.parts }
+        requires entries_whole { entries.parts ≡ 1 }
+        requires references_name { references.name ≡ R.name }
+        requires references_parts { references.parts ≡ R.parts }
+        requires references_whole { references.parts ≡ 1 }
+        ensures { IfOk result (λ t. t ≡ put self.now slot) }
+    {
+        let mut copies = Copies {
+            entries: Steps::<E>::new(entries),
+            references: Steps::<R>::new(references),
+        };
+        self.with(alloc, slot, &mut copies)
+    }
+
     /// A new table without the slot of a zone, equal to this one where the zone has none. It copies no more than
-    /// [`Table::with`]. The error is out of memory.
-    pub fn without<L: Ledger>(
+    /// [`Table::with`].
+    pub fn without<E: Ledger, R: Ledger>(
         &self,
         alloc: Global,
         zone: &Name,
-        steps: &mut Steps<L>,
+        copies: &mut Copies<E, R>,
     ) -> Result<Table, AllocError>
         ensures value { IfOk result (λ t. t ≡ without self.now zone.now) }
         ensures own { IfOk result (λ t. slot_of zone.now t ≡ None) }
         ensures others { IfOk result
             (λ t. (other : Name) → other ≢ zone.now → slot_of other t ≡ slot_of other self.now) }
-        ensures cost { steps.new ≤ steps.old + 256 + (length self.now / 64 + 1) }
+        ensures entries { copies.new.entries ≤ copies.old.entries + 256 }
+        ensures references { copies.new.references
+            ≤ copies.old.references + (length self.now / 64 + 1) }
     {
-        let slots = self.slots.without(alloc, &ZoneKey::of(zone), steps)?;
+        let slots = self.slots.without(alloc, &ZoneKey::of(zone), copies)?;
         Ok(Table { slots })
     }
 

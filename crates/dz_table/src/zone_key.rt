@@ -1,24 +1,20 @@
 //! Zones as the keys of a table.
 
-ghost use Rattle.std.specs.Prelude.{◌≡◌, refl, take, drop, ◌++◌, length, min};
+ghost use Rattle.std.specs.Prelude.{◌≡◌, refl};
 ghost use Rattle.std.specs.Ordering.{as_partial_cmp};
 ghost use Rattle.dz_name.specs.Name.{canonical_order, same_name};
 ghost use Rattle.dz_name.specs.Order.{canonical_total, canonical_same, names_equal, names_partly_equal, names_ordered, same_ties};
 ghost use Rattle.dz_index.specs.SortKey.{key_of};
-ghost use Rattle.dz_table.specs.inner.Lead.{lead_of};
-ghost use Rattle.dz_table.specs.inner.LeadOrder.{lead_decides};
+ghost use Rattle.dz_index.specs.Lead.{lead_of};
+ghost use Rattle.dz_index.proofs.LeadLemmas.{lead_decides};
 
 use dz_chunks::Lead;
-use dz_index::SortKey;
+use dz_index::{LEAD, SortKey, lead_of};
 use dz_name::Name;
 use std::cmp::Ordering;
 use std::marker::Model;
 
-/// How many octets of a sort key are kept beside the name.
-const LEAD: usize = 16;
-
-/// What a table is asked with: a zone preceded by the first octets of its sort key, by which a map tells most zones
-/// apart.
+/// What a table is asked with: a zone after the first octets of its sort key, by which a map tells most zones apart.
 #[derive(Clone, Copy)]
 pub(crate) struct ZoneKey {
     lead: [u8; LEAD],
@@ -30,7 +26,7 @@ impl Model for ZoneKey {
     ghost use Rattle.std.proofs.Common.{sym, ap};
     ghost use Rattle.dz_name.specs.Words.{Name};
     ghost use Rattle.dz_index.specs.SortKey.{key_of};
-    ghost use Rattle.dz_table.specs.inner.Lead.{lead_of};
+    ghost use Rattle.dz_index.specs.Lead.{lead_of};
 
     ghost Value = { Name };
 
@@ -61,16 +57,6 @@ impl ZoneKey {
     {
         &self.zone
     }
-}
-
-/// The first octets, followed by zeros where they are few.
-fn lead_of(octets: &[u8]) -> [u8; LEAD]
-    ensures { result ≡ lead_of 16 octets.now }
-{
-    let mut lead = [0; LEAD];
-    let count = octets.len().min(LEAD);
-    lead[..count].copy_from_slice(&octets[..count]);
-    lead
 }
 
 impl PartialEq for ZoneKey {

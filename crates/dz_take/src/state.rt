@@ -150,7 +150,7 @@ fn is_old_soa(apex: &Name, first: &Rr, second: &Rr) -> bool
 fn feed_whole(
     alloc: Global,
     transfer: &Transfer,
-    mut whole: Whole,
+    whole: Whole,
     records: Vec<Rr>,
 ) -> Result<State, AllocError>
     requires apex { whole.apex ≡ transfer.now.apex }
@@ -159,8 +159,10 @@ fn feed_whole(
     ensures { IfOk result (Reads transfer.now (whole.fed ++ records.items)) }
 {
     match whole.feed(records) {
-        Ok(Progress::More) => Ok(State::Whole(whole)),
-        Ok(Progress::Ended) => Ok(State::Ended(settle(alloc, transfer.apex(), whole.finish())?)),
+        Ok((whole, progress)) => match progress {
+            Progress::More => Ok(State::Whole(whole)),
+            Progress::Ended => Ok(State::Ended(settle(alloc, transfer.apex(), whole.finish())?)),
+        },
         Err(error) => Ok(State::Ended(refuse(error)?)),
     }
 }
@@ -169,7 +171,7 @@ fn feed_whole(
 fn feed_differences(
     alloc: Global,
     transfer: &Transfer,
-    mut differences: Differences,
+    differences: Differences,
     records: Vec<Rr>,
 ) -> Result<State, AllocError>
     requires is_open { IsOpen (IsIncremental differences.held)
@@ -179,12 +181,13 @@ fn feed_differences(
     ensures { IfOk result (Reads transfer.now (differences.fed ++ records.items)) }
 {
     match differences.feed(records) {
-        Ok(Progress::More) => Ok(State::Differences(differences)),
-        Ok(Progress::Ended) => Ok(State::Ended(settle(
-            alloc,
-            transfer.apex(),
-            differences.finish(),
-        )?)),
+        Ok((differences, progress)) => match progress {
+            Progress::More => Ok(State::Differences(differences)),
+            Progress::Ended => {
+                let zone = differences.finish();
+                Ok(State::Ended(settle(alloc, transfer.apex(), zone)?))
+            }
+        },
         Err(error) => Ok(State::Ended(refuse(error)?)),
     }
 }

@@ -18,6 +18,7 @@
 //! Each wait has a limit, after which the test goes on, and `Stage::is_late` reports it.
 #![tactic(auto)]
 
+mod shelf;
 mod stage;
 mod stage_clock;
 mod stage_datagrams;

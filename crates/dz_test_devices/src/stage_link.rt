@@ -1,5 +1,5 @@
 //! A link of a stage.
-ghost use Rattle.std.specs.Prelude.{◌≡◌, ◌≤◌, ◌<◌, length, None, IfSome, refl};
+ghost use Rattle.std.specs.Prelude.{◌≡◌, ◌≤◌, ◌<◌, length, [], Some, None, IfSome, refl};
 
 use crate::streams::{Stream, octets_for, stream_for};
 use crate::{Play, Stage};
@@ -7,13 +7,14 @@ use dz_io::{Failed, Link, MemorySource, Sink, Source};
 use std::alloc::Global;
 
 /// A link that gives the stream for the query that was written to it. In `Play::ReadWaits` the second read of the
-/// zone's next version waits for a reply. It doesn't report its octets.
+/// zone's next version waits for a reply. It reports what it gave and what was written to it, and not what is left.
 #[derive(Drop)]
 pub struct StageLink<'a> {
     stage: &'a Stage,
     alloc: Global,
-    query: Vec<u8>,
+    pub(crate) query: Vec<u8>,
     answer: Option<MemorySource>,
+    pub(crate) given: Vec<u8>,
     is_held: bool,
     reads: u64,
     pub(crate) faults: u64,
@@ -22,13 +23,16 @@ pub struct StageLink<'a> {
 impl<'a> StageLink<'a> {
     /// A link to which nothing was written.
     pub(crate) fn new(alloc: Global, stage: &'a Stage) -> StageLink<'a>
-        ensures { result.faults ≡ 0 }
+        ensures given { result.given.items ≡ [] }
+        ensures query { result.query.items ≡ [] }
+        ensures faults { result.faults ≡ 0 }
     {
         StageLink {
             stage,
             alloc,
             query: Vec::new(alloc),
             answer: None,
+            given: Vec::new(alloc),
             is_held: false,
             reads: 0,
             faults: 0,
@@ -40,6 +44,8 @@ impl<'a> StageLink<'a> {
         requires { 0 < length buffer.old }
         ensures count { IfSome result (λ n. n ≤ length buffer.old) }
         ensures faults { self.new.faults ≡ self.old.faults }
+        ensures given { self.new.given ≡ self.old.given }
+        ensures query { self.new.query ≡ self.old.query }
     {
         if self.answer.is_none() {
             let stream = stream_for(&self.query, self.stage.has_first())?;
@@ -59,30 +65,30 @@ impl<'a> StageLink<'a> {
 }
 
 impl<'a> Source for StageLink<'a> {
-    ghost given = { λ _. None };
+    ghost given = { λ link. Some link.given.items };
 
     ghost left = { λ _. None };
 
-    ghost beside = { λ _. None };
+    ghost beside = { λ link. Some link.query.items };
 
     ghost faults = { λ link. link.faults };
 
-    /// Reads from the answer; fails where there is none.
+    /// Reads from the answer; fails where there is none, or where memory runs out.
     fn read(&mut self, buffer: &mut [u8]) -> Result<usize, Failed> {
-        match self.read_answer(buffer) {
-            Some(count) => Ok(count),
-            None => {
-                self.faults = self.faults.saturating_add(1);
-                Err(Failed)
+        if let Some(count) = self.read_answer(buffer) {
+            if self.given.extend_from_slice(&buffer[..count]).is_ok() {
+                return Ok(count);
             }
         }
+        self.faults = self.faults.saturating_add(1);
+        Err(Failed)
     }
 }
 
 impl<'a> Sink for StageLink<'a> {
-    ghost held = { λ _. None };
+    ghost held = { λ link. Some link.query.items };
 
-    ghost beside = { λ _. record { given = None; left = None } };
+    ghost beside = { λ link. record { given = Some link.given.items; left = None } };
 
     ghost faults = { λ link. link.faults };
 

@@ -1,12 +1,13 @@
 //! The ports of a stage.
-ghost use Rattle.std.specs.Prelude.{◌≡◌, None};
+ghost use Rattle.std.specs.Prelude.{◌≡◌, [], Some, None};
 
+use crate::shelf::Shelf;
 use crate::{Play, Stage, StageDatagrams, StageDialer};
 use dz_io::{Datagram, Failed, MemoryAcceptor, Peer, Ports, Setup};
 use std::alloc::Global;
 
 /// Ports that open the devices of a stage, whatever the address. The datagram device of worker 0 gives the queries; an
-/// acceptor gets no links. They report neither where they opened devices nor what came back.
+/// acceptor gets no links. They report the dialers that came back, and neither where they opened devices nor the others.
 #[derive(Drop)]
 pub struct StagePorts<'a> {
     stage: &'a Stage,
@@ -14,9 +15,8 @@ pub struct StagePorts<'a> {
     asked: Option<StageDatagrams<'a>>,
     datagrams_out: u64,
     acceptors_out: u64,
-    dialers_out: u64,
+    dialers: Shelf<StageDialer<'a>>,
     faults: u64,
-    dial_faults: u64,
 }
 
 impl<'a> StagePorts<'a> {
@@ -24,7 +24,7 @@ impl<'a> StagePorts<'a> {
     pub fn new(alloc: Global, stage: &'a Stage) -> StagePorts<'a>
         ensures datagrams { result.datagrams_out ≡ 0 }
         ensures acceptors { result.acceptors_out ≡ 0 }
-        ensures dialers { result.dialers_out ≡ 0 }
+        ensures dialers { result.dialers ≡ record { opened = None; out = 0; back = Some [] } }
         ensures faults { result.faults ≡ 0 }
     {
         StagePorts {
@@ -33,9 +33,8 @@ impl<'a> StagePorts<'a> {
             asked: None,
             datagrams_out: 0,
             acceptors_out: 0,
-            dialers_out: 0,
+            dialers: Shelf::new(alloc),
             faults: 0,
-            dial_faults: 0,
         }
     }
 
@@ -49,12 +48,24 @@ impl<'a> StagePorts<'a> {
 
     /// Whether every device that was opened came back.
     pub fn are_all_back(&self) -> bool {
-        self.datagrams_out == 0 && self.acceptors_out == 0 && self.dialers_out == 0
+        self.datagrams_out == 0 && self.acceptors_out == 0 && self.dialers.is_whole()
     }
 
     /// How many openings, or devices that came back, failed, including dialers.
     pub fn all_faults(&self) -> u64 {
-        self.faults.saturating_add(self.dial_faults)
+        self.dialers
+            .back()
+            .iter()
+            .fold(self.faults, |count: u64, dialer| {
+                count.saturating_add(dialer.faults())
+            })
+    }
+
+    /// How many links of the dialers that came back were dialled and came back.
+    pub fn links(&self) -> usize {
+        self.dialers.back().iter().fold(0, |count: usize, dialer| {
+            count.saturating_add(dialer.links())
+        })
     }
 }
 
@@ -69,7 +80,11 @@ impl<'a> Ports for StagePorts<'a> {
 
     ghost acceptors = { λ ports. record { opened = None; out = ports.acceptors_out; back = None } };
 
-    ghost dialers = { λ ports. record { opened = None; out = ports.dialers_out; back = None } };
+    ghost dialers = { λ ports. record {
+      opened = None;
+      out = ports.dialers.out;
+      back = ports.dialers.back;
+    } };
 
     ghost faults = { λ ports. ports.faults };
 
@@ -105,18 +120,13 @@ impl<'a> Ports for StagePorts<'a> {
         }
     }
 
-    /// Makes a dialer of the stage. `Failed` where too many are out.
+    /// Makes a dialer of the stage. `Failed` where memory runs out.
     fn dialer(&mut self, _worker: u8) -> Result<StageDialer<'a>, Failed> {
-        match self.dialers_out.checked_add(1) {
-            Some(out) => {
-                self.dialers_out = out;
-                Ok(StageDialer::new(self.alloc, self.stage))
-            }
-            None => {
-                self.faults = self.faults.saturating_add(1);
-                Err(Failed)
-            }
+        if self.dialers.open() {
+            return Ok(StageDialer::new(self.alloc, self.stage));
         }
+        self.faults = self.faults.saturating_add(1);
+        Err(Failed)
     }
 
     /// Takes a datagram device back, keeps its replies, and counts a fault where it had any.
@@ -138,11 +148,8 @@ impl<'a> Ports for StagePorts<'a> {
         }
     }
 
-    /// Takes a dialer back, and counts a fault where it had any.
+    /// Keeps the dialer that comes back.
     fn close_dialer(&mut self, device: StageDialer<'a>) {
-        self.dialers_out -= 1;
-        if device.faults > 0 {
-            self.dial_faults = self.dial_faults.saturating_add(1);
-        }
+        self.dialers.close(device);
     }
 }

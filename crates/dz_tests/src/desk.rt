@@ -51,10 +51,8 @@ fn publish<R: Abort + Wait>(rt: &R, alloc: Global, publisher: &mut Publisher) ->
     ensures book { publisher.new.book ≡ publisher.old.book }
     ensures told { (result.list ≡ publisher.new.list) × (result.book ≡ publisher.old.book) }
 {
-    match publisher.stage(first_step(rt, alloc)) {
-        Ok(()) => publisher.publish(rt),
-        Err(_) => panic!(rt; "the step came back"),
-    }
+    publisher.stage(first_step(rt, alloc));
+    publisher.publish(rt)
 }
 
 /// A look that shows a sight.

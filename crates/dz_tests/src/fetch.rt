@@ -1,43 +1,19 @@
-//! A job's transfer from a source, and over a link.
+//! A job's transfer over a link, which fails or is cut at each place.
 
 ghost use Rattle.std.specs.Prelude.{◌≡◌, None};
 
-use crate::links::dialer;
-use crate::messages::{GOOD, message, push_framed};
+use crate::links::{STREAM, dialer};
 use crate::names::{name, peer};
-use crate::records::Rdata::{Octets, Soa, Target};
-use crate::records::Row;
-use dz_fetch::{Fetched, fetch, take_all};
-use dz_io::{MemoryDialer, MemorySource};
+use dz_fetch::{Fetched, fetch};
+use dz_io::MemoryDialer;
 use dz_job::{Flight, Job};
-use dz_name::dns::{CLASS_IN, TYPE_A, TYPE_AXFR, TYPE_NS, TYPE_SOA};
-use dz_take::{Ask, Finished, Outcome, TakeFault};
+use dz_take::{Ask, Outcome, TakeFault};
 use std::alloc::{AllocError, Global};
 use std::process::Abort;
-use std::test::Fail;
+use std::test::*;
 
-/// The query with ID 2 for all of `example.`, preceded by its length (RFC 5936 section 2.1).
+/// The query with ID 2 for all of `example.`, after its length (RFC 5936 section 2.1).
 const QUERY: &[u8] = b"\0\x19\0\x02\0\0\0\x01\0\0\0\0\0\0\x07example\0\0\xfc\0\x01";
-
-const SOA: Row = ("example.", TYPE_SOA, 3600, Soa(5));
-
-const NS: Row = ("example.", TYPE_NS, 3600, Target("ns.invalid."));
-
-const WWW: Row = ("www.example.", TYPE_A, 3600, Octets(b"\xc0\0\x02\x50"));
-
-/// `example.` with serial 5 in three messages of 121, 39 and 77 octets, each preceded by its length: 243 octets.
-fn stream(rt: &impl Abort, alloc: Global) -> Result<Vec<u8>, AllocError> {
-    let asked = [("example.", TYPE_AXFR, CLASS_IN)];
-    let first = message(rt, alloc, (2, GOOD), &asked, &[SOA, NS])?;
-    let second = message(rt, alloc, (2, GOOD), &[], &[WWW])?;
-    let third = message(rt, alloc, (2, GOOD), &[], &[SOA])?;
-    let mut octets = Vec::new(alloc);
-    push_framed(rt, &mut octets, first.as_slice())?;
-    push_framed(rt, &mut octets, second.as_slice())?;
-    push_framed(rt, &mut octets, third.as_slice())?;
-    assert_eq!(rt; octets.len(), 243);
-    Ok(octets)
-}
 
 /// The job that asks a primary for all of `example.`, with ID 2.
 fn job(rt: &impl Abort) -> Job {
@@ -64,121 +40,86 @@ fn fetch_over(rt: &impl Abort, alloc: Global, dialer: &mut MemoryDialer) -> Fetc
     fetched
 }
 
-/// A transfer, which a call came to.
-fn finished(rt: &impl Abort, fetched: Fetched) -> Finished {
+/// What a fetch comes to: a serial, a transfer that ends too early, or a fault of the link.
+#[derive(Clone, Copy, Debug, PartialEq)]
+enum Came {
+    Serial(u32),
+    Incomplete,
+    LinkFault,
+    Other,
+}
+
+/// What a fetch came to.
+fn came_of(fetched: &Fetched) -> Came {
     match fetched {
-        Fetched::Finished(finished) => finished,
-        other => panic!(rt; "{other:?}"),
+        Fetched::Finished(finished) => match finished.outcome() {
+            Outcome::New(version) => Came::Serial(version.soa().serial),
+            Outcome::Refused(TakeFault::Incomplete) => Came::Incomplete,
+            _ => Came::Other,
+        },
+        Fetched::LinkFault => Came::LinkFault,
+        Fetched::OutOfMemory => Came::Other,
     }
 }
 
-/// That a call came to a fault of the link.
-fn expect_fault(rt: &impl Abort, fetched: Fetched) {
-    match fetched {
-        Fetched::LinkFault => {}
-        other => panic!(rt; "{other:?}"),
+/// Octets after the stream, dials and calls that fail, what the fetch comes to, and how many links come back.
+type Row = (&'static [u8], &'static [u64], &'static [u64], Came, usize);
+
+/// After the write there are six reads, of a length and a message each; a seventh would fail.
+const ROWS: &[Row] = &[
+    (b"\0\x01\0", &[], &[7], Came::Serial(5), 1),
+    (b"", &[0], &[], Came::LinkFault, 0),
+    (b"", &[], &[0], Came::LinkFault, 1),
+    (b"", &[], &[1], Came::LinkFault, 1),
+    (b"", &[], &[4], Came::LinkFault, 1),
+];
+
+/// That the links that came back are this many, each of the peer of the job, which was asked for the zone where its calls
+/// don't fail.
+fn expect_back(rt: &impl Abort, dialer: &MemoryDialer, row: &Row) {
+    assert_eq!(rt; dialer.back().len(), row.4, "{row:?}");
+    'links: for back in dialer.back() {
+        let is_asked = back.link().written() == QUERY || row.2.starts_with(&[0]);
+        assert!(rt; back.peer() == peer(1) && is_asked, "{row:?}");
     }
 }
 
-/// That a call came to serial 5 of the zone, in this many octets.
-fn expect_zone(rt: &impl Abort, fetched: Fetched, octets: usize) {
-    let finished = finished(rt, fetched);
-    match finished.outcome() {
-        Outcome::New(version) => assert_eq!(rt; version.soa().serial, 5),
-        other => panic!(rt; "{other:?}"),
+/// That a fetch is as its row says.
+fn expect_row(rt: &impl Abort, alloc: Global, row: &Row) -> Result<(), AllocError> {
+    let mut octets = STREAM.to_vec(alloc)?;
+    octets.extend_from_slice(row.0)?;
+    let mut dialer = dialer(alloc, octets, row.1, row.2)?;
+    let fetched = fetch_over(rt, alloc, &mut dialer);
+    assert_eq!(rt; came_of(&fetched), row.3, "{row:?}");
+    expect_back(rt, &dialer, row);
+    Ok(())
+}
+
+#[test]
+fn each_call_that_fails_is_a_fault_of_the_link(rt: HostRuntime) -> Result<(), AllocError> {
+    for row in ROWS {
+        expect_row(&rt, rt.alloc(), row)?;
     }
-    assert_eq!(rt; finished.octets().len(), octets);
-}
-
-#[test]
-fn a_zone_is_fetched_over_a_link_that_was_asked(rt: HostRuntime) -> Result<(), Fail> {
-    let alloc = rt.alloc();
-    let mut dialer = dialer(alloc, stream(&rt, alloc)?, &[], &[])?;
-    expect_zone(&rt, fetch_over(&rt, alloc, &mut dialer), 243);
-    assert_eq!(rt; dialer.back().len(), 1);
-    assert_eq!(rt; dialer.back()[0].peer(), peer(1));
-    assert_eq!(rt; dialer.back()[0].link().written(), QUERY);
     Ok(())
 }
 
-#[test]
-fn a_zone_is_taken_from_its_octets(rt: HostRuntime) -> Result<(), Fail> {
-    let alloc = rt.alloc();
-    let mut source = MemorySource::new(stream(&rt, alloc)?, Vec::new(alloc));
-    let job = job(&rt);
-    let fetched = take_all(alloc, &mut source, &job);
-    job.close();
-    expect_zone(&rt, fetched, 243);
-    Ok(())
-}
-
-#[test]
-fn a_failed_dial_is_a_fault_of_the_link(rt: HostRuntime) -> Result<(), Fail> {
-    let alloc = rt.alloc();
-    let mut dialer = dialer(alloc, stream(&rt, alloc)?, &[0], &[])?;
-    expect_fault(&rt, fetch_over(&rt, alloc, &mut dialer));
-    assert_eq!(rt; (dialer.faults(), dialer.back().len()), (1, 0));
-    expect_zone(&rt, fetch_over(&rt, alloc, &mut dialer), 243);
-    assert_eq!(rt; dialer.faults(), 1);
-    Ok(())
-}
-
-/// That a fetch whose call of this number on the link fails comes to a fault, and the link comes back.
-fn expect_failure(rt: &impl Abort, alloc: Global, case: &str, call: u64) -> Result<(), AllocError> {
-    let mut dialer = dialer(alloc, stream(rt, alloc)?, &[], &[call])?;
-    expect_fault(rt, fetch_over(rt, alloc, &mut dialer));
-    assert_eq!(rt; (dialer.faults(), dialer.back().len()), (1, 1), "{case}");
-    Ok(())
-}
-
-#[test]
-fn a_failed_call_on_the_link_is_its_fault(rt: HostRuntime) -> Result<(), Fail> {
-    let alloc = rt.alloc();
-    expect_failure(&rt, alloc, "the write of the query", 0)?;
-    expect_failure(&rt, alloc, "the first read", 1)?;
-    expect_failure(&rt, alloc, "the second message behind its length", 4)?;
-    Ok(())
-}
-
-/// That a link which ends after `count` octets gives an incomplete transfer, of `kept` octets.
-fn expect_incomplete(
-    rt: &impl Abort,
-    alloc: Global,
-    case: &str,
-    count: usize,
-    kept: usize,
-) -> Result<(), AllocError> {
-    let mut octets = stream(rt, alloc)?;
+/// That a link that ends after this many octets gives an incomplete transfer, and no fault.
+fn expect_cut(rt: &impl Abort, alloc: Global, count: usize) -> Result<(), AllocError> {
+    let mut octets = STREAM.to_vec(alloc)?;
     octets.truncate(count);
     let mut dialer = dialer(alloc, octets, &[], &[])?;
-    let finished = finished(rt, fetch_over(rt, alloc, &mut dialer));
-    match finished.outcome() {
-        Outcome::Refused(fault) => assert_eq!(rt; *fault, TakeFault::Incomplete, "{case}"),
-        other => panic!(rt; "{case}: {other:?}"),
+    let fetched = fetch_over(rt, alloc, &mut dialer);
+    let seen = (came_of(&fetched), dialer.faults());
+    assert_eq!(rt; seen, (Came::Incomplete, 0), "{count}");
+    Ok(())
+}
+
+#[test]
+fn a_link_that_ends_too_early_gives_an_incomplete_transfer(
+    rt: HostRuntime,
+) -> Result<(), AllocError> {
+    for count in 0..243 {
+        expect_cut(&rt, rt.alloc(), count)?;
     }
-    assert_eq!(rt; finished.octets().len(), kept, "{case}");
-    assert_eq!(rt; dialer.faults(), 0, "{case}");
-    Ok(())
-}
-
-#[test]
-fn a_link_that_ends_too_early_gives_an_incomplete_transfer(rt: HostRuntime) -> Result<(), Fail> {
-    let alloc = rt.alloc();
-    expect_incomplete(&rt, alloc, "nothing", 0, 0)?;
-    expect_incomplete(&rt, alloc, "half a length", 1, 0)?;
-    expect_incomplete(&rt, alloc, "a cut message", 122, 0)?;
-    expect_incomplete(&rt, alloc, "a cut third message", 169, 164)?;
-    expect_incomplete(&rt, alloc, "the end behind the second message", 164, 164)?;
-    Ok(())
-}
-
-#[test]
-fn octets_behind_the_transfer_are_not_read(rt: HostRuntime) -> Result<(), Fail> {
-    let alloc = rt.alloc();
-    let mut octets = stream(&rt, alloc)?;
-    octets.extend_from_slice(b"\0\x01\0")?;
-    // after the write there are six reads, of a length and a message each; a seventh would fail
-    let mut dialer = dialer(alloc, octets, &[], &[7])?;
-    expect_zone(&rt, fetch_over(&rt, alloc, &mut dialer), 243);
     Ok(())
 }

@@ -1,6 +1,6 @@
 //! A transfer worker that keeps what is taken.
 
-ghost use Rattle.std.specs.Prelude.{◌≡◌, ◌<◌, ◌^◌, [], None, IfOk, false};
+ghost use Rattle.std.specs.Prelude.{◌≡◌, ◌<◌, ◌^◌, false, [], None, IfOk};
 ghost use Rattle.dz_desk.specs.Seen.{IsFresh};
 
 use crate::desks::open_one;
@@ -82,7 +82,7 @@ fn work_at<R: Abort + Wait, J: Naming>(
         Err(_) => panic!(rt; "out of memory"),
     };
     let mut clock = MemoryClock::new(Vec::new(alloc), moment, 0);
-    work_and_keep(rt, alloc, shared, reading, &mut dialer, &mut clock, store)
+    work_and_keep(rt, alloc, shared, reading, &mut dialer, &mut clock, store).report
 }
 
 /// The job of the member, which is due at once.
@@ -121,7 +121,7 @@ fn reset<R: Abort + Wait, J: Naming>(
     let job = member_job(rt, &shared, &mut reading);
     let report = work_at(rt, alloc, &shared, &mut reading, store, 1100, relisting);
     assert!(rt; matches!(report, Report::Published(2)));
-    assert!(rt; shared.fail(rt, &mut reading, job, 1100).is_ok());
+    assert!(rt; shared.fail(rt, &mut reading, job, 1100).answer.is_ok());
     written(rt, shared)
 }
 

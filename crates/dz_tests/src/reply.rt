@@ -9,13 +9,10 @@ use crate::versions::version_of;
 use dz_header::{ReplyBuffer, Transport};
 use dz_name::dns::{TYPE_NS, TYPE_TXT};
 use dz_reply::{Turn, reply_into};
-use dz_steps::Steps;
 use dz_table::{Slot, Table};
 use std::alloc::{AllocError, Global};
-use std::marker::Brand;
 use std::process::Abort;
 use std::sync::Arc;
-use std::sync::ledger::{Blank, Ledger};
 
 /// ID 16, with RD: the TXT records of `t.example.`.
 const QUERY: &[u8] = b"\0\x10\x01\0\0\x01\0\0\0\0\0\0\x01t\x07example\0\0\x10\0\x01";
@@ -27,17 +24,7 @@ const CUT: &[u8] = b"\0\x10\x87\0\0\x01\0\0\0\0\0\0";
 
 /// The table of one slot.
 fn table_of(alloc: Global, slot: Slot) -> Result<Table, AllocError> {
-    counted_table::<Brand>(Blank::new(1), alloc, slot)
-}
-
-/// The same, counted in a ledger that is still blank.
-fn counted_table<L: Ledger>(blank: Blank, alloc: Global, slot: Slot) -> Result<Table, AllocError>
-    requires name { blank.name ≡ L.name }
-    requires parts { blank.parts ≡ L.parts }
-    requires whole { blank.parts ≡ 1 }
-{
-    let mut steps = Steps::<L>::new(blank);
-    Table::empty(alloc).with(alloc, slot, &mut steps)
+    Table::empty(alloc).with_slot(alloc, slot)
 }
 
 /// The zone of one TXT record, whose RDATA has this many octets of value 7.

@@ -1,11 +1,11 @@
 //! A transfer worker: jobs that are asked for, fetched over a link, and ended.
 
-ghost use Rattle.std.specs.Prelude.{◌≡◌, [], None, IfOk};
+ghost use Rattle.std.specs.Prelude.{◌≡◌, false, [], None, IfOk};
 ghost use Rattle.dz_desk.specs.Seen.{IsFresh};
 
 use crate::configs::config;
 use crate::desks::open_one;
-use crate::links::dialer;
+use crate::links::{STREAM, dialer};
 use crate::messages::push_framed;
 use crate::names::peer;
 use crate::transfers::{CATALOG, listing_message};
@@ -19,13 +19,15 @@ use std::process::Abort;
 use std::sync::Wait;
 use std::test::*;
 
-/// The query for all of cat1.example., with ID 1, preceded by its length (RFC 5936 section 2.1).
+/// The query for all of cat1.example., with ID 1, after its length (RFC 5936 section 2.1).
 const QUERY: &[u8] = b"\0\x1e\0\x01\0\0\0\x01\0\0\0\0\0\0\x04cat1\x07example\0\0\xfc\0\x01";
 
-const PUBLISHED: &[u8] =
-    b"job 1 cat1.example. axfr id 1 at 192.0.2.1:53\npublished 1 cat1.example. 1\nadded example. cat1.example.\n";
-
-const FAILED: &[u8] = b"job 1 cat1.example. axfr id 1 at 192.0.2.1:53\nfailed cat1.example.\n";
+/// What is written once the catalog was taken, and then the job of its member fails.
+const FAILED: &[u8] = b"job 1 cat1.example. axfr id 1 at 192.0.2.1:53\n\
+    published 1 cat1.example. 1\n\
+    added example. cat1.example.\n\
+    job 2 example. axfr id 2 at 192.0.2.1:53\n\
+    failed example.\n";
 
 /// A provisioner of one catalog, in a lock.
 pub fn begin<R: Abort + Wait, J: Naming>(
@@ -57,14 +59,14 @@ pub fn written<R: Wait, J: Naming>(rt: &R, shared: Shared<MemorySink, J>) -> Mem
     output
 }
 
-/// A dialer whose one link gives the listing, with dials that are to fail.
-fn listing_dialer(rt: &impl Abort, alloc: Global, dials: &[u64]) -> Result<MemoryDialer, AllocError>
+/// A dialer whose one link gives the listing.
+fn listing_dialer(rt: &impl Abort, alloc: Global) -> Result<MemoryDialer, AllocError>
     ensures { IfOk result (λ d. d.out ≡ None) }
 {
     let mut octets = Vec::new(alloc);
     let message = listing_message(rt, alloc, 1)?;
     push_framed(rt, &mut octets, message.as_slice())?;
-    dialer(alloc, octets, dials, &[])
+    dialer(alloc, octets, &[], &[])
 }
 
 /// A clock that gives the moment 1000 again and again, and stops a worker after this many rests.
@@ -72,113 +74,119 @@ fn clock(alloc: Global, rests: u64) -> MemoryClock {
     MemoryClock::new(Vec::new(alloc), 1000, rests)
 }
 
-/// One call publishes the catalog, and the next has nothing to do.
-fn publish<R: Abort + Wait, J: Naming>(
+/// One call of a worker.
+fn work<R: Abort + Wait, J: Naming>(
     rt: &R,
     alloc: Global,
-    publisher: Publisher,
-    reading: Reading,
-) -> Result<MemorySink, AllocError>
-    requires publisher { (publisher.list ≡ []) × (publisher.staged ≡ None)
-        × (publisher.book ≡ J.publisher) }
-    requires reading { IsFresh J.publisher reading }
+    shared: &Shared<MemorySink, J>,
+    reading: &mut Reading,
+    dialer: &mut MemoryDialer,
+) -> Report
+    requires reading { (reading.old.is_out ≡ false) × (reading.old.book ≡ J.publisher) }
+    requires dialer { dialer.old.out ≡ None }
+    ensures same { reading.new ≡ record reading.old { list = reading.new.list } }
+    ensures back { dialer.new.out ≡ None }
 {
-    let mut reading = reading;
     let mut clock = clock(alloc, 0);
-    let mut dialer = match listing_dialer(rt, alloc, &[]) {
-        Ok(dialer) => dialer,
-        Err(_) => panic!(rt; "out of memory"),
-    };
-    let shared: Shared<MemorySink, J> = begin(rt, alloc, publisher);
-    let report = work_one(rt, alloc, &shared, &mut reading, &mut dialer, &mut clock);
-    assert!(rt; matches!(report, Report::Published(1)));
-    assert_eq!(rt; reading.count(), 2);
-    assert_eq!(rt; dialer.back().len(), 1);
-    assert_eq!(rt; dialer.back()[0].peer(), peer(1));
-    assert_eq!(rt; dialer.back()[0].link().written(), QUERY);
-    Ok(written(rt, shared))
+    work_one(rt, alloc, shared, reading, dialer, &mut clock).report
 }
 
-#[test]
-fn a_transfer_that_is_read_over_a_link_is_published(rt: HostRuntime) -> Result<(), AllocError> {
-    let alloc = rt.alloc();
-    let (publisher, reading) = open_one(&rt, alloc);
-    let output = publish::<HostRuntime, Brand>(&rt, alloc, publisher, reading)?;
-    assert_eq!(&rt; output.written(), PUBLISHED);
-    Ok(())
+/// That the catalog is published, and that its one link came back of its primary, which was asked for it.
+fn expect_published(rt: &impl Abort, report: &Report, dialer: &MemoryDialer) {
+    assert!(rt; matches!(report, Report::Published(1)) && dialer.back().len() == 1);
+    'links: for back in dialer.back() {
+        assert!(rt; back.peer() == peer(1) && back.link().written() == QUERY);
+    }
 }
 
-/// The first dial fails, and then nothing is due.
+/// That a link failed, after which nothing is due, and that the list has no entry of it.
+fn expect_failed(rt: &impl Abort, reports: (&Report, &Report), entries: u64, faults: u64) {
+    let (failed, idle) = reports;
+    assert!(rt; matches!(failed, Report::LinkFault) && matches!(idle, Report::Idle(_)));
+    assert_eq!(rt; (entries, faults), (2, 1));
+}
+
+/// The catalog is published over the first dialer, and the link of the other fails.
 fn fail<R: Abort + Wait, J: Naming>(
     rt: &R,
     alloc: Global,
-    publisher: Publisher,
-    reading: Reading,
-) -> Result<MemorySink, AllocError>
-    requires publisher { (publisher.list ≡ []) × (publisher.staged ≡ None)
-        × (publisher.book ≡ J.publisher) }
-    requires reading { IsFresh J.publisher reading }
+    desk: (Publisher, Reading),
+    one: &mut MemoryDialer,
+    other: &mut MemoryDialer,
+) -> MemorySink
+    requires publisher { (desk.0.list ≡ []) × (desk.0.staged ≡ None)
+        × (desk.0.book ≡ J.publisher) }
+    requires reading { IsFresh J.publisher desk.1 }
+    requires dialers { (one.old.out ≡ None) × (other.old.out ≡ None) }
 {
-    let mut reading = reading;
-    let mut clock = clock(alloc, 0);
-    let mut dialer = match listing_dialer(rt, alloc, &[0]) {
-        Ok(dialer) => dialer,
-        Err(_) => panic!(rt; "out of memory"),
-    };
+    let (publisher, mut reading) = desk;
     let shared: Shared<MemorySink, J> = begin(rt, alloc, publisher);
-    let report = work_one(rt, alloc, &shared, &mut reading, &mut dialer, &mut clock);
-    assert!(rt; matches!(report, Report::LinkFault));
-    let idle = work_one(rt, alloc, &shared, &mut reading, &mut dialer, &mut clock);
-    assert!(rt; matches!(idle, Report::Idle(_)));
-    assert_eq!(rt; reading.count(), 1);
-    assert_eq!(rt; dialer.back().len(), 0);
-    assert_eq!(rt; dialer.faults(), 1);
-    Ok(written(rt, shared))
+    let published = work(rt, alloc, &shared, &mut reading, one);
+    expect_published(rt, &published, one);
+    let failed = work(rt, alloc, &shared, &mut reading, other);
+    let idle = work(rt, alloc, &shared, &mut reading, other);
+    expect_failed(rt, (&failed, &idle), reading.count(), other.faults());
+    written(rt, shared)
 }
 
-#[test]
-fn a_dial_that_fails_is_told_and_a_zone_that_waits_is_not_dialled(
-    rt: HostRuntime,
+/// Dials and calls of a link that fail: the dial, the write of the query, the first read, and a read within a message.
+const FAULTS: &[(&[u64], &[u64])] = &[(&[0], &[]), (&[], &[0]), (&[], &[1]), (&[], &[4])];
+
+/// That a link that fails makes no entry, and is told by a line.
+fn expect_fault<R: Abort + Wait>(
+    rt: &R,
+    alloc: Global,
+    row: &(&[u64], &[u64]),
 ) -> Result<(), AllocError> {
-    let alloc = rt.alloc();
-    let (publisher, reading) = open_one(&rt, alloc);
-    let output = fail::<HostRuntime, Brand>(&rt, alloc, publisher, reading)?;
-    assert_eq!(&rt; output.written(), FAILED);
+    let mut one = listing_dialer(rt, alloc)?;
+    let mut other = dialer(alloc, STREAM.to_vec(alloc)?, row.0, row.1)?;
+    let desk = open_one(rt, alloc);
+    let output = fail::<R, Brand>(rt, alloc, desk, &mut one, &mut other);
+    assert_eq!(rt; output.written(), FAILED, "{row:?}");
     Ok(())
 }
 
-/// A worker whose clock lets it rest once: it publishes the catalog, and finds its member's zone, whose dial fails.
+#[test]
+fn a_link_that_fails_is_told_and_makes_no_entry(rt: HostRuntime) -> Result<(), AllocError> {
+    for row in FAULTS {
+        expect_fault(&rt, rt.alloc(), row)?;
+    }
+    Ok(())
+}
+
+/// A worker whose clock lets it rest once.
 fn serve<R: Abort + Wait, J: Naming>(
     rt: &R,
     alloc: Global,
-    publisher: Publisher,
-    reading: Reading,
-) -> Result<Transfers, AllocError>
-    requires publisher { (publisher.list ≡ []) × (publisher.staged ≡ None)
-        × (publisher.book ≡ J.publisher) }
-    requires reading { IsFresh J.publisher reading }
+    desk: (Publisher, Reading),
+    dialer: &mut MemoryDialer,
+) -> (Transfers, MemorySink)
+    requires publisher { (desk.0.list ≡ []) × (desk.0.staged ≡ None)
+        × (desk.0.book ≡ J.publisher) }
+    requires reading { IsFresh J.publisher desk.1 }
+    requires dialer { dialer.old.out ≡ None }
 {
-    let mut reading = reading;
+    let (publisher, mut reading) = desk;
     let mut clock = clock(alloc, 1);
-    let mut dialer = match listing_dialer(rt, alloc, &[]) {
-        Ok(dialer) => dialer,
-        Err(_) => panic!(rt; "out of memory"),
-    };
     let shared: Shared<MemorySink, J> = begin(rt, alloc, publisher);
-    let done = serve_transfers(rt, alloc, &shared, &mut reading, &mut dialer, &mut clock);
-    assert_eq!(rt; dialer.back().len(), 1);
-    assert_eq!(rt; dialer.faults(), 1);
-    let output = written(rt, shared);
-    assert!(rt; output.written().ends_with(b"\nfailed example.\n"));
-    Ok(done)
+    let done = serve_transfers(rt, alloc, &shared, &mut reading, dialer, &mut clock);
+    (done, written(rt, shared))
 }
 
+/// That a worker has dialled, and goes on until its clock stops it.
+fn expect_stopped(rt: &impl Abort, done: &Transfers, dialer: &MemoryDialer) {
+    assert!(rt; done.dialed && done.end == TransferEnd::Stopped);
+    assert_eq!(rt; (dialer.back().len(), dialer.faults()), (1, 1));
+}
+
+/// It publishes the catalog, and finds the zone of its member, whose dial fails.
 #[test]
 fn a_worker_goes_on_until_its_clock_stops_it(rt: HostRuntime) -> Result<(), AllocError> {
     let alloc = rt.alloc();
-    let (publisher, reading) = open_one(&rt, alloc);
-    let done = serve::<HostRuntime, Brand>(&rt, alloc, publisher, reading)?;
-    assert!(&rt; done.dialed);
-    assert_eq!(&rt; done.end, TransferEnd::Stopped);
+    let mut dialer = listing_dialer(&rt, alloc)?;
+    let desk = open_one(&rt, alloc);
+    let (done, output) = serve::<HostRuntime, Brand>(&rt, alloc, desk, &mut dialer);
+    expect_stopped(&rt, &done, &dialer);
+    assert_eq!(&rt; output.written(), FAILED);
     Ok(())
 }

@@ -1,6 +1,7 @@
 -- Judge: timings of zones, computed by the checker.
 use Rattle.std.specs.Prelude.{◌≡◌, refl, true, false, Some, None}
 use Rattle.dz_timer.specs.Timing.{Timing, fresh, is_due, departed, succeeded, failed, ended, notified, is_live}
+use Rattle.dz_timer.specs.declared.timer.TheConstants.{UNHELD_RETRY}
 
 due_at_first : is_due fresh 0 ≡ true
 due_at_first = refl
@@ -40,6 +41,10 @@ notify_in_idleness = refl
 notify_in_flight : succeeded (notified (departed refreshed)) 110 100 ≡ fresh
 notify_in_flight = refl
 
+-- it sets the moment while the job is in flight, too
+notify_sets_the_moment : notified (departed refreshed) ≡ record { next = 0; again = true; busy = true }
+notify_sets_the_moment = refl
+
 -- the end of the job in flight uses up the NOTIFY
 notify_once : (succeeded (departed (failed (notified (departed refreshed)) 115 (Some 60))) 116 100).next ≡ 216
 notify_once = refl
@@ -53,3 +58,7 @@ expired = refl
 
 never_live : is_live 10 0 10 ≡ false
 never_live = refl
+
+-- ---- the numbers of zones without a version, so that none can change
+pub unheld_retry_is_60 : UNHELD_RETRY ≡ 60
+unheld_retry_is_60 = refl

@@ -107,15 +107,12 @@ impl Timer {
         self.end(self.next);
     }
 
-    /// A NOTIFY came (RFC 1996 section 3.11): the zone is due at once, or as soon as the job in flight ends.
+    /// A NOTIFY came (RFC 1996 section 3.11): the zone is due at once, and again as soon as a job in flight ends.
     pub fn notified(&mut self)
         ensures { self.new ≡ notified self.old }
     {
-        if self.busy {
-            self.again = true;
-        } else {
-            self.next = 0;
-        }
+        self.next = 0;
+        self.again = self.busy || self.again;
     }
 
     /// The job in flight ends; the next is due at this moment, or at once where a NOTIFY came meanwhile.

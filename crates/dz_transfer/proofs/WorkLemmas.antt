@@ -1,15 +1,15 @@
 -- How a job that was handed out, fetched and ended makes a report.
-use Rattle.std.proofs.Common.{◌≡◌, ℕ, ◌≤◌, Bool, true, false, List, length, Option, None, Some, Result, Ok, Err, refl, sym, ap, subst, arith}
-use Rattle.std.specs.Prelude.{IsErr}
+use Rattle.std.proofs.Common.{◌≡◌, ℕ, ◌≤◌, Bool, true, false, List, [], length, take, Option, None, Some, Result, Ok, Err, refl, sym, ap, ◌∙◌, subst, arith, inl, inr}
+use Rattle.std.specs.Prelude.{IsErr, IfSome}
+use Rattle.std.proofs.Math.Seq.{take-length}
 use mathlib.Core.List.{IsPrefix}
-use Rattle.dz_io.specs.declared.peer.Peer.{Peer}
+use Rattle.dz_io.specs.Device.{Tells}
 use Rattle.dz_io.specs.Links.{Dialled}
 use Rattle.dz_take.specs.Taken.{Taken}
+use Rattle.dz_name.specs.Words.{Octets}
 use Rattle.dz_history.specs.declared.entry.Entry.{Entry}
-use Rattle.dz_history.specs.After.{after}
 use Rattle.dz_history.specs.Ended.{ended}
 use Rattle.dz_history.specs.Legal.{IsLegal}
-use Rattle.dz_history.specs.State.{key_at}
 use Rattle.dz_job.specs.Job.{JobOf, transfer_for}
 use Rattle.dz_job.specs.declared.verdict.Verdict.{Verdict}
 use Rattle.dz_job.specs.declared.verdict.Verdict.TheVariants.{Published, Confirmed, Refused, PolicyRefused, Stale, OutOfMemory}
@@ -22,33 +22,35 @@ use Rattle.dz_desk.proofs.PrefixLemmas.{prefix_length}
 use Rattle.dz_provision.specs.declared.provisioner.LogFault.{LogFault}
 use Rattle.dz_provision.specs.declared.provisioner.Unmade.{Unmade}
 use Rattle.dz_provision.specs.declared.provisioner.Unmade.TheVariants as unmade
-use Rattle.dz_provision.specs.Receipts.{core_of, verdict_after, HasPrimary, WasAsked, WasPrimary, IsHandedAt, IsSettledAt, IsFailedAt}
+use Rattle.dz_provision.specs.Endings.{EndingOf, EndsAmong, settling, failing, settled_ending, failed_ending}
+use Rattle.dz_provision.specs.Receipts.{core_of, verdict_after, IsDueAt, WasDue, IsHandedAt, IsSettledAt, IsFailedAt}
+use Rattle.dz_fetch.specs.Query.{query_of}
 use Rattle.dz_fetch.specs.declared.fetched.Fetched.TheVariants as fetched
-use Rattle.dz_fetch.specs.Fetching.{IsFetchedOver, IsFetched, IsFetch}
-use Rattle.dz_fetch.proofs.GainLemmas.{gains_none}
+use Rattle.dz_fetch.specs.Fetching.{IsFetchedOver, IsDialledFor, IsFetched, IsFetch}
 use Rattle.dz_transfer.specs.declared.report.Report.{Report}
 use Rattle.dz_transfer.specs.declared.report.Report.TheVariants as report
-use Rattle.dz_transfer.specs.Receipts.{report_of, settled_report, failed_report, unmade_report, GoesTo, WasSomePrimary, GoesToPrimary, IsWorked, IsWork, LeavesDialer, IsAtMoment}
+use Rattle.dz_transfer.specs.Receipts.{report_of, settled_report, failed_report, unmade_report, IsSettledOver, IsWorked, IsMadeFor, IsDialFor, HasDialled, IsQuiet, IsWork, LeavesDialer, IsAtMoment}
 use Rattle.dz_transfer.specs.inner.Marks.{is_busy, job_of, job_in}
 use Rattle.dz_transfer.proofs.EndedLemmas.{ended_late}
 
 -- ---- there was no job
-pub undialed_work : (r : Report) (from : ℕ) (list : List Entry) (links : Option (List Dialled)) (faults : ℕ) → IsWorked r None from list → IsWork false r from list links links faults faults
-undialed_work r from list links faults w = record { link = None; gains = gains_none links; worked = w; shown = refl }
-
-unmet_due : (d : Due) (r : Report) (before list : List Entry) (now : ℕ) → Err r ≡ job_of d → IsPrefix before list → IsHandedAt (Ok d) list now → IsWorked r None (length before) list
+unmet_due : (d : Due) (r : Report) (before list : List Entry) (now : ℕ) → Err r ≡ job_of d → IsPrefix before list → IsHandedAt (Ok d) list now → IsQuiet r (length before) list
 unmet_due (due.Job job) r before list now is p h = absurd (cc is)
 unmet_due (due.Idle q) r before list now is p h =
     let own : r ≡ report.Idle q = cc is in
-    rw own (tt, ((omega (arith, h.0.0, prefix_length before list p), omega (arith, h.0.0)), (h.1.0, rw h.0.1 h.1.1)))
+    rw own ((omega (arith, h.0.0, prefix_length before list p), omega (arith, h.0.0)), (h.1.0, rw h.0.1 h.1.1))
 unmet_due (due.Full q) r before list now is p h =
     let own : r ≡ report.Full q = cc is in
-    rw own (tt, ((omega (arith, h.0.0, prefix_length before list p), omega (arith, h.0.0)), h.1))
+    rw own ((omega (arith, h.0.0, prefix_length before list p), omega (arith, h.0.0)), h.1)
 unmet_due due.OutOfMemory r before list now is p h = let own : r ≡ report.OutOfMemory = cc is in rw own tt
 
-pub unmet_worked : (d : Result Due LogFault) (r : Report) (before list : List Entry) (now : ℕ) → Err r ≡ job_in d → IsPrefix before list → IsHandedAt d list now → IsWorked r None (length before) list
-unmet_worked (Ok d) r before list now is p h = unmet_due d r before list now is p h
-unmet_worked (Err fault) r before list now is p h = let own : r ≡ report.LogFault = cc is in rw own tt
+unmet_quiet : (d : Result Due LogFault) (r : Report) (before list : List Entry) (now : ℕ) → Err r ≡ job_in d → IsPrefix before list → IsHandedAt d list now → IsQuiet r (length before) list
+unmet_quiet (Ok d) r before list now is p h = unmet_due d r before list now is p h
+unmet_quiet (Err fault) r before list now is p h = let own : r ≡ report.LogFault = cc is in rw own tt
+
+pub unmet_work : (d : Result Due LogFault) (r : Report) (before list : List Entry) (now : ℕ) (links : Option (List Dialled)) (faults : ℕ) → Err r ≡ job_in d → IsPrefix before list → IsHandedAt d list now
+    → IsWork false r None (length before) list links links faults faults
+unmet_work d r before list now links faults is p h = (unmet_quiet d r before list now is p h, (refl, (refl, refl)))
 
 unmet_at : (d : Due) (r : Report) (list : List Entry) (now : ℕ) (may : ℕ → Bool) → Err r ≡ job_of d → IsHandedAt (Ok d) list now → may now ≡ true → IsAtMoment r may
 unmet_at (due.Job job) r list now may is h m = absurd (cc is)
@@ -94,113 +96,136 @@ undialed_leaves report.LogFault links faults = tt
 undialed_leaves report.OutOfMemory links faults = tt
 
 -- there was one
-pub record IsHanded (job : JobOf) (list : List Entry) : Type 0 where
-  pub standing : ended list job.flight.zone job.flight.incarnation ≡ None
-  pub primary : HasPrimary (after list) job.flight.zone job.flight.primary
-  pub key : job.key ≡ key_at (after list) job.flight.zone
-
 module _ (job : JobOf) (list : List Entry) (now : ℕ) where
-  met_due : (d : Due) → Ok job ≡ job_of d → IsHandedAt (Ok d) list now → IsHanded job list
-  met_due (due.Job own) is h = let same : job ≡ own = cc is in rw same (record { standing = h.0; primary = h.1.0; key = h.1.1.0 })
+  met_due : (d : Due) → Ok job ≡ job_of d → IsHandedAt (Ok d) list now → IsDueAt job list
+  met_due (due.Job own) is h = let same : job ≡ own = cc is in rw same h.0
   met_due (due.Idle q) is h = absurd (cc is)
   met_due (due.Full q) is h = absurd (cc is)
   met_due due.OutOfMemory is h = absurd (cc is)
 
-  pub met : (d : Result Due LogFault) → Ok job ≡ job_in d → IsHandedAt d list now → IsHanded job list
+  pub met : (d : Result Due LogFault) → Ok job ≡ job_in d → IsHandedAt d list now → IsDueAt job list
   met (Ok d) is h = met_due d is h
   met (Err fault) is h = absurd (cc is)
 
 -- ---- a job was handed out
-module _ (job : JobOf) (list later : List Entry) (standing : ended list job.flight.zone job.flight.incarnation ≡ None) (primary : HasPrimary (after list) job.flight.zone job.flight.primary)
-    (key : job.key ≡ key_at (after list) job.flight.zone) (p : IsPrefix list later) (legal : IsLegal later) where
-  was : (peer : Peer) → peer ≡ job.flight.primary → WasPrimary later job.flight.zone peer
-  unfolding WasPrimary
-  was peer is = (list, p, subst (HasPrimary (after list) job.flight.zone) (sym is) primary)
-
-  asked : (peer : Peer) → peer ≡ job.flight.primary → WasAsked later job peer
-  unfolding WasAsked
-  asked peer is = (list, p, subst (HasPrimary (after list) job.flight.zone) (sym is) primary, key)
-
-  was_some : (peer : Peer) → peer ≡ job.flight.primary → WasSomePrimary later peer
-  unfolding WasSomePrimary
-  was_some peer is = (job.flight.zone, was peer is)
+module _ (job : JobOf) (list later : List Entry) (handed : IsDueAt job list) (p : IsPrefix list later) (legal : IsLegal later) where
+  was_due : WasDue job (length list) later
+  unfolding WasDue
+  was_due = (list, omega arith, p, handed)
 
   late : (n : ℕ) → ended later job.flight.zone job.flight.incarnation ≡ Some n → length list ≤ n
-  late n some = ended_late job.flight.zone job.flight.incarnation list later n p legal standing some
+  late n some = ended_late job.flight.zone job.flight.incarnation list later n p legal handed.unended some
+
+  dialled_by : (r : Report) (ending : Option EndingOf) (link : Option Dialled) → IsMadeFor job link → IsWorked r job link ending (length list) later → IsDialFor r job link ending (length list) later
+  dialled_by r ending link made w = record { due = was_due; made = made; worked = w }
 
   -- a job whose transfer was read
-  stale_is : (n : ℕ) (read : Taken) → Stale n ≡ verdict_after later job read.octets → ended later job.flight.zone job.flight.incarnation ≡ Some n
+  front : (l : Dialled) (read : Taken) → l.peer ≡ job.flight.primary → IsFetchedOver job l read → IsDialledFor job l
+  front l read peer over = record { peer = peer; written = (length (query_of job), subst (λ octets. Tells octets l.written) (sym (take-length (query_of job))) over.asked) }
+
+  stale_is : (n : ℕ) (octets : Octets) → Stale n ≡ verdict_after later job octets → ended later job.flight.zone job.flight.incarnation ≡ Some n
   unfolding verdict_after
-  stale_is n read is = (tells (core_of later) job read.octets).ended n (sym is)
+  stale_is n octets is = (tells (core_of later) job octets).ended n (sym is)
 
-  settled_worked : (r : Result Verdict Unmade) (l : Dialled) (read : Taken) → l.peer ≡ job.flight.primary → IsFetchedOver job l read → IsSettledAt r job read.octets (length list) later
-      → IsWorked (settled_report r) (Some l) (length list) later
-  settled_worked (Ok (Published n serial aftermath)) l read peer over s = record {
-    job = job;
+  over_list : (l : Dialled) (read : Taken) (ending : Option EndingOf) (moment : ℕ) (v : Verdict) (judge : List Entry) → IsFetchedOver job l read → ending ≡ Some (settling job read.octets moment v) → v ≡ verdict_after judge job read.octets
+      → IsSettledOver (report_of v) job l ending judge
+  over_list l read ending moment v judge over told is = record {
     read = read;
-    receipt = record { primary = asked l.peer peer; fetched = over };
+    fetched = over;
+    verdict = ap report_of is;
+    told = (moment, told ∙ ap (λ w. Some (settling job read.octets moment w)) is);
+  }
+
+  settled_worked : (r : Result Verdict Unmade) (l : Dialled) (read : Taken) (ending : Option EndingOf) (moment : ℕ) → IsFetchedOver job l read → ending ≡ settled_ending job read.octets moment r → IsSettledAt r job read.octets (length list) later
+      → IsWorked (settled_report r) job (Some l) ending (length list) later
+  unfolding over_list
+  settled_worked (Ok (Published n serial aftermath)) l read ending moment over told s = record {
+    settled = over_list l read ending moment (Published n serial aftermath) (take n later) over told s.verdict;
     late = s.late;
     entry = s.entry;
-    verdict = ap report_of s.verdict;
   }
-  settled_worked (Ok (Confirmed n serial)) l read peer over s = record {
-    job = job;
-    read = read;
-    receipt = record { primary = asked l.peer peer; fetched = over };
+  settled_worked (Ok (Confirmed n serial)) l read ending moment over told s = record {
+    settled = over_list l read ending moment (Confirmed n serial) (take n later) over told s.verdict;
     late = s.late;
     entry = s.entry;
-    verdict = ap report_of s.verdict;
   }
-  settled_worked (Ok (Refused fault)) l read peer over s = record {
-    job = job;
-    read = read;
-    receipt = record { primary = asked l.peer peer; fetched = over };
-    verdict = ap report_of s;
-  }
-  settled_worked (Ok (PolicyRefused shown)) l read peer over s = record {
-    job = job;
-    read = read;
-    receipt = record { primary = asked l.peer peer; fetched = over };
-    verdict = ap report_of s;
-  }
-  settled_worked (Ok (Stale n)) l read peer over s =
-      let some = stale_is n read s in
-      record { job = job; late = late n some; end = some; goes = was l.peer peer }
-  settled_worked (Ok OutOfMemory) l read peer over s = was_some l.peer peer
-  settled_worked (Err (unmade.NotInFlight absent)) l read peer over s = (s, was_some l.peer peer)
-  settled_worked (Err unmade.LogFault) l read peer over s = was_some l.peer peer
+  settled_worked (Ok (Refused fault)) l read ending moment over told s = over_list l read ending moment (Refused fault) later over told s
+  settled_worked (Ok (PolicyRefused shown)) l read ending moment over told s = over_list l read ending moment (PolicyRefused shown) later over told s
+  settled_worked (Ok (Stale n)) l read ending moment over told s =
+      let some = stale_is n read.octets s in
+      record { late = late n some; end = some; told = inl (over_list l read ending moment (Stale n) later over told s) }
+  settled_worked (Ok OutOfMemory) l read ending moment over told s = inl (moment, told)
+  settled_worked (Err (unmade.NotInFlight absent)) l read ending moment over told s = (s, told)
+  settled_worked (Err unmade.LogFault) l read ending moment over told s = told
 
-  over_worked : (r : Result Verdict Unmade) (read : Taken) (link : Option Dialled) → IsFetched (fetched.Finished read) job link → IsSettledAt r job read.octets (length list) later → IsWorked (settled_report r) link (length list) later
-  over_worked r read None is s = absurd is
-  over_worked r read (Some l) is s = settled_worked r l read is.0 is.1 s
+  over_dial : (r : Result Verdict Unmade) (read : Taken) (ending : Option EndingOf) (moment : ℕ) (link : Option Dialled) → IsFetched (fetched.Finished read) job link → ending ≡ settled_ending job read.octets moment r
+      → IsSettledAt r job read.octets (length list) later → IsDialFor (settled_report r) job link ending (length list) later
+  over_dial r read ending moment None is told s = absurd is
+  over_dial r read ending moment (Some l) is told s =
+      dialled_by (settled_report r) ending (Some l) (front l read is.0 is.1) (settled_worked r l read ending moment is.1 told s)
 
-  pub settled_work : (r : Result Verdict Unmade) (read : Taken) (before now : Option (List Dialled)) (faults count : ℕ) → IsFetch (fetched.Finished read) job before now faults count → IsSettledAt r job read.octets (length list) later
-      → IsWork true (settled_report r) (length list) later before now faults count
-  settled_work r read before now faults count f s = record { link = f.link; gains = f.gains; worked = over_worked r read f.link f.fetched s; shown = f.shown }
+  pub settled_work : (r : Result Verdict Unmade) (read : Taken) (ending : Option EndingOf) (moment : ℕ) (before now : Option (List Dialled)) (faults count : ℕ) → IsFetch (fetched.Finished read) job before now faults count
+      → ending ≡ settled_ending job read.octets moment r → IsSettledAt r job read.octets (length list) later → HasDialled (settled_report r) ending (length list) later before now faults count
+  settled_work r read ending moment before now faults count f told s = record {
+    job = job;
+    link = f.link;
+    dial = over_dial r read ending moment f.link f.fetched told s;
+    gains = f.gains;
+    shown = f.shown;
+  }
 
   -- a job that failed
-  failed_worked : (r : Result Failure Unmade) (cause : Report) (link : Option Dialled) → GoesTo job link later → GoesToPrimary link later → IsWorked cause link (length list) later → IsFailedAt r job (length list) later
-      → IsWorked (failed_report r cause) link (length list) later
-  failed_worked (Ok failures.Failed) cause link goes some w s = w
-  failed_worked (Ok (failures.Stale n)) cause link goes some w s = record { job = job; late = late n s; end = s; goes = goes }
-  failed_worked (Err (unmade.NotInFlight absent)) cause link goes some w s = (s, some)
-  failed_worked (Err unmade.LogFault) cause link goes some w s = some
+  failed_worked : (r : Result Failure Unmade) (cause : Report) (ending : Option EndingOf) (moment : ℕ) (link : Option Dialled) → (ending ≡ Some (failing job moment failures.Failed) → IsWorked cause job link ending (length list) later)
+      → ending ≡ failed_ending job moment r → IsFailedAt r job (length list) later → IsWorked (failed_report r cause) job link ending (length list) later
+  failed_worked (Ok failures.Failed) cause ending moment link own told s = own told
+  failed_worked (Ok (failures.Stale n)) cause ending moment link own told s = record { late = late n s; end = s; told = inr (moment, told) }
+  failed_worked (Err (unmade.NotInFlight absent)) cause ending moment link own told s = (s, told)
+  failed_worked (Err unmade.LogFault) cause ending moment link own told s = told
 
-  fault_worked : (r : Result Failure Unmade) (link : Option Dialled) → IsFetched fetched.LinkFault job link → IsFailedAt r job (length list) later → IsWorked (failed_report r report.LinkFault) link (length list) later
-  fault_worked r None is s = failed_worked r report.LinkFault None tt tt tt s
-  fault_worked r (Some l) is s = failed_worked r report.LinkFault (Some l) (was l.peer is) (was_some l.peer is) (was_some l.peer is) s
+  fault_made : (link : Option Dialled) → IsFetched fetched.LinkFault job link → IsMadeFor job link
+  fault_made None is = tt
+  fault_made (Some l) is = is
 
-  starved_worked : (r : Result Failure Unmade) (link : Option Dialled) → IsFetched fetched.OutOfMemory job link → IsFailedAt r job (length list) later → IsWorked (failed_report r report.OutOfMemory) link (length list) later
-  starved_worked r None is s = absurd is
-  starved_worked r (Some l) is s = failed_worked r report.OutOfMemory (Some l) (was l.peer is) (was_some l.peer is) (was_some l.peer is) s
+  starved_made : (link : Option Dialled) → IsFetched fetched.OutOfMemory job link → IsMadeFor job link
+  starved_made None is = absurd is
+  starved_made (Some l) is = is
 
-  pub fault_work : (r : Result Failure Unmade) (before now : Option (List Dialled)) (faults count : ℕ) → IsFetch fetched.LinkFault job before now faults count → IsFailedAt r job (length list) later
-      → IsWork true (failed_report r report.LinkFault) (length list) later before now faults count
-  fault_work r before now faults count f s = record { link = f.link; gains = f.gains; worked = fault_worked r f.link f.fetched s; shown = f.shown }
+  pub fault_work : (r : Result Failure Unmade) (ending : Option EndingOf) (moment : ℕ) (before now : Option (List Dialled)) (faults count : ℕ) → IsFetch fetched.LinkFault job before now faults count
+      → ending ≡ failed_ending job moment r → IsFailedAt r job (length list) later → HasDialled (failed_report r report.LinkFault) ending (length list) later before now faults count
+  fault_work r ending moment before now faults count f told s = record {
+    job = job;
+    link = f.link;
+    dial = dialled_by (failed_report r report.LinkFault) ending f.link (fault_made f.link f.fetched) (failed_worked r report.LinkFault ending moment f.link (λ own. (moment, own)) told s);
+    gains = f.gains;
+    shown = f.shown;
+  }
 
-  pub starved_work : (r : Result Failure Unmade) (before now : Option (List Dialled)) (faults count : ℕ) → IsFetch fetched.OutOfMemory job before now faults count → IsFailedAt r job (length list) later
-      → IsWork true (failed_report r report.OutOfMemory) (length list) later before now faults count
-  starved_work r before now faults count f s = record { link = f.link; gains = f.gains; worked = starved_worked r f.link f.fetched s; shown = f.shown }
+  pub starved_work : (r : Result Failure Unmade) (ending : Option EndingOf) (moment : ℕ) (before now : Option (List Dialled)) (faults count : ℕ) → IsFetch fetched.OutOfMemory job before now faults count
+      → ending ≡ failed_ending job moment r → IsFailedAt r job (length list) later → HasDialled (failed_report r report.OutOfMemory) ending (length list) later before now faults count
+  starved_work r ending moment before now faults count f told s = record {
+    job = job;
+    link = f.link;
+    dial = dialled_by (failed_report r report.OutOfMemory) ending f.link (starved_made f.link f.fetched) (failed_worked r report.OutOfMemory ending moment f.link (λ own. inr (moment, own)) told s);
+    gains = f.gains;
+    shown = f.shown;
+  }
+
+-- ---- a job ends at one of these moments
+settling_among : (may : ℕ → Bool) (job : JobOf) (octets : Octets) (now : ℕ) (v : Verdict) → may now ≡ true → EndsAmong may (settling job octets now v)
+settling_among may job octets now (Published n serial aftermath) m = m
+settling_among may job octets now (Confirmed n serial) m = m
+settling_among may job octets now (Refused fault) m = m
+settling_among may job octets now (PolicyRefused shown) m = m
+settling_among may job octets now (Stale n) m = m
+settling_among may job octets now OutOfMemory m = m
+
+pub settled_among : (may : ℕ → Bool) (job : JobOf) (octets : Octets) (now : ℕ) (r : Result Verdict Unmade) (ending : Option EndingOf) → ending ≡ settled_ending job octets now r → may now ≡ true → IfSome ending (EndsAmong may)
+settled_among may job octets now (Ok v) ending told m = rw told (settling_among may job octets now v m)
+settled_among may job octets now (Err why) ending told m = rw told tt
+
+pub failed_among : (may : ℕ → Bool) (job : JobOf) (now : ℕ) (r : Result Failure Unmade) (ending : Option EndingOf) → ending ≡ failed_ending job now r → may now ≡ true → IfSome ending (EndsAmong may)
+failed_among may job now (Ok failure) ending told m = rw told m
+failed_among may job now (Err why) ending told m = rw told tt
 
 -- the transfer that was read is the job's
 of_link : (read : Taken) (job : JobOf) (link : Option Dialled) → IsFetched (fetched.Finished read) job link → read.transfer ≡ transfer_for job
@@ -268,6 +293,13 @@ settled_link (Ok (PolicyRefused standing)) is = absurd (cc is)
 settled_link (Ok (Stale n)) is = absurd (cc is)
 settled_link (Ok OutOfMemory) is = absurd (cc is)
 settled_link (Err u) is = absurd (unmade_link u is)
+
+-- a link's fault is never told as want of memory
+pub fault_memory : {A : Type 0} (r : Result Failure Unmade) → failed_report r report.LinkFault ≡ report.OutOfMemory → A
+fault_memory (Ok failures.Failed) is = absurd (cc is)
+fault_memory (Ok (failures.Stale n)) is = absurd (cc is)
+fault_memory (Err unmade.LogFault) is = absurd (cc is)
+fault_memory (Err (unmade.NotInFlight absent)) is = absurd (cc is)
 
 pub starved_link : {A : Type 0} (r : Result Failure Unmade) → failed_report r report.OutOfMemory ≡ report.LinkFault → A
 starved_link (Ok failures.Failed) is = absurd (cc is)

@@ -1,9 +1,7 @@
--- Meaning: what a call of a transfer worker came to, and what it shows of the link that it made.
-use Rattle.std.specs.Prelude.{⊤, ◌≡◌, ◌≤◌, ◌<◌, ◌⊎◌, ℕ, ◌-◌, ◌^◌, Bool, true, false, List, take, slice_get, Option, None, Some, IfSome, Result, Ok, Err}
-use Rattle.dz_name.specs.Words.{Name}
+-- Meaning: what a call of a transfer worker came to, and what it shows of the job that it had and the link that it made.
+use Rattle.std.specs.Prelude.{⊤, ◌≡◌, ◌≤◌, ◌<◌, ◌⊎◌, ℕ, ◌-◌, ◌^◌, Bool, true, false, List, [], take, slice_get, Option, None, Some, IfSome, Result, Ok, Err}
 use Rattle.dz_io.specs.Device.{Gains}
 use Rattle.dz_io.specs.Links.{Dialled}
-use Rattle.dz_io.specs.declared.peer.Peer.{Peer}
 use Rattle.dz_take.specs.Taken.{Taken}
 use Rattle.dz_history.specs.declared.entry.Entry.{Entry}
 use Rattle.dz_history.specs.Ended.{ended}
@@ -15,8 +13,9 @@ use Rattle.dz_job.specs.declared.verdict.Failure.TheVariants as failures
 use Rattle.dz_fleet.specs.Core.{entry_for}
 use Rattle.dz_provision.specs.declared.provisioner.Unmade.{Unmade}
 use Rattle.dz_provision.specs.declared.provisioner.Unmade.TheVariants as unmade
-use Rattle.dz_provision.specs.Receipts.{verdict_after, WasAsked, WasPrimary, IsBetween}
-use Rattle.dz_fetch.specs.Fetching.{IsFetchedOver, ShowsDial, links_of}
+use Rattle.dz_provision.specs.Endings.{EndingOf, settling, failing}
+use Rattle.dz_provision.specs.Receipts.{verdict_after, WasDue, IsBetween}
+use Rattle.dz_fetch.specs.Fetching.{IsFetchedOver, IsDialledFor, ShowsDial, links_of}
 use Rattle.dz_transfer.specs.declared.report.Report.{Report}
 use Rattle.dz_transfer.specs.declared.report.Report.TheVariants as report
 
@@ -43,86 +42,85 @@ failed_report (Ok failures.Failed) cause = cause
 failed_report (Ok (failures.Stale n)) cause = report.Stale n
 failed_report (Err why) cause = unmade_report why
 
--- ---- a link
--- a job's transfer was read over a link to a primary that its zone had after a beginning of the list, and the query was
--- signed where the zone's catalog had a key then, with that key
-pub record IsReceipt (job : JobOf) (read : Taken) (link : Dialled) (list : List Entry) : Type 0 where
-  pub primary : WasAsked list job link.peer
+-- ---- how a job ended, as its call told it
+-- by the transfer that was read over a link, with the verdict that a list gives
+pub record IsSettledOver (r : Report) (job : JobOf) (link : Dialled) (ending : Option EndingOf) (list : List Entry) : Type 0 where
+  pub read : Taken
   pub fetched : IsFetchedOver job link read
-
--- entry n, which is not below a place, is that transfer, by the verdict that the entries in front of it give
-pub record IsTaken (r : Report) (n : ℕ) (link : Dialled) (from : ℕ) (list : List Entry) : Type 0 where
-  pub job : JobOf
-  pub read : Taken
-  pub receipt : IsReceipt job read link list
-  pub late : from ≤ n
-  pub entry : slice_get list n ≡ Some (entry_for job read.octets)
-  pub verdict : r ≡ report_of (verdict_after (take n list) job read.octets)
-
--- that transfer is refused, by the verdict that the list gives
-pub record IsRefused (r : Report) (link : Dialled) (list : List Entry) : Type 0 where
-  pub job : JobOf
-  pub read : Taken
-  pub receipt : IsReceipt job read link list
   pub verdict : r ≡ report_of (verdict_after list job read.octets)
+  pub told : (moment : ℕ) × (ending ≡ Some (settling job read.octets moment (verdict_after list job read.octets)))
 
--- a link, where there is one, goes to a primary that a job's zone had; and to one that some zone had
-abbrev pub GoesTo : JobOf → Option Dialled → List Entry → Type 0
-GoesTo job None list = ⊤
-GoesTo job (Some link) list = WasPrimary list job.flight.zone link.peer
-
-unfoldable pub WasSomePrimary : List Entry → Peer → Type 0
-WasSomePrimary list peer = (zone : Name) × WasPrimary list zone peer
-
-abbrev pub GoesToPrimary : Option Dialled → List Entry → Type 0
-GoesToPrimary None list = ⊤
-GoesToPrimary (Some link) list = WasSomePrimary list link.peer
-
--- entry n, which is not below a place, ended a job's incarnation
-pub record IsStale (n : ℕ) (link : Option Dialled) (from : ℕ) (list : List Entry) : Type 0 where
-  pub job : JobOf
+-- entry n, which is not below a place, is that transfer, by the verdict that the entries before it give
+pub record IsTaken (r : Report) (n : ℕ) (job : JobOf) (link : Dialled) (ending : Option EndingOf) (from : ℕ) (list : List Entry) : Type 0 where
+  pub settled : IsSettledOver r job link ending (take n list)
   pub late : from ≤ n
-  pub end : ended list job.flight.zone job.flight.incarnation ≡ Some n
-  pub goes : GoesTo job link list
+  pub entry : slice_get list n ≡ Some (entry_for job settled.read.octets)
 
--- there is a link, of which this holds; and there is none
+-- as one that failed; and for want of memory, for which it may have failed too
+abbrev pub HasFailed : JobOf → Option EndingOf → Failure → Type 0
+HasFailed job ending failure = (moment : ℕ) × (ending ≡ Some (failing job moment failure))
+
+abbrev pub HasStarved : JobOf → Option EndingOf → Type 0
+HasStarved job ending = (moment : ℕ) × (ending ≡ Some (settling job [] moment OutOfMemory))
+
+-- there is a link, of which this holds
 abbrev pub Must : Option Dialled → (Dialled → Type 0) → Type 0
 Must None holds = ⊥
 Must (Some link) holds = holds link
 
-abbrev pub HasNone : Option Dialled → Type 0
-HasNone None = ⊤
-HasNone (Some link) = ⊥
+-- entry n, which is not below a place, ended the job's incarnation, whether its transfer was read or it failed
+pub record IsStale (n : ℕ) (job : JobOf) (link : Option Dialled) (ending : Option EndingOf) (from : ℕ) (list : List Entry) : Type 0 where
+  pub late : from ≤ n
+  pub end : ended list job.flight.zone job.flight.incarnation ≡ Some n
+  pub told : Must link (λ l. IsSettledOver (report.Stale n) job l ending list) ⊎ HasFailed job ending (failures.Stale n)
 
 -- ---- one call
--- what a report says of the link that was made, of the length of the list before and of the list that was seen at last
-abbrev pub IsWorked : Report → Option Dialled → ℕ → List Entry → Type 0
-IsWorked (report.Published n) link from list = Must link (λ l. IsTaken (report.Published n) n l from list)
-IsWorked (report.Confirmed n) link from list = Must link (λ l. IsTaken (report.Confirmed n) n l from list)
-IsWorked (report.Refused fault) link from list = Must link (λ l. IsRefused (report.Refused fault) l list)
-IsWorked (report.PolicyRefused standing) link from list = Must link (λ l. IsRefused (report.PolicyRefused standing) l list)
-IsWorked (report.Stale n) link from list = IsStale n link from list
-IsWorked (report.NotInFlight absent) link from list = IsBetween from absent.count list × GoesToPrimary link list
-IsWorked report.LinkFault link from list = GoesToPrimary link list
-IsWorked report.LogFault link from list = GoesToPrimary link list
-IsWorked report.OutOfMemory link from list = GoesToPrimary link list
-IsWorked (report.Idle q) link from list =
-    HasNone link × (IsBetween from q.count list × ((q.in_flight < 16) × IfSome q.earliest (λ earliest. q.moment < earliest)))
-IsWorked (report.Full q) link from list =
-    HasNone link × (IsBetween from q.count list × ((q.in_flight ≡ 16) ⊎ (q.drawn ≡ 2 ^ 64 - 2)))
+-- what a report says of a job, its link and its end, of the length of the list before and of the list that was seen at last
+abbrev pub IsWorked : Report → JobOf → Option Dialled → Option EndingOf → ℕ → List Entry → Type 0
+IsWorked (report.Published n) job link ending from list = Must link (λ l. IsTaken (report.Published n) n job l ending from list)
+IsWorked (report.Confirmed n) job link ending from list = Must link (λ l. IsTaken (report.Confirmed n) n job l ending from list)
+IsWorked (report.Refused fault) job link ending from list = Must link (λ l. IsSettledOver (report.Refused fault) job l ending list)
+IsWorked (report.PolicyRefused standing) job link ending from list = Must link (λ l. IsSettledOver (report.PolicyRefused standing) job l ending list)
+IsWorked (report.Stale n) job link ending from list = IsStale n job link ending from list
+IsWorked (report.NotInFlight absent) job link ending from list = IsBetween from absent.count list × (ending ≡ None)
+IsWorked report.LinkFault job link ending from list = HasFailed job ending failures.Failed
+IsWorked report.LogFault job link ending from list = ending ≡ None
+IsWorked report.OutOfMemory job link ending from list = HasStarved job ending ⊎ HasFailed job ending failures.Failed
+IsWorked (report.Idle q) job link ending from list = ⊥
+IsWorked (report.Full q) job link ending from list = ⊥
 
--- a dial shows in the links or in the count of faults, and without one neither has changed
-abbrev pub IsShown : Bool → Option Dialled → ℕ → ℕ → Type 0
-IsShown true link before now = ShowsDial link before now
-IsShown false None before now = now ≡ before
-IsShown false (Some link) before now = ⊥
+-- a link, where the dial came about, goes to the job's primary and got the job's query or a beginning of it
+abbrev pub IsMadeFor : JobOf → Option Dialled → Type 0
+IsMadeFor job None = ⊤
+IsMadeFor job (Some link) = IsDialledFor job link
 
--- a call made at most one link, which joined those that came back to the dialer
-pub record IsWork (dialed : Bool) (r : Report) (from : ℕ) (list : List Entry) (before after : Option (List Dialled)) (faults now : ℕ) : Type 0 where
+-- a job that was handed out, by a beginning of the list that is not shorter than before, its link and its end
+pub record IsDialFor (r : Report) (job : JobOf) (link : Option Dialled) (ending : Option EndingOf) (from : ℕ) (list : List Entry) : Type 0 where
+  pub due : WasDue job from list
+  pub made : IsMadeFor job link
+  pub worked : IsWorked r job link ending from list
+
+-- a call that dialled: there was such a job, and its link, where the dial came about, joined those that came back to the
+-- dialer; and else the count of faults rose
+pub record HasDialled (r : Report) (ending : Option EndingOf) (from : ℕ) (list : List Entry) (before after : Option (List Dialled)) (faults now : ℕ) : Type 0 where
+  pub job : JobOf
   pub link : Option Dialled
+  pub dial : IsDialFor r job link ending from list
   pub gains : Gains (links_of link) before after
-  pub worked : IsWorked r link from list
-  pub shown : IsShown dialed link faults now
+  pub shown : ShowsDial link faults now
+
+-- what a report says where there was no job
+abbrev pub IsQuiet : Report → ℕ → List Entry → Type 0
+IsQuiet (report.Idle q) from list = IsBetween from q.count list × ((q.in_flight < 16) × IfSome q.earliest (λ earliest. q.moment < earliest))
+IsQuiet (report.Full q) from list = IsBetween from q.count list × ((q.in_flight ≡ 16) ⊎ (q.drawn ≡ 2 ^ 64 - 2))
+IsQuiet report.LogFault from list = ⊤
+IsQuiet report.OutOfMemory from list = ⊤
+IsQuiet r from list = ⊥
+
+-- a call that dialled, or one without a job, which leaves the dialer as it was
+abbrev pub IsWork : Bool → Report → Option EndingOf → ℕ → List Entry → Option (List Dialled) → Option (List Dialled) → ℕ → ℕ → Type 0
+IsWork true r ending from list before after faults now = HasDialled r ending from list before after faults now
+IsWork false r ending from list before after faults now = IsQuiet r from list × ((ending ≡ None) × ((after ≡ before) × (now ≡ faults)))
 
 -- where there was no job as no zone is due, or as there is no room for one, the dialer is as before
 abbrev pub LeavesDialer : Report → Option (List Dialled) → Option (List Dialled) → ℕ → ℕ → Type 0

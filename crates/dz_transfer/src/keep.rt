@@ -1,12 +1,13 @@
 //! One call of a transfer worker whose transfers are kept.
 
-ghost use Rattle.std.specs.Prelude.{◌≡◌, ◌≤◌, Bool, false, length, None};
+ghost use Rattle.std.specs.Prelude.{◌≡◌, ◌≤◌, false, length, None, IfSome};
 ghost use mathlib.Core.List.{IsPrefix};
 ghost use Rattle.dz_io.specs.Counts.{HasRisen};
+ghost use Rattle.dz_provision.specs.Endings.{EndsAmong};
 ghost use Rattle.dz_transfer.specs.Receipts.{IsWork, LeavesDialer, IsAtMoment};
 
 use crate::report::Report;
-use crate::work::work_one;
+use crate::work::{Worked, work_one};
 use dz_desk::Reading;
 use dz_disk::Disk;
 use dz_io::{Clock, Dialer, Sink};
@@ -25,23 +26,26 @@ pub fn work_and_keep<K: Sink, J: Naming, L: Dialer, C: Clock, D: Disk + Drop, R:
     dialer: &mut L,
     clock: &mut C,
     store: &Mutex<Store<D>>,
-) -> Report
+) -> Worked
     requires out { reading.old.is_out ≡ false }
     requires own { reading.old.book ≡ J.publisher }
     requires dialer { L.out dialer.old ≡ None }
     ensures same { reading.new ≡ record reading.old { list = reading.new.list } }
     ensures seen { IsPrefix reading.old.list reading.new.list }
     ensures back { L.out dialer.new ≡ None }
-    ensures worked { (dialed : Bool)
-        × IsWork dialed result (length reading.old.list) reading.new.list
+    ensures worked { IsWork result.dialed result.report result.ending
+        (length reading.old.list) reading.new.list
         (L.links dialer.old) (L.links dialer.new) (L.faults dialer.old) (L.faults dialer.new) }
-    ensures left { LeavesDialer result
+    ensures left { LeavesDialer result.report
         (L.links dialer.old) (L.links dialer.new) (L.faults dialer.old) (L.faults dialer.new) }
     ensures later { L.faults dialer.old ≤ L.faults dialer.new }
-    ensures link { result ≡ Report.LinkFault
+    ensures link { result.report ≡ Report.LinkFault
         → HasRisen (L.faults dialer.old) (L.faults dialer.new) }
-    ensures log { result ≡ Report.LogFault → (k : K) × HasRisen 0 (K.faults k) }
-    ensures moment { IsAtMoment result (C.may_give clock.old) }
+    ensures memory { result.report ≡ Report.OutOfMemory
+        → L.faults dialer.new ≡ L.faults dialer.old }
+    ensures log { result.report ≡ Report.LogFault → (k : K) × HasRisen 0 (K.faults k) }
+    ensures moment { IsAtMoment result.report (C.may_give clock.old) }
+    ensures ended { IfSome result.ending (EndsAmong (C.may_give clock.old)) }
     ensures give { C.may_give clock.new ≡ C.may_give clock.old }
     ensures stop { C.may_stop clock.new ≡ C.may_stop clock.old }
 {

@@ -10,4 +10,4 @@ mod work;
 pub use keep::work_and_keep;
 pub use report::Report;
 pub use serve::{TransferEnd, Transfers, serve_transfers};
-pub use work::work_one;
+pub use work::{Worked, work_one};

@@ -2,7 +2,8 @@
 
 ghost use Rattle.std.specs.Prelude.{◌≡◌};
 ghost use Rattle.dz_transfer.specs.Receipts.{settled_report, failed_report, unmade_report};
-ghost use Rattle.dz_transfer.specs.inner.Marks.{is_log_fault, job_in, job_of};
+ghost use Rattle.dz_transfer.specs.Serving.{absent_of, starved_of};
+ghost use Rattle.dz_transfer.specs.inner.Marks.{is_log_fault, is_idle, job_in, job_of};
 
 use dz_fleet::{Absent, Due, Failure, Job, Quiet, Verdict};
 use dz_provision::{LogFault, Unmade};
@@ -117,8 +118,30 @@ pub(crate) fn is_log_fault(report: &Report) -> bool
     matches!(report, Report::LogFault)
 }
 
+/// 1 where the job was not in flight, and else 0.
+pub(crate) fn absent_of(report: &Report) -> u64
+    ensures { result ≡ absent_of report.now }
+{
+    match report {
+        Report::NotInFlight(_) => 1,
+        _ => 0,
+    }
+}
+
+/// 1 where memory was wanting, and else 0.
+pub(crate) fn starved_of(report: &Report) -> u64
+    ensures { result ≡ starved_of report.now }
+{
+    match report {
+        Report::OutOfMemory => 1,
+        _ => 0,
+    }
+}
+
 /// Whether nothing can be done for now.
-pub(crate) fn is_idle(report: &Report) -> bool {
+pub(crate) fn is_idle(report: &Report) -> bool
+    ensures { result ≡ is_idle report.now }
+{
     matches!(
         report,
         Report::Idle(_) | Report::Full(_) | Report::OutOfMemory

@@ -1,13 +1,11 @@
 //! One call of a transfer worker.
 
-ghost use Rattle.std.specs.Prelude.{◌≡◌, ◌≤◌, Bool, true, false, length, None};
+ghost use Rattle.std.specs.Prelude.{◌≡◌, ◌≤◌, None, true, false, length, IfSome};
 ghost use mathlib.Core.List.{IsPrefix};
 ghost use Rattle.dz_io.specs.Counts.{HasRisen};
-ghost use Rattle.dz_history.specs.After.{after};
-ghost use Rattle.dz_history.specs.Ended.{ended};
-ghost use Rattle.dz_history.specs.State.{key_at};
-ghost use Rattle.dz_provision.specs.Receipts.{HasPrimary};
-ghost use Rattle.dz_transfer.specs.Receipts.{IsWork, LeavesDialer, IsAtMoment};
+ghost use Rattle.dz_provision.specs.Endings.{EndsAmong};
+ghost use Rattle.dz_provision.specs.Receipts.{IsDueAt};
+ghost use Rattle.dz_transfer.specs.Receipts.{HasDialled, IsWork, LeavesDialer, IsAtMoment};
 ghost use Rattle.dz_transfer.specs.inner.Marks.{is_busy};
 
 use crate::report::{Report, failed_report, job_in, settled_report};
@@ -15,52 +13,23 @@ use dz_desk::Reading;
 use dz_fetch::{Fetched, fetch};
 use dz_fleet::Job;
 use dz_io::{Clock, Dialer};
-use dz_provision::Jobs;
+use dz_provision::{Ending, Jobs};
 use std::alloc::Global;
 use std::sync::Wait;
 
-/// What one call came to, and whether it dialled.
-#[derive(Clone, Copy)]
-pub(crate) struct Worked {
-    pub(crate) report: Report,
-    pub(crate) dialed: bool,
+/// What one call came to, whether it dialled, and how its job ended, where it did.
+#[derive(Drop)]
+pub struct Worked {
+    pub report: Report,
+    pub dialed: bool,
+    pub ending: Option<Ending>,
 }
 
 /// Asks for a job, and where there is one makes its transfer: it dials the job's primary, reads what it gives, and ends the
-/// job by that. Nothing is locked while it reads. The clock is asked for the moment of the job and for that of its end.
-pub fn work_one<B: Jobs, D: Dialer, C: Clock, R: Wait>(
-    rt: &R,
-    alloc: Global,
-    jobs: &B,
-    reading: &mut Reading,
-    dialer: &mut D,
-    clock: &mut C,
-) -> Report
-    requires out { reading.old.is_out ≡ false }
-    requires own { reading.old.book ≡ B.publisher }
-    requires dialer { D.out dialer.old ≡ None }
-    ensures same { reading.new ≡ record reading.old { list = reading.new.list } }
-    ensures seen { IsPrefix reading.old.list reading.new.list }
-    ensures back { D.out dialer.new ≡ None }
-    ensures worked { (dialed : Bool)
-        × IsWork dialed result (length reading.old.list) reading.new.list
-        (D.links dialer.old) (D.links dialer.new) (D.faults dialer.old) (D.faults dialer.new) }
-    ensures left { LeavesDialer result
-        (D.links dialer.old) (D.links dialer.new) (D.faults dialer.old) (D.faults dialer.new) }
-    ensures later { D.faults dialer.old ≤ D.faults dialer.new }
-    ensures link { result ≡ Report.LinkFault
-        → HasRisen (D.faults dialer.old) (D.faults dialer.new) }
-    ensures log { result ≡ Report.LogFault → B.may_fail }
-    ensures moment { IsAtMoment result (C.may_give clock.old) }
-    ensures give { C.may_give clock.new ≡ C.may_give clock.old }
-    ensures stop { C.may_stop clock.new ≡ C.may_stop clock.old }
-{
-    work(rt, alloc, jobs, reading, dialer, clock).report
-}
-
-/// The same, and whether it dialled.
+/// job by that. Nothing is locked while it reads. The clock is asked for the moment of the job, and once the link was given
+/// back for that of its end.
 #[tactic(auto, using(dz_desk::proofs::PrefixLemmas::prefix_trans))]
-pub(crate) fn work<B: Jobs, D: Dialer, C: Clock, R: Wait>(
+pub fn work_one<B: Jobs, D: Dialer, C: Clock, R: Wait>(
     rt: &R,
     alloc: Global,
     jobs: &B,
@@ -74,15 +43,19 @@ pub(crate) fn work<B: Jobs, D: Dialer, C: Clock, R: Wait>(
     ensures same { reading.new ≡ record reading.old { list = reading.new.list } }
     ensures seen { IsPrefix reading.old.list reading.new.list }
     ensures back { D.out dialer.new ≡ None }
-    ensures worked { IsWork result.dialed result.report (length reading.old.list) reading.new.list
+    ensures worked { IsWork result.dialed result.report result.ending
+        (length reading.old.list) reading.new.list
         (D.links dialer.old) (D.links dialer.new) (D.faults dialer.old) (D.faults dialer.new) }
     ensures left { LeavesDialer result.report
         (D.links dialer.old) (D.links dialer.new) (D.faults dialer.old) (D.faults dialer.new) }
     ensures later { D.faults dialer.old ≤ D.faults dialer.new }
     ensures link { result.report ≡ Report.LinkFault
         → HasRisen (D.faults dialer.old) (D.faults dialer.new) }
+    ensures memory { result.report ≡ Report.OutOfMemory
+        → D.faults dialer.new ≡ D.faults dialer.old }
     ensures log { result.report ≡ Report.LogFault → B.may_fail }
     ensures moment { IsAtMoment result.report (C.may_give clock.old) }
+    ensures ended { IfSome result.ending (EndsAmong (C.may_give clock.old)) }
     ensures give { C.may_give clock.new ≡ C.may_give clock.old }
     ensures stop { C.may_stop clock.new ≡ C.may_stop clock.old }
 {
@@ -91,11 +64,9 @@ pub(crate) fn work<B: Jobs, D: Dialer, C: Clock, R: Wait>(
         Err(report) => Worked {
             report,
             dialed: false,
+            ending: None,
         },
-        Ok(job) => Worked {
-            report: transfer(rt, alloc, jobs, reading, dialer, clock, job),
-            dialed: true,
-        },
+        Ok(job) => transfer(rt, alloc, jobs, reading, dialer, clock, job),
     }
 }
 
@@ -108,23 +79,26 @@ fn transfer<B: Jobs, D: Dialer, C: Clock, R: Wait>(
     dialer: &mut D,
     clock: &mut C,
     job: Job,
-) -> Report
+) -> Worked
     requires out { reading.old.is_out ≡ false }
     requires own { reading.old.book ≡ B.publisher }
     requires dialer { D.out dialer.old ≡ None }
-    requires standing { ended reading.old.list job.flight.zone job.flight.incarnation ≡ None }
-    requires primary { HasPrimary (after reading.old.list) job.flight.zone job.flight.primary }
-    requires key { job.key ≡ key_at (after reading.old.list) job.flight.zone }
+    requires due { IsDueAt job reading.old.list }
     ensures same { reading.new ≡ record reading.old { list = reading.new.list } }
     ensures seen { IsPrefix reading.old.list reading.new.list }
     ensures back { D.out dialer.new ≡ None }
-    ensures worked { IsWork true result (length reading.old.list) reading.new.list
+    ensures dialed { result.dialed ≡ true }
+    ensures worked { HasDialled result.report result.ending
+        (length reading.old.list) reading.new.list
         (D.links dialer.old) (D.links dialer.new) (D.faults dialer.old) (D.faults dialer.new) }
-    ensures busy { is_busy result ≡ true }
+    ensures busy { is_busy result.report ≡ true }
     ensures later { D.faults dialer.old ≤ D.faults dialer.new }
-    ensures link { result ≡ Report.LinkFault
+    ensures link { result.report ≡ Report.LinkFault
         → HasRisen (D.faults dialer.old) (D.faults dialer.new) }
-    ensures log { result ≡ Report.LogFault → B.may_fail }
+    ensures memory { result.report ≡ Report.OutOfMemory
+        → D.faults dialer.new ≡ D.faults dialer.old }
+    ensures log { result.report ≡ Report.LogFault → B.may_fail }
+    ensures ended { IfSome result.ending (EndsAmong (C.may_give clock.old)) }
     ensures give { C.may_give clock.new ≡ C.may_give clock.old }
     ensures stop { C.may_stop clock.new ≡ C.may_stop clock.old }
 {
@@ -132,21 +106,37 @@ fn transfer<B: Jobs, D: Dialer, C: Clock, R: Wait>(
     match fetch(alloc, dialer, &job) {
         Fetched::Finished(finished) => {
             let now = clock.now();
-            let settled = jobs.settle(rt, alloc, reading, job, finished, now);
+            let ended = jobs.settle(rt, alloc, reading, job, finished, now);
             reading.count();
-            settled_report(settled)
+            dialled(settled_report(ended.answer), ended.ending)
         }
         Fetched::LinkFault => {
             let now = clock.now();
-            let failed = jobs.fail(rt, reading, job, now);
+            let ended = jobs.fail(rt, reading, job, now);
             reading.count();
-            failed_report(failed, Report::LinkFault)
+            dialled(failed_report(ended.answer, Report::LinkFault), ended.ending)
         }
         Fetched::OutOfMemory => {
             let now = clock.now();
-            let failed = jobs.fail(rt, reading, job, now);
+            let ended = jobs.fail(rt, reading, job, now);
             reading.count();
-            failed_report(failed, Report::OutOfMemory)
+            dialled(
+                failed_report(ended.answer, Report::OutOfMemory),
+                ended.ending,
+            )
         }
+    }
+}
+
+/// What a call came to that dialled.
+fn dialled(report: Report, ending: Option<Ending>) -> Worked
+    ensures report { result.report ≡ report }
+    ensures dialed { result.dialed ≡ true }
+    ensures ending { result.ending ≡ ending }
+{
+    Worked {
+        report,
+        dialed: true,
+        ending,
     }
 }

@@ -17,3 +17,8 @@ Says (Ok More) Is = Is more
 Says (Ok Ended) Is = (zone : List Record) × Is (complete zone)
 Says (Err (Shape fault)) Is = Is (misfit fault)
 Says (Err OutOfMemory) Is = ⊤
+
+-- what an assembler says beside itself, where it is taken and given back
+abbrev pub progress_of : {A : Type 0} → Result (A × Progress) FeedError → Result Progress FeedError
+progress_of (Ok r) = Ok r.1
+progress_of (Err e) = Err e

@@ -12,7 +12,7 @@ use Rattle.dz_name.specs.Name.{canonical_order, same_name}
 use Rattle.dz_name.specs.Order.{canonical_total, canonical_same, same_decides}
 use Rattle.dz_record.specs.Record.{Record, IsRecord, record_order}
 use Rattle.dz_record.specs.Records.{distinct, in_order}
-use Rattle.dz_index.specs.inner.Rows.{Rows, IsIndex}
+use Rattle.dz_index.specs.Rows.{Rows, IsIndex}
 use Rattle.dz_zone.specs.Valid.{at_apex, fault_of}
 use Rattle.dz_zone.specs.Version.{zone_of, owners_of, is_of_dnssec}
 use Rattle.dz_zone.specs.inner.Kept.{apex_in, zone_in, IsKept, Secure, AreNsecs}

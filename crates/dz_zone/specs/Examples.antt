@@ -79,3 +79,72 @@ cname_signed = refl
 pub ordered : (zone_of apex (of_c TYPE_A [] ∷ soa ∷ of_c TYPE_A [] ∷ ns ∷ [])).records ≡ ns ∷ soa ∷ of_c TYPE_A [] ∷ []
 unfolding distinct insertion in_order
 ordered = refl
+
+-- ---- of two faults the first counts
+abbrev soa_below : Record
+soa_below = record_of TYPE_SOA (below (codes "b")) []
+
+abbrev other_soa : Record
+other_soa = record_of TYPE_SOA apex (8 ∷ [])
+
+abbrev outside_it : Record
+outside_it = record_of TYPE_A (codes "other" ∷ []) []
+
+abbrev of_d : Kind → Octets → Record
+of_d kind rdata = record_of kind (below (codes "d")) rdata
+
+pub ns_alone : fault_of apex (ns ∷ []) ≡ Some NoSoa
+unfolding fault_of some_two clash both_are
+ns_alone = refl
+
+pub two_soa_before_one_below : fault_of apex (other_soa ∷ soa ∷ soa_below ∷ ns ∷ []) ≡ Some SoaTwice
+unfolding fault_of some_two clash both_are
+two_soa_before_one_below = refl
+
+pub soa_below_before_no_ns : fault_of apex (soa ∷ soa_below ∷ []) ≡ Some SoaBelow
+unfolding fault_of some_two clash both_are
+soa_below_before_no_ns = refl
+
+pub no_ns_before_outside : fault_of apex (soa ∷ outside_it ∷ []) ≡ Some NoNs
+unfolding fault_of some_two clash both_are
+no_ns_before_outside = refl
+
+pub outside_before_beside : fault_of apex (soa ∷ ns ∷ outside_it ∷ of_c TYPE_CNAME [] ∷ of_c TYPE_A [] ∷ [])
+    ≡ Some OutOfZone
+unfolding fault_of some_two clash both_are
+outside_before_beside = refl
+
+pub beside_before_twice : fault_of apex (soa ∷ ns ∷ of_c TYPE_CNAME [] ∷ of_c TYPE_CNAME (1 ∷ []) ∷ of_c TYPE_A [] ∷ [])
+    ≡ Some CnameBeside
+unfolding fault_of some_two clash both_are
+beside_before_twice = refl
+
+pub dname_beside_a_cname : fault_of apex (soa ∷ ns ∷ of_c TYPE_CNAME [] ∷ of_c TYPE_DNAME [] ∷ of_d TYPE_CNAME [] ∷ [])
+    ≡ Some CnameBeside
+unfolding fault_of some_two clash both_are
+dname_beside_a_cname = refl
+
+pub two_cname_before_two_dname : fault_of apex (soa ∷ ns ∷ of_d TYPE_DNAME [] ∷ of_d TYPE_DNAME (1 ∷ []) ∷
+    of_c TYPE_CNAME [] ∷ of_c TYPE_CNAME (1 ∷ []) ∷ [])
+    ≡ Some CnameTwice
+unfolding fault_of some_two clash both_are
+two_cname_before_two_dname = refl
+
+pub caa_beside_a_cname : fault_of apex (of_c 257 [] ∷ soa ∷ of_c TYPE_NSEC [] ∷ ns ∷ of_c TYPE_RRSIG [] ∷
+    of_c TYPE_CNAME [] ∷ [])
+    ≡ Some CnameBeside
+unfolding fault_of some_two clash both_are
+caa_beside_a_cname = refl
+
+-- ---- other types are where no CNAME is, and owners have types of their own
+pub without_a_cname : fault_of apex (soa ∷ ns ∷ of_c TYPE_A [] ∷ of_c TYPE_RRSIG [] ∷ of_c TYPE_NSEC [] ∷ of_c 257 [] ∷
+    [])
+    ≡ None
+unfolding fault_of some_two clash both_are
+without_a_cname = refl
+
+pub a_cname_and_a_dname_elsewhere : fault_of apex (soa ∷ ns ∷ of_c TYPE_CNAME [] ∷ record_of TYPE_A (codes "a" ∷
+    below (codes "c")) [] ∷ of_d TYPE_DNAME [] ∷ [])
+    ≡ None
+unfolding fault_of some_two clash both_are
+a_cname_and_a_dname_elsewhere = refl

@@ -7,17 +7,20 @@ ghost use Rattle.std.specs.List.Sorted.{IsStrictlySortedBy};
 ghost use Rattle.dz_name.specs.Name.{same_name};
 ghost use Rattle.dz_record.specs.Record.{record_order};
 ghost use Rattle.dz_index.specs.Index.{order_behind};
-ghost use Rattle.dz_index.specs.inner.Rows.{IsIndex};
+ghost use Rattle.dz_index.specs.Rows.{IsIndex};
 ghost use Rattle.dz_zone.specs.Version.{owners_of, is_of_dnssec};
 ghost use Rattle.dz_zone.specs.inner.Kept.{IsRisen, RisesAt, AreNsecs};
 
 use crate::order::comes_before;
-use dz_index::{Index, OwnerKey, SortKey};
+use dz_index::{Index, OwnerKey};
 use dz_name::Name;
 use dz_name::dns::{TYPE_DNAME, TYPE_DS, TYPE_NS, TYPE_NSEC, TYPE_RRSIG, ZONE_RECORDS};
 use dz_record::Rr;
+use dz_steps::Steps;
 use std::alloc::{AllocError, Global};
 use std::cmp::Ordering;
+use std::marker::Brand;
+use std::sync::ledger::{Blank, Ledger};
 
 /// The index of the owners of these records, in one pass. The error is out of memory.
 pub(crate) fn index_of(alloc: Global, records: &[Rr]) -> Result<Index, AllocError>
@@ -25,10 +28,27 @@ pub(crate) fn index_of(alloc: Global, records: &[Rr]) -> Result<Index, AllocErro
     requires few { length records.now ≤ ZONE_RECORDS }
     ensures { IfOk result (IsIndex (owners_of records.now)) }
 {
+    counted_index::<Brand>(Blank::new(1), alloc, records)
+}
+
+/// The same, counted in a ledger that is still blank.
+fn counted_index<L: Ledger>(
+    blank: Blank,
+    alloc: Global,
+    records: &[Rr],
+) -> Result<Index, AllocError>
+    requires name { blank.name ≡ L.name }
+    requires parts { blank.parts ≡ L.parts }
+    requires whole { blank.parts ≡ 1 }
+    requires rises { IsStrictlySortedBy record_order records.now }
+    requires few { length records.now ≤ ZONE_RECORDS }
+    ensures { IfOk result (IsIndex (owners_of records.now)) }
+{
+    let mut steps = Steps::<L>::new(blank);
     let mut index = Index::empty(alloc)?;
-    let mut key = SortKey::empty();
+    let mut key = OwnerKey::empty();
     'records: for record in records {
-        index = index.with_key(&record.owner_ref(), &mut key)?;
+        index.put(&record.owner_ref(), &mut key, &mut steps)?;
     }
     Ok(index)
 }
@@ -38,13 +58,28 @@ pub(crate) fn index_of(alloc: Global, records: &[Rr]) -> Result<Index, AllocErro
 pub(crate) fn index_rising(alloc: Global, records: &[Rr]) -> Result<Option<Index>, AllocError>
     ensures { IfOk result (λ o. IfSome o (IsRisen records.now)) }
 {
+    counted_rising::<Brand>(Blank::new(1), alloc, records)
+}
+
+/// The same, counted in a ledger that is still blank.
+fn counted_rising<L: Ledger>(
+    blank: Blank,
+    alloc: Global,
+    records: &[Rr],
+) -> Result<Option<Index>, AllocError>
+    requires name { blank.name ≡ L.name }
+    requires parts { blank.parts ≡ L.parts }
+    requires whole { blank.parts ≡ 1 }
+    ensures { IfOk result (λ o. IfSome o (IsRisen records.now)) }
+{
     if ZONE_RECORDS < records.len() {
         return Ok(None);
     }
+    let mut steps = Steps::<L>::new(blank);
     let mut index = Index::empty(alloc)?;
     let mut key = OwnerKey::empty();
     'records: for place in 0..records.len() {
-        let order = index.put(&records[place].owner_ref(), &mut key)?;
+        let order = index.put(&records[place].owner_ref(), &mut key, &mut steps)?;
         if !rises_at(order, records, place) {
             return Ok(None);
         }

@@ -6,7 +6,7 @@ ghost use Rattle.std.specs.List.{find};
 ghost use Rattle.std.specs.List.Sorted.{IsStrictlySortedBy};
 ghost use Rattle.std.specs.Option.{option_and_then};
 ghost use Rattle.dz_record.specs.Record.{soa_of, IsRecord, record_order};
-ghost use Rattle.dz_index.specs.inner.Rows.{IsIndex};
+ghost use Rattle.dz_index.specs.Rows.{IsIndex};
 ghost use Rattle.dz_zone.specs.Version.{IsValid, IsChecked, apex_soa, owners_of, has_cuts, has_dnames, is_secure, IsLastNsec};
 ghost use Rattle.dz_zone.specs.Valid.{at_apex, fault_of};
 ghost use Rattle.dz_zone.specs.inner.Kept.{zone_in, IsRisen, AreNsecs};

@@ -1,16 +1,17 @@
 -- The records that verify a zone, algorithm by algorithm.
-use Rattle.std.proofs.Common.{◌≡◌, Bool, true, false, List, [], ◌∷◌, length, refl, sym, ◌∙◌, ap, inl, inr}
+use Rattle.std.proofs.Common.{◌≡◌, Bool, true, false, List, [], ◌∷◌, length, refl, sym, ◌∙◌, ap, inl, inr, ◌+◌, arith, Some, None, cond}
 use Rattle.std.specs.Prelude.{◌==◌, ◌&&◌, ◌||◌, count_by}
-use Rattle.std.specs.List.{list_any}
+use Rattle.std.specs.List.{find, list_any}
 use Rattle.std.specs.Str.{bytes_eq}
 use Rattle.std.proofs.lemmas.Bool.{cases_Bool, eqb-true}
+use Rattle.std.proofs.lemmas.List.Sums.{sum_by-cons}
 use Rattle.dz_name.specs.Words.{Name}
 use Rattle.dz_record.specs.Record.{Record}
 use Rattle.dz_zonemd.specs.declared.algorithm.Algorithm.{Algorithm}
 use Rattle.dz_zonemd.specs.declared.algorithm.Algorithm.TheVariants.{Sha384, Sha512}
 use Rattle.dz_zonemd.specs.Digested.{digested}
 use Rattle.dz_zonemd.specs.Standing.{zonemds, is_serial, verifies}
-use Rattle.dz_zonemd.specs.Zonemd.{serial_in, scheme_in, algorithm_in, digest_in, number_of, hash_by, is_by, is_twin}
+use Rattle.dz_zonemd.specs.Zonemd.{serial_in, scheme_in, algorithm_in, digest_in, number_of, hash_by, is_by, is_twin, size_of}
 use Rattle.dz_zonemd.specs.inner.Claims.{agrees, verified_by}
 
 both : (a b : Bool) → (a && b) ≡ true → (a ≡ true) × (b ≡ true)
@@ -112,3 +113,53 @@ first_tells false b c t h = absurd (cc)
 pub second_tells : (a b c : Bool) → a ≡ false → (a || b) ≡ c → b ≡ c
 second_tells false b c f h = h
 second_tells true b c f h = absurd (cc)
+
+-- a count, element by element
+count_more : (p : Record → Bool) (r : Record) (rs : List Record) → p r ≡ true → count_by p (r ∷ rs) ≡ 1 + count_by p rs
+count_more p r rs t = sum_by-cons (λ s. cond (p s) 1 0) r rs ∙ ap (λ b. cond b 1 0 + count_by p rs) t
+
+count_same : (p : Record → Bool) (r : Record) (rs : List Record) → p r ≡ false → count_by p (r ∷ rs) ≡ count_by p rs
+count_same p r rs f = sum_by-cons (λ s. cond (p s) 1 0) r rs ∙ (ap (λ b. cond b 1 0 + count_by p rs) f ∙ omega arith)
+
+none_passes : (p q : Record → Bool) (rs : List Record) → count_by p rs ≡ 0 → list_any (λ r. p r && q r) rs ≡ false
+none_passes p q [] e = refl
+none_passes p q (r ∷ rs) e = elim (cases_Bool (p r)) [
+  | inl t ↦ absurd (omega (arith, e, count_more p r rs t))
+  | inr f ↦ let rest : count_by p rs ≡ 0 = sym (count_same p r rs f) ∙ e in rw (f, none_passes p q rs rest) refl
+]
+
+or_false : (b : Bool) → (b || false) ≡ b
+or_false true = refl
+or_false false = refl
+
+-- of a list with one element of a kind, that one decides
+one_decides : (p q : Record → Bool) (rs : List Record) (r : Record) → count_by p rs ≡ 1 → find p rs ≡ Some r → list_any (λ s. p s && q s) rs ≡ (p r && q r)
+one_decides p q [] r e found = absurd (omega (arith, e))
+one_decides p q (s ∷ rs) r e found = elim (cases_Bool (p s)) [
+  | inl t ↦
+      let rest : count_by p rs ≡ 0 = omega (arith, e, count_more p s rs t) in
+      let is : Some s ≡ Some r = rw t at found in
+      let same : s ≡ r = cc in
+      rw (none_passes p q rs rest) (or_false (p s && q s) ∙ ap (λ x. p x && q x) same)
+  | inr f ↦
+      let rest : count_by p rs ≡ 1 = sym (count_same p s rs f) ∙ e in
+      let later : find p rs ≡ Some r = rw f at found in
+      rw f (one_decides p q rs r rest later)
+]
+
+pub one_alone : (algorithm : Algorithm) (apex : Name) (records found : List Record) (r : Record) → count_by (is_by algorithm) found ≡ 1
+    → find (is_by algorithm) found ≡ Some r → agrees algorithm apex records r ≡ verified_by algorithm apex records found
+one_alone algorithm apex records found r e is =
+    rw e (sym (one_decides (is_by algorithm) (λ s. length (digest_in s) == size_of algorithm && (is_serial apex records (serial_in s) && bytes_eq (digest_in s) (hash_by algorithm (digested apex records)))) found r e is))
+
+none_found : (p q : Record → Bool) (rs : List Record) → find p rs ≡ None → list_any (λ r. p r && q r) rs ≡ false
+none_found p q [] e = refl
+none_found p q (r ∷ rs) e = elim (cases_Bool (p r)) [
+  | inl t ↦ absurd (let is : Some r ≡ None = rw t at e in cc)
+  | inr f ↦ let rest : find p rs ≡ None = rw f at e in rw (f, none_found p q rs rest) refl
+]
+
+pub none_alone : (algorithm : Algorithm) (apex : Name) (records found : List Record) → count_by (is_by algorithm) found ≡ 1
+    → find (is_by algorithm) found ≡ None → false ≡ verified_by algorithm apex records found
+none_alone algorithm apex records found e is =
+    rw e (sym (none_found (is_by algorithm) (λ s. length (digest_in s) == size_of algorithm && (is_serial apex records (serial_in s) && bytes_eq (digest_in s) (hash_by algorithm (digested apex records)))) found is))

@@ -7,10 +7,11 @@ use Rattle.dz_name.specs.declared.dns.TheConstants.{TYPE_A, TYPE_AAAA, TYPE_NS, 
 use Rattle.dz_record.specs.Record.{Record}
 use Rattle.dz_record.specs.Records.{distinct, insertion, in_order}
 use Rattle.dz_zonemd.specs.Digested.{is_left_out, digested}
-use Rattle.dz_zonemd.specs.Standing.{standing}
+use Rattle.dz_zonemd.specs.Standing.{standing, hashes}
 use Rattle.dz_zonemd.specs.Zonemd.{is_supported}
 use Rattle.sha2.specs.Sha512.{compress, digest_bytes, first_words, hash_after, rounds, schedule, sha384}
 use Rattle.dz_zonemd.specs.declared.acceptance.Standing.TheVariants.{Absent, Unsupported, Good, Bad}
+use Rattle.dz_zonemd.specs.declared.algorithm.TheConstants.{SCHEME_SIMPLE, HEAD_OCTETS, ALGORITHM_SHA384, ALGORITHM_SHA512}
 
 -- the apex of the zone of RFC 8976 appendix A.1
 abbrev apex : Name
@@ -139,3 +140,29 @@ printed =
 pub appendix_a1 : standing apex (zonemd apex 1 1 printed ∷ shuffled_rest) ≡ Good
 unfolding standing digested distinct insertion in_order wire_of two four number_of_two number_of_four compress digest_bytes first_words hash_after rounds schedule sha384
 appendix_a1 = refl
+
+-- ---- the numbers of ZONEMD records (RFC 8976 section 2.2), so that none can change
+pub scheme_simple_is_1 : SCHEME_SIMPLE ≡ 1
+scheme_simple_is_1 = refl
+
+pub head_octets_is_6 : HEAD_OCTETS ≡ 6
+head_octets_is_6 = refl
+
+pub algorithm_sha384_is_1 : ALGORITHM_SHA384 ≡ 1
+algorithm_sha384_is_1 = refl
+
+pub algorithm_sha512_is_2 : ALGORITHM_SHA512 ≡ 2
+algorithm_sha512_is_2 = refl
+
+-- ---- how often a zone is hashed: once for each algorithm that one record alone is of
+pub hashed_by_both : hashes (zonemd apex 1 1 octets48 ∷ zonemd apex 1 2 octets48 ∷ []) ≡ 2
+unfolding four
+hashed_by_both = refl
+
+pub never_for_two_of_one : hashes (zonemd apex 1 1 octets48 ∷ zonemd apex 1 1 octets12 ∷ []) ≡ 0
+unfolding four
+never_for_two_of_one = refl
+
+pub never_for_private_use : hashes (zonemd apex 240 1 octets48 ∷ zonemd apex 1 240 octets48 ∷ []) ≡ 0
+unfolding four
+never_for_private_use = refl

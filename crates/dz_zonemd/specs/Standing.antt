@@ -1,5 +1,5 @@
 -- Meaning: what the ZONEMD records of a zone say of it (RFC 8976 section 4). The records of the zone are in any order.
-use Rattle.std.specs.Prelude.{ℕ, Bool, false, ◌==◌, ◌&&◌, List, length, filter, count_by, if◌then◌else◌}
+use Rattle.std.specs.Prelude.{ℕ, Bool, false, ◌+◌, ◌==◌, ◌&&◌, List, length, filter, count_by, if◌then◌else◌}
 use Rattle.std.specs.List.{list_any}
 use Rattle.std.specs.Option.{option_map_or}
 use Rattle.std.specs.Str.{bytes_eq}
@@ -8,7 +8,9 @@ use Rattle.dz_name.specs.Name.{same_name}
 use Rattle.dz_name.specs.declared.dns.TheConstants.{TYPE_ZONEMD}
 use Rattle.dz_record.specs.Record.{Record, soa_of}
 use Rattle.dz_zonemd.specs.Digested.{digested}
-use Rattle.dz_zonemd.specs.Zonemd.{serial_in, digest_in, is_twin, known_algorithm, hash_by, is_supported}
+use Rattle.dz_zonemd.specs.Zonemd.{serial_in, digest_in, is_twin, known_algorithm, hash_by, is_by, is_supported}
+use Rattle.dz_zonemd.specs.declared.algorithm.Algorithm.{Algorithm}
+use Rattle.dz_zonemd.specs.declared.algorithm.Algorithm.TheVariants.{Sha384, Sha512}
 use Rattle.dz_zonemd.specs.declared.acceptance.Standing.{Standing}
 use Rattle.dz_zonemd.specs.declared.acceptance.Standing.TheVariants.{Absent, Unsupported, Good, Bad}
 
@@ -40,6 +42,15 @@ is_alone apex records r = count_by (is_twin r) (zonemds apex records) == 1
 abbrev pub verifies : Name → List Record → Record → Bool
 verifies apex records r =
     is_supported r && (is_alone apex records r && (is_serial apex records (serial_in r) && is_digest (digested apex records) r))
+
+-- how often a zone with these ZONEMD records at its apex is hashed by an algorithm at most: once where one record alone
+-- is of the algorithm, and otherwise never (section 4)
+abbrev pub hashes_by : Algorithm → List Record → ℕ
+hashes_by algorithm found = if count_by (is_by algorithm) found == 1 then 1 else 0
+
+-- how often it is hashed at most
+abbrev pub hashes : List Record → ℕ
+hashes found = hashes_by Sha384 found + hashes_by Sha512 found
 
 -- what the ZONEMD records of a zone say of it (section 4)
 unfoldable pub standing : Name → List Record → Standing

@@ -1,6 +1,6 @@
 //! The digest of a zone.
 
-ghost use Rattle.std.specs.Prelude.{◌≡◌, ◌==◌, ◌≤◌, ◌<◌, ◌++◌, ℕ, List, Some, slice_get, take, length};
+ghost use Rattle.std.specs.Prelude.{◌≡◌, ◌==◌, ◌≤◌, ◌<◌, ◌+◌, ◌++◌, ℕ, List, Some, slice_get, take, length};
 ghost use Rattle.std.specs.List.Sorted.{IsStrictlySortedBy};
 ghost use Rattle.dz_record.specs.Record.{Record, record_octets, record_order};
 ghost use Rattle.dz_zonemd.specs.Digested.{digested, is_left_out, type_covered};
@@ -9,7 +9,9 @@ use dz_name::Name;
 use dz_name::dns::{TYPE_RRSIG, TYPE_ZONEMD};
 use dz_name::numbers::number_of_two;
 use dz_record::Rr;
+use dz_steps::Steps;
 use sha2::Digest;
+use std::sync::ledger::Ledger;
 
 /// This many octets of records are put together before they go into the hasher.
 const BATCH_OCTETS: usize = 4096;
@@ -86,10 +88,9 @@ fn join_record<D: Digest>(
     join(hasher, batch, count, record_at(records, place).octets())
 }
 
-/// The digest of a zone by scheme SIMPLE (RFC 8976 section 3.3.1): of all records but the ZONEMD records of the apex
-/// and the RRSIG records of the apex that cover them. The records are in canonical order, and no two are the same.
-/// Their octets go into the hasher in batches, so the memory that holds them is read ahead of the hash.
-pub fn zone_digest<D: Digest>(apex: &Name, records: &[Rr]) -> D::Output
+/// The hash of the records of a zone that are digested. They are in canonical order, and no two are the same. Their
+/// octets go into the hasher in batches, so the memory that holds them is read ahead of the hash.
+fn hash<D: Digest>(apex: &Name, records: &[Rr]) -> D::Output
     requires { IsStrictlySortedBy record_order records.now }
     ensures { D.digest_of (digested apex.now records.now) result }
 {
@@ -103,4 +104,27 @@ pub fn zone_digest<D: Digest>(apex: &Name, records: &[Rr]) -> D::Output
     }
     hasher.update(&batch[..count]);
     hasher.finalize()
+}
+
+/// The digest of a zone by scheme SIMPLE (RFC 8976 section 3.3.1): of all records but the ZONEMD records of the apex
+/// and the RRSIG records of the apex that cover them. The records are in canonical order, and no two are the same.
+pub fn zone_digest<D: Digest>(apex: &Name, records: &[Rr]) -> D::Output
+    requires { IsStrictlySortedBy record_order records.now }
+    ensures { D.digest_of (digested apex.now records.now) result }
+{
+    hash::<D>(apex, records)
+}
+
+/// The same, which is one step: a digest that is compared is made by this call alone.
+pub(crate) fn counted_digest<D: Digest, L: Ledger>(
+    apex: &Name,
+    records: &[Rr],
+    steps: &mut Steps<L>,
+) -> D::Output
+    requires { IsStrictlySortedBy record_order records.now }
+    ensures value { D.digest_of (digested apex.now records.now) result }
+    ensures counted { steps.new ≡ steps.old + 1 }
+{
+    steps.tick();
+    hash::<D>(apex, records)
 }

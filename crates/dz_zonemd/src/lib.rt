@@ -9,4 +9,4 @@ mod verification;
 pub use acceptance::{Standing, accepts};
 pub use algorithm::{ALGORITHM_SHA384, ALGORITHM_SHA512, Algorithm, HEAD_OCTETS, SCHEME_SIMPLE};
 pub use digest::zone_digest;
-pub use verification::standing;
+pub use verification::{counted_standing, standing};

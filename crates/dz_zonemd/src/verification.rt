@@ -1,39 +1,65 @@
 //! What the ZONEMD records of a zone say of it.
 
-ghost use Rattle.std.specs.Prelude.{◌≡◌, ◌==◌, ◌&&◌, ◌≤◌, ◌-◌, count_by, drop, length, take};
-ghost use Rattle.std.specs.List.{list_any};
+ghost use Rattle.std.specs.Prelude.{◌≡◌, ◌==◌, ◌&&◌, ◌≤◌, ◌+◌, ◌-◌, count_by, drop, length, option_map, take};
+ghost use Rattle.std.specs.List.{find, list_any};
 ghost use Rattle.std.specs.List.Sorted.{IsStrictlySortedBy};
 ghost use Rattle.std.specs.Option.{option_map_or};
 ghost use Rattle.std.specs.Str.{bytes_eq};
 ghost use Rattle.dz_name.specs.Name.{same_name};
 ghost use Rattle.dz_record.specs.Record.{record_order, soa_of};
 ghost use Rattle.dz_zonemd.specs.Digested.{digested};
-ghost use Rattle.dz_zonemd.specs.Standing.{standing, zonemds, is_serial, serial_is, verifies};
+ghost use Rattle.dz_zonemd.specs.Standing.{standing, zonemds, is_serial, serial_is, verifies, hashes, hashes_by};
 ghost use Rattle.dz_zonemd.specs.Zonemd.{serial_in, digest_in, is_by, is_supported, hash_by};
 ghost use Rattle.dz_zonemd.specs.inner.Claims.{agrees, verified_by};
 ghost use Rattle.dz_zonemd.specs.inner.Places.{IsBegin, IsEnd};
 
 use crate::acceptance::Standing;
 use crate::algorithm::{Algorithm, HEAD_OCTETS};
-use crate::digest::zone_digest;
+use crate::digest::counted_digest;
 use dz_name::Name;
 use dz_name::dns::TYPE_ZONEMD;
 use dz_name::numbers::number_of_four;
 use dz_record::Rr;
+use dz_steps::Steps;
 use sha2::{Sha384, Sha512};
+use std::marker::Brand;
+use std::sync::ledger::{Blank, Ledger};
 
 /// What the ZONEMD records of a zone say of it. The records are in canonical order, and no two are the same. Without a
 /// ZONEMD record at the apex nothing is hashed. Otherwise each algorithm is used at most once, and only where one
-/// record alone is of it, and that one has the algorithm's length and the zone's serial.
-#[tactic(auto, unfolding(crate::specs::Standing::standing))]
+/// record alone is of it, and that one has the algorithm's length and the zone's serial: see [`counted_standing`].
 pub fn standing(apex: &Name, records: &[Rr]) -> Standing
     requires { IsStrictlySortedBy record_order records.now }
     ensures { result ≡ standing apex.now records.now }
 {
+    standing_from::<Brand>(Blank::new(1), apex, records)
+}
+
+/// The same as [`standing`], counted in a ledger that is still blank.
+fn standing_from<L: Ledger>(blank: Blank, apex: &Name, records: &[Rr]) -> Standing
+    requires name { blank.name ≡ L.name }
+    requires parts { blank.parts ≡ L.parts }
+    requires whole { blank.parts ≡ 1 }
+    requires sorted { IsStrictlySortedBy record_order records.now }
+    ensures { result ≡ standing apex.now records.now }
+{
+    let mut steps = Steps::<L>::new(blank);
+    counted_standing(apex, records, &mut steps)
+}
+
+/// The same as [`standing`]. A step is one hash of the zone: there are two at most, one for each algorithm of which one
+/// record alone is.
+#[tactic(auto, unfolding(crate::specs::Standing::standing))]
+pub fn counted_standing<L: Ledger>(apex: &Name, records: &[Rr], steps: &mut Steps<L>) -> Standing
+    requires { IsStrictlySortedBy record_order records.now }
+    ensures value { result ≡ standing apex.now records.now }
+    ensures cost { steps.new ≤ steps.old + hashes (zonemds apex.now records.now) }
+    ensures twice { steps.new ≤ steps.old + 2 }
+{
     let found = zonemds_of(apex, records);
     if found.is_empty() {
         Standing::Absent
-    } else if is_verified(apex, records, found) {
+    } else if is_verified(apex, records, found, steps) {
         Standing::Good
     } else if some_supported(found) {
         Standing::Bad
@@ -43,21 +69,37 @@ pub fn standing(apex: &Name, records: &[Rr]) -> Standing
 }
 
 /// Whether some ZONEMD record of the apex verifies the zone.
-fn is_verified(apex: &Name, records: &[Rr], found: &[Rr]) -> bool
+fn is_verified<L: Ledger>(apex: &Name, records: &[Rr], found: &[Rr], steps: &mut Steps<L>) -> bool
     requires sorted { IsStrictlySortedBy record_order records.now }
     requires all { found.now ≡ zonemds apex.now records.now }
-    ensures { result ≡ list_any (verifies apex.now records.now) found.now }
+    ensures value { result ≡ list_any (verifies apex.now records.now) found.now }
+    ensures cost { steps.new ≤ steps.old + hashes found.now }
+    ensures twice { steps.new ≤ steps.old + 2 }
 {
-    is_verified_by(Algorithm::Sha384, apex, records, found)
-        || is_verified_by(Algorithm::Sha512, apex, records, found)
+    is_verified_by(Algorithm::Sha384, apex, records, found, steps)
+        || is_verified_by(Algorithm::Sha512, apex, records, found, steps)
 }
 
 /// Whether one ZONEMD record alone is of an algorithm, and verifies the zone.
-fn is_verified_by(algorithm: Algorithm, apex: &Name, records: &[Rr], found: &[Rr]) -> bool
+fn is_verified_by<L: Ledger>(
+    algorithm: Algorithm,
+    apex: &Name,
+    records: &[Rr],
+    found: &[Rr],
+    steps: &mut Steps<L>,
+) -> bool
     requires { IsStrictlySortedBy record_order records.now }
-    ensures { result ≡ verified_by algorithm apex.now records.now found.now }
+    ensures value { result ≡ verified_by algorithm apex.now records.now found.now }
+    ensures cost { steps.new ≤ steps.old + hashes_by algorithm found.now }
+    ensures once { steps.new ≤ steps.old + 1 }
 {
-    count_of(algorithm, found) == 1 && some_agree(algorithm, apex, records, found)
+    if count_of(algorithm, found) != 1 {
+        return false;
+    }
+    match first_of(algorithm, found) {
+        Some(rr) => agrees(algorithm, apex, records, rr, steps),
+        None => false,
+    }
 }
 
 /// How many records are of an algorithm.
@@ -67,33 +109,50 @@ fn count_of(algorithm: Algorithm, found: &[Rr]) -> usize
     found.iter().filter(|rr| algorithm.is_of(rr)).count()
 }
 
-/// Whether some record agrees with the zone.
-fn some_agree(algorithm: Algorithm, apex: &Name, records: &[Rr], found: &[Rr]) -> bool
-    requires { IsStrictlySortedBy record_order records.now }
-    ensures { result ≡ list_any (agrees algorithm apex.now records.now) found.now }
+/// The first record of an algorithm.
+fn first_of(algorithm: Algorithm, found: &[Rr]) -> Option<&Rr>
+    ensures { option_map (λ r. r.now) result ≡ find (is_by algorithm) found.now }
 {
-    found.iter().any(|rr| agrees(algorithm, apex, records, rr))
+    found.iter().find(|rr| algorithm.is_of(rr))
 }
 
 /// Whether a record is of an algorithm and of its length, and has the zone's serial and the zone's digest.
-fn agrees(algorithm: Algorithm, apex: &Name, records: &[Rr], rr: &Rr) -> bool
+fn agrees<L: Ledger>(
+    algorithm: Algorithm,
+    apex: &Name,
+    records: &[Rr],
+    rr: &Rr,
+    steps: &mut Steps<L>,
+) -> bool
     requires { IsStrictlySortedBy record_order records.now }
-    ensures { result ≡ agrees algorithm apex.now records.now rr.now }
+    ensures value { result ≡ agrees algorithm apex.now records.now rr.now }
+    ensures cost { steps.new ≤ steps.old + 1 }
 {
     algorithm.is_of(rr)
         && digest_in(rr).len() == algorithm.size()
         && has_serial(apex, records, serial_in(rr))
-        && has_digest(algorithm, apex, records, digest_in(rr))
+        && has_digest(algorithm, apex, records, digest_in(rr), steps)
 }
 
-/// Whether this is the digest of the zone.
-fn has_digest(algorithm: Algorithm, apex: &Name, records: &[Rr], digest: &[u8]) -> bool
+/// Whether this is the digest of the zone, by one hash.
+fn has_digest<L: Ledger>(
+    algorithm: Algorithm,
+    apex: &Name,
+    records: &[Rr],
+    digest: &[u8],
+    steps: &mut Steps<L>,
+) -> bool
     requires { IsStrictlySortedBy record_order records.now }
-    ensures { result ≡ bytes_eq digest.now (hash_by algorithm (digested apex.now records.now)) }
+    ensures value { result ≡ bytes_eq digest.now (hash_by algorithm (digested apex.now records.now)) }
+    ensures cost { steps.new ≡ steps.old + 1 }
 {
     match algorithm {
-        Algorithm::Sha384 => digest == zone_digest::<Sha384>(apex, records).as_slice(),
-        Algorithm::Sha512 => digest == zone_digest::<Sha512>(apex, records).as_slice(),
+        Algorithm::Sha384 => {
+            digest == counted_digest::<Sha384, L>(apex, records, steps).as_slice()
+        }
+        Algorithm::Sha512 => {
+            digest == counted_digest::<Sha512, L>(apex, records, steps).as_slice()
+        }
     }
 }
 

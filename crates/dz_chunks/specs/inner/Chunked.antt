@@ -5,21 +5,7 @@ use Rattle.std.specs.FinMap.{is_sorted}
 use Rattle.std.specs.declared.cmp.Ordering.{Ordering}
 use Rattle.std.specs.declared.cmp.Ordering.TheVariants.{Less, Greater}
 use Rattle.dz_chunks.specs.Map.{is_upto}
-
--- the entries of all chunks
-abbrev pub flat : {A : Type 0} → List (List A) → List A
-flat [] = []
-flat (c ∷ cs) = c ++ flat cs
-
--- two neighbouring chunks have at least 128 entries together
-abbrev pub Joined : {A : Type 0} → List A → List (List A) → Type 0
-Joined c [] = Unit {0}
-Joined c (d ∷ ds) = 128 ≤ length c + length d
-
--- each chunk has 1 to 128 entries, and two neighbours at least 128
-abbrev pub AreChunks : {A : Type 0} → List (List A) → Type 0
-AreChunks [] = Unit {0}
-AreChunks (c ∷ cs) = (1 ≤ length c) × (length c ≤ 128) × Joined c cs × AreChunks cs
+use Rattle.dz_chunks.specs.Chunked.{flat, AreChunks}
 
 -- each chunk has 128 entries
 abbrev pub AreFull : {A : Type 0} → List (List A) → Type 0
@@ -31,7 +17,7 @@ abbrev pub IsLedBy : {K X : Type 0} → (K → List ℕ) → List ℕ → List (
 IsLedBy lead octets [] = ⊥
 IsLedBy lead octets (e ∷ es) = octets ≡ lead e.0
 
--- the first octets of the key at a place, and of each sixteenth behind it, as far as there are entries
+-- the first octets of the key at a place, and of each sixteenth after it, as far as there are entries
 module _ {K X : Type 0} (lead : K → List ℕ) where
   abbrev pub AreMarks : List (List ℕ) → ℕ → List (K × X) → Type 0
   AreMarks [] place es = Unit {0}
@@ -49,7 +35,7 @@ length_before cs zero = 128
 length_before cs (suc at) = length_at cs at
 
 module _ {K X : Type 0} (R : K → K → Ordering) where
-  -- each key comes before this one, or each comes behind it
+  -- each key comes before this one, or each comes after it
   abbrev pub AllBefore : K → List (K × X) → Type 0
   AllBefore k [] = Unit {0}
   AllBefore k (e ∷ es) = (R k e.0 ≡ Greater) × AllBefore k es

@@ -27,3 +27,11 @@ pub record AreLandings (m : Octets) (landings : List ℕ) : Type 0 where
 -- where a pointer leads in the end, according to the table
 abbrev pub landing_in : List ℕ → ℕ → ℕ
 landing_in landings target = if nat_lt target (length landings) then slice_index landings target else target
+
+-- no pointer leads to a pointer that leads on
+abbrev pub HasNoChain : Octets → Type 0
+HasNoChain m = (at target : ℕ) → LeadsTo m at target → ¬ LeadsOn m target
+
+-- where pointers lead according to the table, no pointer leads on
+abbrev pub EndsChains : Octets → List ℕ → Type 0
+EndsChains m landings = (at target : ℕ) → LeadsTo m at target → ¬ LeadsOn m (landing_in landings target)

@@ -1,5 +1,5 @@
 -- Inner: a transfer that was weighed, with its lines.
-use Rattle.std.specs.Prelude.{◌≡◌, ℕ}
+use Rattle.std.specs.Prelude.{◌≡◌, ℕ, Bool, true, false}
 use Rattle.dz_job.specs.Job.{JobOf}
 use Rattle.dz_job.specs.declared.verdict.Verdict.{Verdict}
 use Rattle.dz_job.specs.declared.verdict.Verdict.TheVariants.{OutOfMemory}
@@ -19,3 +19,8 @@ pub record IsReady (c : Core) (job : JobOf) (r : Ready) : Type 0 where
 pub record IsStarved (h : Held) (job : JobOf) (now : ℕ) (answer : Verdict) (k : Held) : Type 0 where
   pub verdict : answer ≡ OutOfMemory
   pub rest : k ≡ record h { core = failed_core h.core job now }
+
+-- memory was wanting
+abbrev pub is_want : Verdict → Bool
+is_want OutOfMemory = true
+is_want verdict = false

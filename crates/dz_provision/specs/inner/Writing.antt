@@ -16,7 +16,7 @@ pub record Log : Type 0 where
 abbrev pub log_of : Option Octets → ℕ → Bool → Log
 log_of written faults failed = record { written = written; faults = faults; failed = failed }
 
--- the lines stand behind what was written; or a prefix of them, and the write has failed
+-- the lines come after what was written; or a prefix of them, and the write has failed
 unfoldable pub IsWritten : Octets → Result (Unit {0}) LogFault → Log → Log → Type 0
 IsWritten lines (Ok done) a b = Gains lines a.written b.written × ((b.faults ≡ a.faults) × (b.failed ≡ a.failed))
 IsWritten lines (Err fault) a b = GainsPrefix lines a.written b.written × ((a.faults ≤ b.faults) × (HasRisen a.faults b.faults × (b.failed ≡ true)))

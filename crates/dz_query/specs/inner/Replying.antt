@@ -31,6 +31,12 @@ has_lost lost fate.Sent = lost
 has_lost lost fate.Lost = true
 has_lost lost fate.Unheard = lost
 
+-- whether a NOTIFY was not heard, after one more request
+abbrev pub has_unheard : Bool → Fate → Bool
+has_unheard unheard fate.Sent = unheard
+has_unheard unheard fate.Lost = unheard
+has_unheard unheard fate.Unheard = true
+
 -- the fate of the reply where what was written goes out
 abbrev pub fate_of : Answered → Fate
 fate_of answered.Silent = fate.Sent

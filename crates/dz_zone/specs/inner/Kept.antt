@@ -6,7 +6,7 @@ use Rattle.std.specs.Ordering.{is_lt}
 use Rattle.dz_name.specs.Words.{Name}
 use Rattle.std.specs.List.Sorted.{IsStrictlySortedBy}
 use Rattle.dz_record.specs.Record.{Record, record_order}
-use Rattle.dz_index.specs.inner.Rows.{Rows, IsIndex}
+use Rattle.dz_index.specs.Rows.{Rows, IsIndex}
 use Rattle.dz_zone.specs.Version.{Zone, IsVersion, owners_of, has_cuts, has_dnames, is_secure}
 
 -- the apex, which is the owner of the first record

@@ -1,7 +1,7 @@
 use Rattle.std.proofs.Common.{◌∙◌, sym, ap, subst, arith, length}
 use Rattle.std.specs.Prelude.{T}
 use Rattle.std.specs.FinMap.{put, is_sorted}
-use Rattle.dz_chunks.specs.inner.Chunked.{flat}
+use Rattle.dz_chunks.specs.Chunked.{flat}
 use Rattle.dz_chunks.proofs.EntryLemmas.{ok_then, ok_with}
 use Rattle.dz_chunks.proofs.ChunkLemmas.{seen_sorted, seen_put, chunked_put, put_longer}
 use Rattle.dz_chunks.proofs.JoinLemmas.{seen_length, length_short}
@@ -20,8 +20,8 @@ with_entry-requires-clause-short g c =
     let short = length_short c.args.chunks.now c.chunk_for-at.result c.requires.sized in
     omega (arith, size, short, ap length part)
 
-pub returns-in_err-entries-clause-cost : goal.returns-in_err-entries-clause-cost
-returns-in_err-entries-clause-cost g c =
+pub returns-in_err-entries-clause-entry_cost : goal.returns-in_err-entries-clause-entry_cost
+returns-in_err-entries-clause-entry_cost g c =
     let part = c.entries.ensures ∙ c.index-chunks-at.is in
     let size = seen_length c.args.chunks.now c.chunk_for-at.result c.index-chunks-at.result c.chunk_for-at.ensures.within in
     let short = length_short c.args.chunks.now c.chunk_for-at.result c.requires.sized in
@@ -54,9 +54,9 @@ returns-clause-chunked g c =
     let part = c.entries.ensures ∙ c.index-chunks-at.is in
     ok_with _ _ _ c.rebuilt.result c.rebuilt.ensures.entries c.rebuilt.ensures.sized (λ v n z. chunked_put g.K.Ord.cmp g.met.K.Ord.total c.key-key.result c.args.value c.args.chunks.now v.items c.requires z (seen_put g.K.Ord.cmp g.met.K.Ord.total c.key-key.result c.args.value c.args.chunks.now v.items c.chunk_for-at.result c.index-chunks-at.result c.in_ok-entries.entries.items c.chunk_for-at.ensures.within c.chunk_for-at.ensures.before c.chunk_for-at.ensures.behind (c.in_ok-entries.ensures.put ∙ ap (put g.K.Ord.cmp c.key-key.result c.args.value) part) n))
 
-pub returns-clause-cost : goal.returns-clause-cost
-returns-clause-cost g c =
+pub returns-clause-entry_cost : goal.returns-clause-entry_cost
+returns-clause-entry_cost g c =
     let part = c.entries.ensures ∙ c.index-chunks-at.is in
     let size = seen_length c.args.chunks.now c.chunk_for-at.result c.index-chunks-at.result c.chunk_for-at.ensures.within in
     let short = length_short c.args.chunks.now c.chunk_for-at.result c.requires.sized in
-    omega (arith, size, short, ap length part, c.with_entry.ensures.cost, c.rebuilt.ensures.cost)
+    omega (arith, size, short, ap length part, c.with_entry.ensures.cost, c.rebuilt.ensures.entry_cost)

@@ -13,8 +13,8 @@ without_entry-requires g c =
     let known = subst (λ es. T (is_sorted g.K.Ord.cmp es)) (sym part) (seen_sorted g.K.Ord.cmp g.met.K.Ord.total c.args.key.now c.args.chunks.now c.chunk_for-at.result c.index-chunks-at.result c.requires c.chunk_for-at.ensures.within) in
     record { sorted = known }
 
-pub returns-in_err-entries-clause-cost : goal.returns-in_err-entries-clause-cost
-returns-in_err-entries-clause-cost g c =
+pub returns-in_err-entries-clause-entry_cost : goal.returns-in_err-entries-clause-entry_cost
+returns-in_err-entries-clause-entry_cost g c =
     let part = c.entries.ensures ∙ c.index-chunks-at.is in
     let size = seen_length c.args.chunks.now c.chunk_for-at.result c.index-chunks-at.result c.chunk_for-at.ensures.within in
     let short = length_short c.args.chunks.now c.chunk_for-at.result c.requires.sized in
@@ -48,9 +48,9 @@ returns-clause-chunked g c =
     let part = c.entries.ensures ∙ c.index-chunks-at.is in
     ok_with _ _ _ c.rebuilt.result c.rebuilt.ensures.entries c.rebuilt.ensures.sized (λ v n z. chunked_without g.K.Ord.cmp g.met.K.Ord.total c.args.key.now c.args.chunks.now v.items c.requires z (seen_without g.K.Ord.cmp g.met.K.Ord.total c.args.key.now c.args.chunks.now v.items c.chunk_for-at.result c.index-chunks-at.result c.in_ok-entries.entries.items c.chunk_for-at.ensures.within c.chunk_for-at.ensures.before c.chunk_for-at.ensures.behind (c.in_ok-entries.ensures.left ∙ ap (without_key g.K.Ord.cmp c.args.key.now) part) n))
 
-pub returns-clause-cost : goal.returns-clause-cost
-returns-clause-cost g c =
+pub returns-clause-entry_cost : goal.returns-clause-entry_cost
+returns-clause-entry_cost g c =
     let part = c.entries.ensures ∙ c.index-chunks-at.is in
     let size = seen_length c.args.chunks.now c.chunk_for-at.result c.index-chunks-at.result c.chunk_for-at.ensures.within in
     let short = length_short c.args.chunks.now c.chunk_for-at.result c.requires.sized in
-    omega (arith, size, short, ap length part, c.without_entry.ensures.cost, c.rebuilt.ensures.cost)
+    omega (arith, size, short, ap length part, c.without_entry.ensures.cost, c.rebuilt.ensures.entry_cost)

@@ -1,5 +1,5 @@
 use Rattle.std.proofs.Common.{sym, ◌∙◌, ap, subst}
-use Rattle.dz_chunks.specs.inner.Chunked.{flat, AreChunks}
+use Rattle.dz_chunks.specs.Chunked.{flat, AreChunks}
 use Rattle.dz_chunks.proofs.cut.cut.Goals as goal
 
 pub returns-clause-entries : goal.returns-clause-entries

@@ -1,6 +1,6 @@
 use Rattle.std.proofs.Common.{◌≡◌, ◌-◌, ◌++◌, ◌∷◌, [], length, reverse, ◌∙◌, ap, arith}
 use Rattle.std.proofs.lemmas.List.{length-drop}
-use Rattle.dz_chunks.specs.inner.Chunked.{flat}
+use Rattle.dz_chunks.specs.Chunked.{flat}
 use Rattle.dz_chunks.proofs.CutLemmas.{cut_more, full_more}
 use Rattle.dz_chunks.proofs.cut.cut_full.Goals as goal
 

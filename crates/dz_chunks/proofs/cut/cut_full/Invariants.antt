@@ -1,5 +1,6 @@
 use Rattle.std.proofs.Common.{◌≡◌, ◌++◌, reverse, length}
-use Rattle.dz_chunks.specs.inner.Chunked.{flat, AreFull}
+use Rattle.dz_chunks.specs.Chunked.{flat}
+use Rattle.dz_chunks.specs.inner.Chunked.{AreFull}
 use Rattle.dz_chunks.proofs.cut.cut_full.Given as goal
 
 abbrev pub invariant-chunks : goal.invariant-chunks

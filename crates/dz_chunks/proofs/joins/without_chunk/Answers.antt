@@ -1,6 +1,6 @@
 use Rattle.std.proofs.Common.{◌∙◌, ◌+◌, [], ap, subst, sym, arith, take, drop}
 use Rattle.std.proofs.lemmas.List.{append-nil}
-use Rattle.dz_chunks.specs.inner.Chunked.{flat, AreChunks}
+use Rattle.dz_chunks.specs.Chunked.{flat, AreChunks}
 use Rattle.dz_chunks.proofs.JoinLemmas.{copied_around, flat-append, none_between}
 use Rattle.dz_chunks.proofs.joins.without_chunk.Goals as goal
 

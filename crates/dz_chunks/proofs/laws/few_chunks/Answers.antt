@@ -2,4 +2,4 @@ use Rattle.dz_chunks.proofs.JoinLemmas.{few_chunks}
 use Rattle.dz_chunks.proofs.laws.few_chunks.Goals as goal
 
 pub returns : goal.returns
-returns c = λ chunks z. few_chunks chunks z
+returns g c = λ chunks z. few_chunks chunks z

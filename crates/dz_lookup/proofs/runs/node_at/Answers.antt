@@ -3,8 +3,8 @@ use Rattle.dz_record.specs.Record.{Record}
 use Rattle.dz_lookup.specs.inner.Places.{IsNodeOf}
 use Rattle.dz_lookup.proofs.runs.node_at.Goals as goal
 
-pub returns-then-same : goal.returns-then-same
-returns-then-same c =
+pub returns-then-same-clause-node : goal.returns-then-same-clause-node
+returns-then-same-clause-node g c =
     let zone = c.args.version.now.records in
     let r = c.index-records-run.result in
     let is : r ≡ get_or zone c.in_ok-run.run'.begin r = rw c.records-records.ensures.records at c.index-records-run.is in

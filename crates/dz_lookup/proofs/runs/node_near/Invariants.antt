@@ -1,4 +1,4 @@
 use Rattle.dz_lookup.proofs.runs.node_near.Given as goal
 
-abbrev pub decreases-owners : goal.decreases-owners
-decreases-owners g l = l.behind
+abbrev pub ghosts-counted_near : goal.ghosts-counted_near
+ghosts-counted_near g a = record { name = a.blank.name; parts = a.blank.parts }

@@ -1,7 +1,7 @@
 use Rattle.std.proofs.Common.{◌∙◌, length, ◌≡◌}
 use Rattle.std.proofs.lemmas.List.{length-map}
 use Rattle.dz_record.specs.Record.{Record}
-use Rattle.dz_index.specs.inner.Rows.{total}
+use Rattle.dz_index.specs.Rows.{total}
 use Rattle.dz_zone.specs.Version.{owners_of}
 use Rattle.dz_lookup.proofs.InOrder.{owner_run}
 use Rattle.dz_lookup.proofs.NodeLemmas.{begin_upto_end, first_begin, end_end, node_kinds}

@@ -5,7 +5,7 @@ use Rattle.dz_script.specs.declared.run.ScriptError.TheVariants as errors
 use Rattle.dz_produce.specs.declared.saying.ProduceEnd.{ProduceEnd}
 use Rattle.dz_produce.specs.declared.saying.ProduceEnd.TheVariants as produce_ends
 use Rattle.dz_run.specs.Running.{status_of_produce}
-use Rattle.dz_run.specs.declared.commands.Status.TheVariants.{Done}
+use Rattle.dz_run.specs.declared.status.Status.TheVariants.{Done}
 use Rattle.dz_run.proofs.commands.produce.Goals as goal
 
 only_done : (result : Result ProduceEnd ScriptError) → status_of_produce result ≡ Done → result ≡ Ok produce_ends.Done

@@ -1,18 +1,22 @@
 -- How the run of the script ends is how the program ends.
-use Rattle.std.proofs.Common.{[], sym, ◌∙◌, ap, subst}
+use Rattle.std.proofs.Common.{[], Err, refl, sym, ◌∙◌, ap, subst}
+use Rattle.dz_script.specs.Run.{said_of}
+use Rattle.dz_script.specs.declared.run.ScriptError.TheVariants as errors
 use Rattle.dz_run.specs.Kept.{list_in}
 use Rattle.dz_run.specs.Running.{HasEnded}
 use Rattle.dz_run.specs.Replaying.{opening, replay_rules}
-use Rattle.dz_run.proofs.EndLemmas.{no_memory, done_leaves, ended_state}
+use Rattle.dz_run.proofs.EndLemmas.{gains_none, done_leaves, ended_state}
 use Rattle.dz_run.proofs.ReplayLemmas.{replay_ends}
 use Rattle.dz_run.proofs.commands.replay.Goals as goal
 
 pub returns-in-Err-clause-ends : goal.returns-in-Err-clause-ends
-returns-in-Err-clause-ends g c octets told = no_memory replay_rules (opening []) octets _ _
+returns-in-Err-clause-ends g c octets told =
+    let text = (said_of replay_rules (opening []) octets).text in
+    (Err errors.OutOfMemory, opening [], refl, c.requires.list, ([], gains_none _, (text, refl)))
 
 pub returns-in-Ok-clause-ends : goal.returns-in-Ok-clause-ends
 returns-in-Ok-clause-ends g c octets told =
-    (c.run_script-ended.result, c.run_script-ended.new.script.state, c.status_of.ensures, rw c.close.ensures.written (rw c.new-replaying.ensures at c.run_script-ended.ensures.ends octets told))
+    (c.run_script-ended.result, c.run_script-ended.new.script.state, c.status_of.ensures, c.close.ensures.ends.list, rw c.close.ensures.written (rw c.new-replaying.ensures at c.run_script-ended.ensures.ends octets told))
 
 pub returns-in-Ok-clause-published : goal.returns-in-Ok-clause-published
 returns-in-Ok-clause-published g c octets told is =

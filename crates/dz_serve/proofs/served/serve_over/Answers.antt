@@ -3,7 +3,7 @@ use mir.Syntax.{named}
 use Rattle.std.proofs.Common.{◌≡◌, refl, sym, ap, ◌∙◌}
 use Rattle.dz_desk.proofs.PrefixLemmas.{prefix_trans}
 use Rattle.dz_serve.proofs.CrossLemmas.{keeping_sync, locked_sync, provisioner_send, store_send}
-use Rattle.dz_serve.proofs.EndLemmas.{listened_risen, linked_risen, port_risen, listened_run, linked_run, transferred_run, is_run}
+use Rattle.dz_serve.proofs.EndLemmas.{listened_risen, linked_risen, port_risen, listened_run, linked_run, transferred_run, is_run, six_back, seated_more}
 use Rattle.dz_serve.proofs.RunLemmas.{dials_so}
 use Rattle.dz_serve.proofs.served.serve_over.Goals as goal
 
@@ -24,13 +24,14 @@ returns-clause-served g c some =
     let two = listened_run _ _ _ _ _ _ _ _ _ _ _ _ some c.teach.ensures.second_seen e.listening_two c.requires.listening_two c.requires.datagrams_two r.listening_two in
     let three = linked_run _ _ _ _ _ _ _ _ _ _ _ _ _ some c.teach-2.ensures.first_seen e.linking_one c.requires.linking_one c.requires.acceptors_one r.linking_one in
     let four = linked_run _ _ _ _ _ _ _ _ _ _ _ _ _ some c.teach-2.ensures.second_seen e.linking_two c.requires.linking_two c.requires.acceptors_two r.linking_two in
-    let five = transferred_run _ _ _ _ _ _ _ _ some c.teach-3.ensures.first_seen e.transferring_one c.requires.dialers_one r.transferring_one in
-    let six = transferred_run _ _ _ _ _ _ _ _ some c.teach-3.ensures.second_seen e.transferring_two c.requires.dialers_two r.transferring_two in
+    let five = transferred_run _ _ _ _ _ _ _ _ _ _ some c.teach-3.ensures.first_seen e.transferring_one c.requires.gives_one c.requires.dialers_one r.transferring_one in
+    let six = transferred_run _ _ _ _ _ _ _ _ _ _ some c.teach-3.ensures.second_seen e.transferring_two c.requires.gives_two c.requires.dialers_two r.transferring_two in
     let d = c.close_dialers.ensures.datagrams ∙ (c.close_acceptors.ensures.datagrams ∙ (rw (c.part_listened-datagrams.ensures.first, c.part_listened-datagrams.ensures.second) at c.close_datagrams.ensures.back)) in
     let a = c.close_dialers.ensures.acceptors ∙ (rw (c.part_linked-acceptors.ensures.first, c.part_linked-acceptors.ensures.second, c.close_datagrams.ensures.acceptors) at c.close_acceptors.ensures.back) in
     let l = rw (c.part_transferred-dialers.ensures.first, c.part_transferred-dialers.ensures.second, c.close_acceptors.ensures.dialers, c.close_datagrams.ensures.dialers) at c.close_dialers.ensures.back in
-    is_run _ _ _ _ _ _ _ _ _ _ _ _ _ _ _ _ _ _ _ _ _ _ d a l one two three four five six
-    (λ is. (j.session_one is, j.session_two is, j.links_one is, j.links_two is, j.fed_one is, j.fed_two is, λ must. j.dialed is (dials_so c.args.store _ c.is_none-must_dial.ensures must)))
+    is_run _ _ _ _ _ _ _ _ _ _ _ _ _ _ _ _ _ _ _ _ _ _ _ _ _ _ d a l one two three four five six
+    (λ is. (j.session_one is, j.session_two is, j.links_one is, j.links_two is, j.fed_one is, j.fed_two is, j.heard_one is, j.heard_two is, j.heard_three is, j.heard_four is, j.clear_one is, j.clear_two is, λ must. j.dialed is (dials_so c.args.store _ c.is_none-must_dial.ensures must)))
+    j.memory
 
 pub returns-clause-port : goal.returns-clause-port
 returns-clause-port g c is =
@@ -47,3 +48,19 @@ run_crew-crew-requires-sync-B g c κs within =
     let shared = locked_sync _ (provisioner_send _ _ g.K.Sink g.J.Naming c.type_bounds.send-K c.type_bounds.send-J c.publishers_may_be_sent.ensures) in
     let store = store_send _ g.D.Disk c.type_bounds.send-D in
     record { shared = (keeping_sync record { mir = named 0; lft = _ } _ _ shared store).shared }
+
+pub returns-clause-back : goal.returns-clause-back
+returns-clause-back g c =
+    let r = c.run_crew-crew.ensures in
+    let l = c.part_listened-datagrams.ensures.readings in
+    let k = c.part_linked-acceptors.ensures.readings in
+    let t = c.part_transferred-dialers.ensures.readings in
+    let items = rw (l.0, l.1, k.0, k.1, t.0, t.1) at c.unseated.ensures in
+    six_back _ _ _ _ _ _ _ _ items record {
+      first = seated_more _ _ _ c.teach.ensures.first r.listening_one.more;
+      second = seated_more _ _ _ c.teach.ensures.second r.listening_two.more;
+      third = seated_more _ _ _ c.teach-2.ensures.first r.linking_one.more;
+      fourth = seated_more _ _ _ c.teach-2.ensures.second r.linking_two.more;
+      fifth = seated_more _ _ _ c.teach-3.ensures.first r.transferring_one.more;
+      sixth = seated_more _ _ _ c.teach-3.ensures.second r.transferring_two.more;
+    }

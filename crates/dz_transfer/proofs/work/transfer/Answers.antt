@@ -1,48 +1,60 @@
 use Rattle.std.proofs.Common.{sym, ◌∙◌, refl}
 use Rattle.dz_transfer.specs.declared.report.Report.TheVariants as report
-use Rattle.dz_transfer.proofs.WorkLemmas.{read_transfer, settled_work, fault_work, starved_work, settled_busy, failed_busy, settled_link, starved_link, settled_log, failed_log}
+use Rattle.dz_transfer.proofs.WorkLemmas.{read_transfer, settled_work, fault_work, starved_work, settled_busy, failed_busy, settled_link, starved_link, fault_memory, settled_log, failed_log, settled_among, failed_among}
 use Rattle.dz_transfer.proofs.work.transfer.Goals as goal
 
-pub settle-settled-requires-clause-transfer : goal.settle-settled-requires-clause-transfer
-settle-settled-requires-clause-transfer g c = read_transfer _ _ _ _ _ _ c.in-Finished.ensures.fetched
+pub settle-ended-requires-clause-transfer : goal.settle-ended-requires-clause-transfer
+settle-ended-requires-clause-transfer g c = read_transfer _ _ _ _ _ _ c.in-Finished.ensures.fetched
 
 pub returns-in-Finished-clause-worked : goal.returns-in-Finished-clause-worked
 returns-in-Finished-clause-worked g c =
-    rw c.settled_report.ensures
-    (settled_work c.args.job _ _ c.requires.standing c.requires.primary c.requires.key c.settle-settled.ensures.seen c.count.ensures.legal c.settle-settled.result c.in-Finished.finished _ _ _ _ c.in-Finished.ensures.fetched c.settle-settled.ensures.settled)
+    rw (c.dialled.ensures.report, c.dialled.ensures.ending, c.settled_report.ensures)
+    (settled_work c.args.job _ _ c.requires.due c.settle-ended.ensures.seen c.count.ensures.legal c.settle-ended.result.answer c.in-Finished.finished c.settle-ended.result.ending c.now-now.result _ _ _ _ c.in-Finished.ensures.fetched c.settle-ended.ensures.ending c.settle-ended.ensures.settled)
 
 pub returns-in-Finished-clause-busy : goal.returns-in-Finished-clause-busy
-returns-in-Finished-clause-busy g c = rw c.settled_report.ensures (settled_busy c.settle-settled.result)
+returns-in-Finished-clause-busy g c = rw (c.dialled.ensures.report, c.settled_report.ensures) (settled_busy c.settle-ended.result.answer)
 
 pub returns-in-Finished-clause-link : goal.returns-in-Finished-clause-link
-returns-in-Finished-clause-link g c = λ is. settled_link c.settle-settled.result (sym c.settled_report.ensures ∙ is)
+returns-in-Finished-clause-link g c = λ is. settled_link c.settle-ended.result.answer (sym c.settled_report.ensures ∙ (sym c.dialled.ensures.report ∙ is))
 
 pub returns-in-Finished-clause-log : goal.returns-in-Finished-clause-log
-returns-in-Finished-clause-log g c = λ is. c.settle-settled.ensures.cause (settled_log c.settle-settled.result (sym c.settled_report.ensures ∙ is))
+returns-in-Finished-clause-log g c = λ is. c.settle-ended.ensures.cause (settled_log c.settle-ended.result.answer (sym c.settled_report.ensures ∙ (sym c.dialled.ensures.report ∙ is)))
+
+pub returns-in-Finished-clause-ended : goal.returns-in-Finished-clause-ended
+returns-in-Finished-clause-ended g c = rw c.dialled.ensures.ending (settled_among _ c.args.job _ _ c.settle-ended.result.answer c.settle-ended.result.ending c.settle-ended.ensures.ending c.now-now.ensures.may)
 
 pub returns-in-LinkFault-clause-worked : goal.returns-in-LinkFault-clause-worked
 returns-in-LinkFault-clause-worked g c =
-    rw c.failed_report.ensures
-    (fault_work c.args.job _ _ c.requires.standing c.requires.primary c.requires.key c.fail-failed.ensures.seen c.count-in-LinkFault.ensures.legal c.fail-failed.result _ _ _ _ c.in-LinkFault.ensures.fetched c.fail-failed.ensures.failed)
+    rw (c.dialled-in-LinkFault.ensures.report, c.dialled-in-LinkFault.ensures.ending, c.failed_report.ensures)
+    (fault_work c.args.job _ _ c.requires.due c.fail-ended.ensures.seen c.count-in-LinkFault.ensures.legal c.fail-ended.result.answer c.fail-ended.result.ending c.now-now-in-LinkFault.result _ _ _ _ c.in-LinkFault.ensures.fetched c.fail-ended.ensures.ending c.fail-ended.ensures.failed)
 
 pub returns-in-LinkFault-clause-busy : goal.returns-in-LinkFault-clause-busy
-returns-in-LinkFault-clause-busy g c = rw c.failed_report.ensures (failed_busy c.fail-failed.result report.LinkFault refl)
+returns-in-LinkFault-clause-busy g c = rw (c.dialled-in-LinkFault.ensures.report, c.failed_report.ensures) (failed_busy c.fail-ended.result.answer report.LinkFault refl)
+
+pub returns-in-LinkFault-clause-memory : goal.returns-in-LinkFault-clause-memory
+returns-in-LinkFault-clause-memory g c = λ is. fault_memory c.fail-ended.result.answer (sym c.failed_report.ensures ∙ (sym c.dialled-in-LinkFault.ensures.report ∙ is))
 
 pub returns-in-LinkFault-clause-log : goal.returns-in-LinkFault-clause-log
 returns-in-LinkFault-clause-log g c =
-    λ is. c.fail-failed.ensures.cause (failed_log c.fail-failed.result report.LinkFault (λ bad. cc bad) (sym c.failed_report.ensures ∙ is))
+    λ is. c.fail-ended.ensures.cause (failed_log c.fail-ended.result.answer report.LinkFault (λ bad. cc bad) (sym c.failed_report.ensures ∙ (sym c.dialled-in-LinkFault.ensures.report ∙ is)))
+
+pub returns-in-LinkFault-clause-ended : goal.returns-in-LinkFault-clause-ended
+returns-in-LinkFault-clause-ended g c = rw c.dialled-in-LinkFault.ensures.ending (failed_among _ c.args.job _ c.fail-ended.result.answer c.fail-ended.result.ending c.fail-ended.ensures.ending c.now-now-in-LinkFault.ensures.may)
 
 pub returns-in-OutOfMemory-clause-worked : goal.returns-in-OutOfMemory-clause-worked
 returns-in-OutOfMemory-clause-worked g c =
-    rw c.failed_report-in-OutOfMemory.ensures
-    (starved_work c.args.job _ _ c.requires.standing c.requires.primary c.requires.key c.fail-failed-in-OutOfMemory.ensures.seen c.count-in-OutOfMemory.ensures.legal c.fail-failed-in-OutOfMemory.result _ _ _ _ c.in-OutOfMemory.ensures.fetched c.fail-failed-in-OutOfMemory.ensures.failed)
+    rw (c.dialled-in-OutOfMemory.ensures.report, c.dialled-in-OutOfMemory.ensures.ending, c.failed_report-in-OutOfMemory.ensures)
+    (starved_work c.args.job _ _ c.requires.due c.fail-ended-in-OutOfMemory.ensures.seen c.count-in-OutOfMemory.ensures.legal c.fail-ended-in-OutOfMemory.result.answer c.fail-ended-in-OutOfMemory.result.ending c.now-now-in-OutOfMemory.result _ _ _ _ c.in-OutOfMemory.ensures.fetched c.fail-ended-in-OutOfMemory.ensures.ending c.fail-ended-in-OutOfMemory.ensures.failed)
 
 pub returns-in-OutOfMemory-clause-busy : goal.returns-in-OutOfMemory-clause-busy
-returns-in-OutOfMemory-clause-busy g c = rw c.failed_report-in-OutOfMemory.ensures (failed_busy c.fail-failed-in-OutOfMemory.result report.OutOfMemory refl)
+returns-in-OutOfMemory-clause-busy g c = rw (c.dialled-in-OutOfMemory.ensures.report, c.failed_report-in-OutOfMemory.ensures) (failed_busy c.fail-ended-in-OutOfMemory.result.answer report.OutOfMemory refl)
 
 pub returns-in-OutOfMemory-clause-link : goal.returns-in-OutOfMemory-clause-link
-returns-in-OutOfMemory-clause-link g c = λ is. starved_link c.fail-failed-in-OutOfMemory.result (sym c.failed_report-in-OutOfMemory.ensures ∙ is)
+returns-in-OutOfMemory-clause-link g c = λ is. starved_link c.fail-ended-in-OutOfMemory.result.answer (sym c.failed_report-in-OutOfMemory.ensures ∙ (sym c.dialled-in-OutOfMemory.ensures.report ∙ is))
 
 pub returns-in-OutOfMemory-clause-log : goal.returns-in-OutOfMemory-clause-log
 returns-in-OutOfMemory-clause-log g c =
-    λ is. c.fail-failed-in-OutOfMemory.ensures.cause (failed_log c.fail-failed-in-OutOfMemory.result report.OutOfMemory (λ bad. cc bad) (sym c.failed_report-in-OutOfMemory.ensures ∙ is))
+    λ is. c.fail-ended-in-OutOfMemory.ensures.cause (failed_log c.fail-ended-in-OutOfMemory.result.answer report.OutOfMemory (λ bad. cc bad) (sym c.failed_report-in-OutOfMemory.ensures ∙ (sym c.dialled-in-OutOfMemory.ensures.report ∙ is)))
+
+pub returns-in-OutOfMemory-clause-ended : goal.returns-in-OutOfMemory-clause-ended
+returns-in-OutOfMemory-clause-ended g c = rw c.dialled-in-OutOfMemory.ensures.ending (failed_among _ c.args.job _ c.fail-ended-in-OutOfMemory.result.answer c.fail-ended-in-OutOfMemory.result.ending c.fail-ended-in-OutOfMemory.ensures.ending c.now-now-in-OutOfMemory.ensures.may)

@@ -1,14 +1,4 @@
-use Rattle.std.proofs.Common.{◌≡◌, true, take}
-use Rattle.std.specs.List.{AllAdjacentBelow}
-use Rattle.dz_index.specs.inner.Rows.{IsIndex, total}
-use Rattle.dz_zone.specs.Version.{owners_of}
-use Rattle.dz_zone.proofs.RecordLemmas.{is_before}
 use Rattle.dz_zone.proofs.index.index_rising.Given as goal
 
--- the index of the owners so far, each record of which comes before the next
-abbrev pub invariant-records : goal.invariant-records
-invariant-records l = record {
-  is : IsIndex (take l.place (owners_of l.records)) l.index;
-  long : total l.index ≡ l.place;
-  up : AllAdjacentBelow (λ a b. true ≡ is_before a b) l.records l.place;
-}
+abbrev pub ghosts-counted_rising : goal.ghosts-counted_rising
+ghosts-counted_rising a = record { name = a.blank.name; parts = a.blank.parts }

@@ -1,5 +1,5 @@
 use Rattle.std.proofs.Common.{arith, ◌+◌, ◌<◌, ◌≤◌, length, slice_index}
-use Rattle.dz_index.specs.inner.Rows.{count}
+use Rattle.dz_index.specs.Rows.{count}
 use Rattle.dz_index.proofs.SearchLemmas.{run_is}
 use Rattle.dz_index.proofs.index.Index.run_at.Goals as goal
 

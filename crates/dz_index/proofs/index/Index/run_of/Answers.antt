@@ -1,6 +1,6 @@
 use Rattle.std.proofs.Common.{◌-◌, arith, sym, ◌∙◌}
-use Rattle.dz_index.specs.inner.Rows.{count, total, key_at}
-use Rattle.dz_index.proofs.SearchLemmas.{first_place, end_of_owner, end_of_none, has_it, has_other, takes_at_most}
+use Rattle.dz_index.specs.Rows.{count, total, key_at}
+use Rattle.dz_index.proofs.SearchLemmas.{first_place, end_of_owner, end_of_none, has_it, has_other, takes_at_most, one_more, none_less}
 use Rattle.dz_index.proofs.index.Index.run_of.Goals as goal
 
 pub end-requires : goal.end-requires
@@ -19,7 +19,7 @@ returns-then-has_key-clause-end g c = λ owners index.
 
 pub returns-then-has_key-clause-cost : goal.returns-then-has_key-clause-cost
 returns-then-has_key-clause-cost g c =
-    takes_at_most (count c.args.self.now) (total c.args.self.now) (c.search-found.new.steps - c.args.steps.now) _ c.search-found.ensures.few c.search-found.ensures.cost (omega (arith, c.has_key.ensures.once, c.search-found.ensures.counted))
+    takes_at_most (count c.args.self.now) (total c.args.self.now) (c.search-found.new.steps - c.args.steps.now) _ c.search-found.ensures.few c.search-found.ensures.cost (omega (arith, one_more c.search-found.result (count c.args.self.now) c.search-found.new.steps c.has_key.new.steps c.search-found.ensures.within c.has_key.ensures.one c.has_key.ensures.none, c.search-found.ensures.counted))
 
 pub returns-else-has_key-clause-begin : goal.returns-else-has_key-clause-begin
 returns-else-has_key-clause-begin g c = λ owners index.
@@ -34,4 +34,12 @@ returns-else-has_key-clause-end g c = λ owners index.
 
 pub returns-else-has_key-clause-cost : goal.returns-else-has_key-clause-cost
 returns-else-has_key-clause-cost g c =
-    takes_at_most (count c.args.self.now) (total c.args.self.now) (c.search-found.new.steps - c.args.steps.now) _ c.search-found.ensures.few c.search-found.ensures.cost (omega (arith, c.has_key.ensures.once, c.search-found.ensures.counted))
+    takes_at_most (count c.args.self.now) (total c.args.self.now) (c.search-found.new.steps - c.args.steps.now) _ c.search-found.ensures.few c.search-found.ensures.cost (omega (arith, one_more c.search-found.result (count c.args.self.now) c.search-found.new.steps c.has_key.new.steps c.search-found.ensures.within c.has_key.ensures.one c.has_key.ensures.none, c.search-found.ensures.counted))
+
+pub returns-then-has_key-clause-counted : goal.returns-then-has_key-clause-counted
+returns-then-has_key-clause-counted g c =
+    omega (arith, none_less c.search-found.result (count c.args.self.now) c.search-found.new.steps c.has_key.new.steps c.search-found.ensures.within c.has_key.ensures.one c.has_key.ensures.none, c.search-found.ensures.counted)
+
+pub returns-else-has_key-clause-counted : goal.returns-else-has_key-clause-counted
+returns-else-has_key-clause-counted g c =
+    omega (arith, none_less c.search-found.result (count c.args.self.now) c.search-found.new.steps c.has_key.new.steps c.search-found.ensures.within c.has_key.ensures.one c.has_key.ensures.none, c.search-found.ensures.counted)

@@ -1,6 +1,6 @@
-use Rattle.std.proofs.Common.{arith, ◌-◌, ◌+◌, ◌≡◌, ◌/◌, ◌<◌, true, false}
+use Rattle.std.proofs.Common.{arith, ap, ◌∙◌, ◌-◌, ◌+◌, ◌≡◌, ◌/◌, ◌<◌, true, false}
 use Rattle.std.specs.Ordering.{is_lt}
-use Rattle.dz_index.specs.inner.Rows.{count, key_at, compared}
+use Rattle.dz_index.specs.Rows.{Rows, count, key_at, compared}
 use Rattle.dz_index.proofs.SearchLemmas.{halved, doubled, told, before_more, behind_more}
 use Rattle.dz_index.proofs.index.Index.search.Goals as goal
 
@@ -9,7 +9,7 @@ search-preserved-then-is_lt g c =
     let middle = c.search.low + (c.search.high - c.search.low) / 2 in
     let taken = c.search.steps - c.args.steps.now in
     let one : c.compare.new.steps - c.args.steps.now ≡ taken + 1 = omega (arith, c.compare.ensures.counted, c.search.invariant.counted) in
-    let lower : is_lt (compared (key_at c.args.self.now middle) c.args.key.now) ≡ true = told _ _ _ _ c.compare.ensures.value c.is_lt.ensures c.if-is_lt.true in
+    let lower : is_lt (compared (key_at c.args.self.now middle) c.args.key.now) ≡ true = told _ _ _ _ (c.compare.ensures.value ∙ ap (λ (r : Rows). compared (key_at r middle) c.args.key.now) c.self.view_is) c.is_lt.ensures c.if-is_lt.true in
     let within : middle < count c.args.self.now = omega (arith, c.search.invariant.within, c.search-test.true) in
     record {
       order = omega (arith, c.search-test.true);
@@ -26,7 +26,7 @@ search-preserved g c =
     let middle = c.search.low + (c.search.high - c.search.low) / 2 in
     let taken = c.search.steps - c.args.steps.now in
     let one : c.compare.new.steps - c.args.steps.now ≡ taken + 1 = omega (arith, c.compare.ensures.counted, c.search.invariant.counted) in
-    let upper : is_lt (compared (key_at c.args.self.now middle) c.args.key.now) ≡ false = told _ _ _ _ c.compare.ensures.value c.is_lt.ensures c.if-is_lt.false in
+    let upper : is_lt (compared (key_at c.args.self.now middle) c.args.key.now) ≡ false = told _ _ _ _ (c.compare.ensures.value ∙ ap (λ (r : Rows). compared (key_at r middle) c.args.key.now) c.self.view_is) c.is_lt.ensures c.if-is_lt.false in
     record {
       order = omega (arith, c.search-test.true);
       within = omega (arith, c.search.invariant.within, c.search-test.true);

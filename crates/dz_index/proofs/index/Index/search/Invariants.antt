@@ -2,7 +2,7 @@ use Rattle.std.proofs.Common.{◌≡◌, ℕ, ◌*◌, ◌<◌, ◌≤◌, ◌-�
 use Rattle.std.specs.Prelude.{◌^◌}
 use Rattle.std.specs.Ordering.{is_lt}
 use Rattle.dz_index.specs.Index.{IsSearch}
-use Rattle.dz_index.specs.inner.Rows.{count, key_at, compared, AreRising}
+use Rattle.dz_index.specs.Rows.{count, key_at, compared, AreRising}
 use Rattle.dz_index.proofs.index.Index.search.Given as goal
 
 -- what is left to search halves with each step, and the keys on either side of it are told

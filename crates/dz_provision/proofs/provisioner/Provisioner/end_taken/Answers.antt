@@ -7,7 +7,7 @@ use Rattle.dz_provision.specs.Log.{settled_lines}
 use Rattle.dz_provision.specs.inner.Writing.{log_of}
 use Rattle.dz_provision.proofs.LogLemmas.{joins_listed}
 use Rattle.dz_provision.proofs.TakenLemmas.{weighed_legal, weighed_lines, settled_list, settled_lines_of, offered_of}
-use Rattle.dz_provision.proofs.HeldLemmas.{Agrees, agrees, settled_so, starved_so, note_so, room}
+use Rattle.dz_provision.proofs.HeldLemmas.{Agrees, agrees, settled_so, note_so, room}
 use Rattle.dz_provision.proofs.provisioner.Provisioner.end_taken.Goals as goal
 
 pub stage-requires-clause-room : goal.stage-requires-clause-room
@@ -21,14 +21,8 @@ stage-requires-clause-legal g c =
     let ready = rw (← c.self.view_is) at c.requires.ready in
     rw (← c.self.invariant.0, c.requires.entry) (weighed_legal c.self.inside.fleet c.args.job c.args.ready.weighed c.count.ensures.sound fly ready.fits c.requires.taken c.held.ensures.valid)
 
-pub returns-in-Err-clause-settled : goal.returns-in-Err-clause-settled
-returns-in-Err-clause-settled g c =
-    let before = rw (← c.self.view_is) at c.requires.before in
-    let fly = rw (← c.self.view_is) at c.requires.flying in
-    rw (← c.self.view_is) (starved_so _ c.starve.new.self c.args.job _ c.args.ready.moment c.starve.result.0 c.starve.result.1 before fly c.starve.ensures.settled)
-
-pub invariant_of-self-in-Ok : goal.invariant_of-self-in-Ok
-invariant_of-self-in-Ok g c =
+pub invariant_of-self : goal.invariant_of-self
+invariant_of-self g c =
     let a = log_of (g.K.Sink.held c.self.inside.output) (g.K.Sink.faults c.self.inside.output) c.self.inside.log_failed in
     let kept : Agrees c.self.inside.fleet.list a = record { logged = c.self.invariant.3; cause = c.self.invariant.4 } in
     let before = rw (← c.self.view_is) at c.requires.before in
@@ -39,8 +33,8 @@ invariant_of-self-in-Ok g c =
     ap (λ (x : Core). x.list) c.settle-verdict.ensures.core ∙ settled_list c.self.inside.fleet c.args.job w c.count.ensures.sound fly ready.fits c.requires.taken w.moment in
     let right : c.self.inside.publisher.list ++ c.args.step.entry ∷ [] ≡ c.publish-told.new.self.list = search rules in
     let lines : c.as_slice.result.now ≡ verdict_lines c.args.job.flight.zone w.verdict = c.as_slice.ensures.value ∙ ready.lines in
-    let more : journal c.settle-verdict.new.self.list ≡ journal c.self.inside.fleet.list ++ c.as_slice.result.now =
-    ap journal left ∙ (weighed_lines c.self.inside.fleet c.args.job w c.count.ensures.sound fly ready.fits c.requires.taken ∙ ap (λ l. journal c.self.inside.fleet.list ++ l) (sym lines)) in
+    let more : journal c.settle-verdict.new.self.list ≡ journal c.self.inside.fleet.list ++ c.as_slice.result.now ∷ [] =
+    ap journal left ∙ (weighed_lines c.self.inside.fleet c.args.job w c.count.ensures.sound fly ready.fits c.requires.taken ∙ ap (λ l. journal c.self.inside.fleet.list ++ l ∷ []) (sym lines)) in
     let ok = agrees c.self.inside.fleet.list c.settle-verdict.new.self.list c.as_slice.result.now c.log-logged.result a _ before kept (joins_listed c.self.inside.fleet.list c.settle-verdict.new.self.list c.as_slice.result.now more) c.log-logged.ensures in
     (left ∙ (ap (λ l. l ++ w.entry ∷ []) c.self.invariant.0 ∙ (ap (λ e. c.self.inside.publisher.list ++ e ∷ []) (sym c.requires.entry) ∙ right)), search rules, search rules, ok.logged, ok.cause)
 

@@ -1,0 +1,121 @@
+//! The keys of an index, which a counted comparison alone reads.
+
+ghost use Rattle.std.specs.Prelude.{◌≡◌, ◌+◌, ◌^◌, ◌<◌, ◌≤◌, [], ◌∷◌, ◌++◌, length, slice_index, slice_index_or, slice_range, IfOk, OnOk, OnErr};
+ghost use Rattle.dz_index.specs.Rows.{compared};
+ghost use Rattle.dz_index.specs.inner.Parts.{AreBounds};
+
+use crate::index::OWNERS;
+use crate::sort_key::ROOM;
+use dz_steps::Steps;
+use std::alloc::{AllocError, Global};
+use std::cmp::Ordering;
+use std::fmt;
+use std::marker::Model;
+use std::sync::ledger::Ledger;
+
+/// The sort keys of owners: all in one block of octets, and four octets beside each. No code outside this module sees an
+/// octet of a key; it compares keys by [`Keys::compare`], which counts. Contracts see the keys.
+#[derive(Drop)]
+pub(crate) struct Keys {
+    octets: Vec<u8>,
+    bounds: Vec<u32>,
+}
+
+impl Model for Keys {
+    ghost use Rattle.std.specs.Prelude.{List};
+    ghost use Rattle.dz_name.specs.Words.{Octets};
+    ghost use Rattle.dz_index.specs.inner.Parts.{parts_of, AreBounds};
+
+    ghost Value = { List Octets };
+
+    ghost view = { λ k. parts_of k.octets.items k.bounds.items };
+
+    ghost invariant = { λ k. AreBounds k.octets.items k.bounds.items };
+}
+
+/// Shows how many keys there are, and no octet of them.
+impl fmt::Debug for Keys {
+    fn fmt<W: fmt::Write>(&self, f: &mut fmt::Formatter<W>) -> fmt::Result {
+        write!(f, "{} keys", self.len())
+    }
+}
+
+impl Keys {
+    /// No key yet.
+    pub(crate) fn empty(alloc: Global) -> Result<Keys, AllocError>
+        ensures { IfOk result (λ keys. keys ≡ []) }
+    {
+        Ok(Keys {
+            octets: Vec::new(alloc),
+            bounds: vec![in alloc; 0]?,
+        })
+    }
+
+    /// How many keys there are.
+    pub(crate) fn len(&self) -> usize
+        ensures { result ≡ length self.now }
+    {
+        self.bounds.len() - 1
+    }
+
+    /// How the key of a number compares with another one. It is one step.
+    pub(crate) fn compare<L: Ledger>(
+        &self,
+        number: usize,
+        key: &[u8],
+        steps: &mut Steps<L>,
+    ) -> Ordering
+        requires { number < length self.now }
+        ensures value { result ≡ compared (slice_index_or self.now number []) key.now }
+        ensures counted { steps.new ≡ steps.old + 1 }
+    {
+        steps.tick();
+        self.key(number).cmp(key)
+    }
+
+    /// One more key after the others. Where memory is wanting, none is added.
+    pub(crate) fn push(&mut self, key: &[u8]) -> Result<(), AllocError>
+        requires few { length self.old < OWNERS }
+        requires room { length key.now ≤ ROOM }
+        ensures value { OnOk result (self.new ≡ self.old ++ key.now ∷ []) }
+        ensures wanting { OnErr result (self.new ≡ self.old) }
+    {
+        push_part(&mut self.octets, &mut self.bounds, key)?;
+        Ok(())
+    }
+
+    fn key(&self, number: usize) -> &[u8]
+        requires { number < length self.now }
+        ensures { result.now ≡ slice_index_or self.now number [] }
+    {
+        part(self.octets.as_slice(), self.bounds.as_slice(), number)
+    }
+}
+
+/// The octets from one bound up to the next.
+fn part<'a>(octets: &'a [u8], bounds: &[u32], number: usize) -> &'a [u8]
+    requires bounds { AreBounds octets.now bounds.now }
+    requires within { number + 1 < length bounds.now }
+    ensures { result.now ≡ slice_range octets.now (slice_index bounds.now number)
+        (slice_index bounds.now (number + 1)) }
+{
+    &octets[bounds[number] as usize..bounds[number + 1] as usize]
+}
+
+/// One more part after the others. Where memory is wanting, none is added.
+fn push_part(octets: &mut Vec<u8>, bounds: &mut Vec<u32>, part: &[u8]) -> Result<(), AllocError>
+    requires { length octets.old.items + length part.now < 2 ^ 32 }
+    ensures octets { OnOk result (octets.new.items ≡ octets.old.items ++ part.now) }
+    ensures bounds { OnOk result (bounds.new.items
+        ≡ bounds.old.items ++ (length octets.old.items + length part.now) ∷ []) }
+    ensures wanting_octets { OnErr result (octets.new.items ≡ octets.old.items) }
+    ensures wanting_bounds { OnErr result (bounds.new.items ≡ bounds.old.items) }
+{
+    let before = octets.len();
+    octets.extend_from_slice(part)?;
+    if bounds.push(octets.len() as u32).is_err() {
+        octets.truncate(before);
+        return Err(AllocError);
+    }
+    Ok(())
+}

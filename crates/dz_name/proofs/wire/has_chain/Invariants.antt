@@ -1,0 +1,7 @@
+use Rattle.std.proofs.Common.{ℕ, ◌<◌}
+use Rattle.dz_name.specs.inner.Landings.{LeadsTo, LeadsOn}
+use Rattle.dz_name.proofs.wire.has_chain.Given as goal
+
+-- no pointer so far leads to one that leads on
+abbrev pub invariant-offsets : goal.invariant-offsets
+invariant-offsets l = (at : ℕ) → at < l.at → (target : ℕ) → LeadsTo l.message at target → ¬ LeadsOn l.message target

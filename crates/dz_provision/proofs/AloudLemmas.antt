@@ -1,0 +1,59 @@
+-- Events whose lines were all written.
+use Rattle.std.proofs.Common.{◌≡◌, ℕ, true, false, Result, Ok, Err, refl, subst}
+use Rattle.std.specs.Prelude.{IfOk, OnOk, MatchResult}
+use Rattle.dz_io.specs.declared.peer.Peer.{Peer}
+use Rattle.dz_name.specs.Words.{Name, Octets}
+use Rattle.dz_notify.specs.declared.notify.Heard.{Heard}
+use Rattle.dz_job.specs.Job.{JobOf}
+use Rattle.dz_job.specs.declared.verdict.Verdict.{Verdict}
+use Rattle.dz_job.specs.declared.verdict.Verdict.TheVariants.{Published, Confirmed, Refused, PolicyRefused, Stale, OutOfMemory}
+use Rattle.dz_job.specs.declared.verdict.Failure.{Failure}
+use Rattle.dz_desk.specs.Seen.{Page}
+use Rattle.dz_desk.specs.declared.ear.Hearing.TheVariants as hearing
+use Rattle.dz_report.specs.Lines.{verdict_lines}
+use Rattle.dz_provision.specs.declared.provisioner.LogFault.{LogFault}
+use Rattle.dz_provision.specs.declared.provisioner.Unmade.{Unmade}
+use Rattle.dz_provision.specs.declared.provisioner.Unmade.TheVariants as unmade
+use Rattle.dz_provision.specs.inner.Ready.{is_want}
+use Rattle.dz_provision.specs.Held.{Held, IsSettled, IsFailed, IsHeard, IsSaid, IsSettledAloud, IsFailedAloud, IsHeardAloud}
+
+-- a verdict that isn't want of memory, and want of memory whose line was said
+module _ (h : Held) (job : JobOf) (octets : Octets) (now : ℕ) where
+  pub aloud : (v : Verdict) (note : Page) (k : Held) → is_want v ≡ false → IsSettled h job octets now (Ok (v, note)) k → IsSettledAloud h job octets now v k
+  unfolding IsSettledAloud
+  aloud OutOfMemory note k other is = absurd (cc other)
+  aloud (Published n serial aftermath) note k other is = (note, is)
+  aloud (Confirmed n serial) note k other is = (note, is)
+  aloud (Refused fault) note k other is = (note, is)
+  aloud (PolicyRefused standing) note k other is = (note, is)
+  aloud (Stale n) note k other is = (note, is)
+
+  want_is : (v : Verdict) → is_want v ≡ true → v ≡ OutOfMemory
+  want_is OutOfMemory is = refl
+  want_is (Published n serial aftermath) is = absurd (cc is)
+  want_is (Confirmed n serial) is = absurd (cc is)
+  want_is (Refused fault) is = absurd (cc is)
+  want_is (PolicyRefused standing) is = absurd (cc is)
+  want_is (Stale n) is = absurd (cc is)
+
+  starved : (r : Result Verdict Unmade) (note : Page) (between k : Held) → IsSettled h job octets now (Ok (OutOfMemory, note)) between → MatchResult r (λ v. v ≡ OutOfMemory) (λ u. u ≡ unmade.LogFault)
+      → OnOk r (IsSaid between (verdict_lines job.flight.zone OutOfMemory) (Ok tt) k) → IfOk r (λ v. IsSettledAloud h job octets now v k)
+  unfolding IsSettledAloud
+  starved (Ok v) note between k is want said = rw want (between, note, is, said)
+  starved (Err u) note between k is want said = tt
+
+  pub aloud_starved : (v : Verdict) (r : Result Verdict Unmade) (note : Page) (between k : Held) → is_want v ≡ true → IsSettled h job octets now (Ok (v, note)) between → MatchResult r (λ v. v ≡ OutOfMemory) (λ u. u ≡ unmade.LogFault)
+      → OnOk r (IsSaid between (verdict_lines job.flight.zone OutOfMemory) (Ok tt) k) → IfOk r (λ v. IsSettledAloud h job octets now v k)
+  aloud_starved v r note between k wants is = starved r note between k (subst (λ w. IsSettled h job octets now (Ok (w, note)) between) (want_is v wants) is)
+
+pub failed_aloud : (h k : Held) (job : JobOf) (now : ℕ) (f : Failure) (note : Page) → IsFailed h job now (Ok (f, note)) k → IsFailedAloud h job now f k
+unfolding IsFailedAloud
+failed_aloud h k job now f note is = (note, is)
+
+pub heard_aloud : (h k : Held) (peer : Peer) (zone : Name) (how : Heard) (note : Page) → IsHeard h peer zone (Ok (how, note)) k → IsHeardAloud h peer zone (hearing.Heard how) k
+unfolding IsHeardAloud
+heard_aloud h k peer zone how note is = (note, is)
+
+pub fault_aloud : (h k : Held) (peer : Peer) (zone : Name) (fault : LogFault) → IsHeard h peer zone (Err fault) k → IsHeardAloud h peer zone hearing.LogFault k
+unfolding IsHeardAloud
+fault_aloud h k peer zone fault is = (fault, is)

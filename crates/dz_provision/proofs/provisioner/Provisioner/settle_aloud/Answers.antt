@@ -1,0 +1,29 @@
+use Rattle.std.proofs.Common.{ap, sym, ◌∙◌}
+use Rattle.dz_desk.specs.Seen.{Viewed}
+use Rattle.dz_provision.proofs.FaultLemmas.{settled_fault}
+use Rattle.dz_provision.proofs.SettledLemmas.{settled_ok, settled_err, settled_last}
+use Rattle.dz_provision.proofs.AloudLemmas.{aloud, aloud_starved}
+use Rattle.dz_provision.proofs.provisioner.Provisioner.settle_aloud.Goals as goal
+
+pub returns-in-Err-clause-settled : goal.returns-in-Err-clause-settled
+returns-in-Err-clause-settled g c = settled_err _ _ c.args.job c.args.now _ c.in-Err.unmade _ c.requires.list c.in-Err.ensures.settled
+
+pub returns-in-Err-clause-cause : goal.returns-in-Err-clause-cause
+returns-in-Err-clause-cause g c = λ is. c.has_failed.ensures.cause (settled_fault _ _ c.args.job _ c.args.now c.in-Err.unmade c.in-Err.ensures.settled (cc is))
+
+pub returns-else-is_want-clause-settled : goal.returns-else-is_want-clause-settled
+returns-else-is_want-clause-settled g c =
+    let used = rw c.requires.transfer at c.octets.ensures.used in
+    settled_ok _ _ c.args.job c.args.now _ c.in-Ok.verdict c.in-Ok.told _ _ used c.requires.list c.in-Ok.ensures.settled c.in-Ok.ensures.note.0 c.show_taken.ensures.taken (λ f. ap (λ (r : Viewed). r.list) (c.show_taken.ensures.untaken f))
+
+pub returns-else-is_want-clause-last : goal.returns-else-is_want-clause-last
+returns-else-is_want-clause-last g c = λ takes.
+    let used = rw c.requires.transfer at c.octets.ensures.used in
+    settled_last _ _ c.args.job c.args.now _ c.in-Ok.verdict c.in-Ok.told used c.in-Ok.ensures.settled takes
+
+pub returns-else-is_want-clause-made : goal.returns-else-is_want-clause-made
+returns-else-is_want-clause-made g c = aloud _ c.args.job _ c.args.now c.in-Ok.verdict c.in-Ok.told _ (sym c.is_want.ensures ∙ c.if-is_want.false) c.in-Ok.ensures.settled
+
+pub returns-then-is_want-clause-made : goal.returns-then-is_want-clause-made
+returns-then-is_want-clause-made g c =
+    aloud_starved _ c.args.job _ c.args.now c.in-Ok.verdict c.say_starved.result c.in-Ok.told _ _ (sym c.is_want.ensures ∙ c.if-is_want.true) c.in-Ok.ensures.settled c.say_starved.ensures.answer (rw c.zone.ensures at c.say_starved.ensures.said)

@@ -1,4 +1,0 @@
-use Rattle.dz_tests.proofs.reply.table_of.Given as goal
-
-abbrev pub ghosts-counted_table : goal.ghosts-counted_table
-ghosts-counted_table a = record { name = a.blank.name; parts = a.blank.parts }

@@ -1,4 +1,0 @@
-use Rattle.dz_tests.proofs.serve.play.Given as goal
-
-abbrev pub ghosts-serve_input : goal.ghosts-serve_input
-ghosts-serve_input g a = record { publisher = a.desk.publisher.book }
