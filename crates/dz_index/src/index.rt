@@ -92,7 +92,7 @@ impl Index {
 
     /// One more owner after the others, or the last one once more, in place; and how the last one compares with it,
     /// which is before it where there is none. An owner that comes before the last one isn't added, nor is one where
-    /// memory is wanting. It takes one comparison where there is an owner already, and none where there is none.
+    /// memory runs out. It takes one comparison where there is an owner already, and none where there is none.
     pub fn put<L: Ledger>(
         &mut self,
         name: &NameRef<'_>,
@@ -277,7 +277,7 @@ impl Index {
         self.firsts[last] += 1;
     }
 
-    /// An owner with a key of its own after the others. Where memory is wanting, nothing is added.
+    /// An owner with a key of its own after the others. If memory runs out, nothing is added.
     fn add(&mut self, key: &[u8]) -> Result<(), AllocError>
         requires few { total self.old < OWNERS }
         requires room { length key.now ≤ ROOM }

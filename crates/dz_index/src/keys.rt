@@ -73,7 +73,7 @@ impl Keys {
         self.key(number).cmp(key)
     }
 
-    /// One more key after the others. Where memory is wanting, none is added.
+    /// One more key after the others. If memory runs out, none is added.
     pub(crate) fn push(&mut self, key: &[u8]) -> Result<(), AllocError>
         requires few { length self.old < OWNERS }
         requires room { length key.now ≤ ROOM }
@@ -102,7 +102,7 @@ fn part<'a>(octets: &'a [u8], bounds: &[u32], number: usize) -> &'a [u8]
     &octets[bounds[number] as usize..bounds[number + 1] as usize]
 }
 
-/// One more part after the others. Where memory is wanting, none is added.
+/// One more part after the others. If memory runs out, none is added.
 fn push_part(octets: &mut Vec<u8>, bounds: &mut Vec<u32>, part: &[u8]) -> Result<(), AllocError>
     requires { length octets.old.items + length part.now < 2 ^ 32 }
     ensures octets { OnOk result (octets.new.items ≡ octets.old.items ++ part.now) }

@@ -75,7 +75,7 @@ pub struct Parts<K> {
     pub log_failed: bool,
 }
 
-/// What a provisioner would have been made of. Memory was wanting.
+/// What a provisioner would have been made of. Memory ran out.
 pub struct Unstarted<K> {
     pub publisher: Publisher,
     pub output: K,
@@ -86,7 +86,7 @@ impl<K: Sink, J: Naming> Provisioner<K, J> {
     ///
     /// # Errors
     ///
-    /// `Unstarted` where memory is wanting; the publisher and the output are then as they were.
+    /// `Unstarted` where memory runs out; the publisher and the output are then as they were.
     pub fn start<R: Wait>(
         rt: &R,
         alloc: Global,

@@ -37,7 +37,7 @@ pub enum Restored {
     Done,
     /// A write to the log has failed.
     LogFault,
-    /// Memory is wanting.
+    /// Memory ran out.
     OutOfMemory,
 }
 
@@ -53,7 +53,7 @@ struct Places {
 /// kept version where the kept catalog and label are those of its membership and the catalog has no key, and else it fails
 /// at moment 0. From a fault of the disk on nothing counts as kept. The reading is then shown the list.
 ///
-/// It answers `LogFault` where a write to the log has failed, and `OutOfMemory` where memory is wanting.
+/// It answers `LogFault` where a write to the log has failed, and `OutOfMemory` where memory runs out.
 pub fn restore<K: Sink, J: Naming, D: Disk + Drop, R: Wait>(
     rt: &R,
     alloc: Global,
@@ -214,7 +214,7 @@ fn tale_of<D: Disk + Drop>(
     }
 }
 
-/// Whether memory was wanting for a transfer.
+/// Whether memory ran out for a transfer.
 fn is_starved(verdict: &Verdict) -> bool
     ensures { result ≡ true ↔ verdict.now ≡ Verdict.OutOfMemory }
 {

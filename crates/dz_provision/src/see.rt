@@ -161,7 +161,7 @@ impl<K: Sink, J: Naming> Provisioner<K, J> {
         }
     }
 
-    /// Says that memory was wanting for the transfer of a zone.
+    /// Says that memory ran out for the transfer of a zone.
     fn say_starved(&mut self, zone: &Name) -> Result<Verdict, Unmade>
         ensures answer { MatchResult result (λ verdict. verdict ≡ Verdict.OutOfMemory)
             (λ unmade. unmade ≡ Unmade.LogFault) }
@@ -213,7 +213,7 @@ impl<K: Sink, J: Naming> Provisioner<K, J> {
     }
 }
 
-/// Whether memory was wanting.
+/// Whether memory ran out.
 fn is_want(verdict: &Verdict) -> bool
     ensures { result ≡ is_want verdict.now }
 {

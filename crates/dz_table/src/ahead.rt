@@ -63,7 +63,7 @@ impl<'a> Ahead<'a> {
     ///
     /// # Errors
     ///
-    /// `AllocError` where memory is wanting.
+    /// `AllocError` if memory runs out.
     pub fn slot<L: Ledger>(
         &mut self,
         alloc: Global,

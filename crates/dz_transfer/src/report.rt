@@ -128,7 +128,7 @@ pub(crate) fn absent_of(report: &Report) -> u64
     }
 }
 
-/// 1 where memory was wanting, and else 0.
+/// 1 where memory ran out, and else 0.
 pub(crate) fn starved_of(report: &Report) -> u64
     ensures { result ≡ starved_of report.now }
 {
