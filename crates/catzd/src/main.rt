@@ -54,7 +54,7 @@ fn main(rt: HostRuntime) -> ExitCode {
         Ok(desk) => desk,
         Err(error) => return exit_code(Err(error)),
     };
-    let bell = Bell::new(alloc);
+    let bell = bell_of(&rt, alloc, is_serve);
     let output = WriteSink::new(LogWriter::new(&rt, &bell, rt.stdout()));
     let mut ports = HostPorts::new(&rt, alloc, &bell);
     let clock = HostClock::new(&rt, &bell);
@@ -123,6 +123,15 @@ fn tell_advice<R: Eprint>(rt: &R, alloc: Global, text: &[u8]) {
     if let Some(advice) = advise(alloc, text) {
         let _ = rt.eprintln(format_args!("catzd: configuration, {advice}"));
     }
+}
+
+/// The bell that all share. Where the program is to serve, it has figures written as the environment asks.
+fn bell_of<R: Env + Alloc + Eprint + Clock>(rt: &R, alloc: Global, is_server: bool) -> Bell {
+    let bell = Bell::new(alloc);
+    if is_server {
+        bell.begin_figures(rt);
+    }
+    bell
 }
 
 /// The file in which zones are kept. Where it is to be used, it is written anew if most of it no longer counts.

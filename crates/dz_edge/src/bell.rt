@@ -1,4 +1,5 @@
 //! The bell that wakes the workers that rest.
+use crate::figures::Figures;
 use crate::kind::Kind;
 use crate::notifies::Notifies;
 use crate::stop::Stop;
@@ -7,8 +8,8 @@ use std::fs::{File, Files};
 use std::sync::{Condvar, CondvarTimeouts, Mutex, Wait};
 use std::time::{Clock, Duration};
 
-/// What the devices and clocks of a server share: a bell, whether the server is to stop, which devices work, and the
-/// NOTIFYs.
+/// What the devices and clocks of a server share: a bell, whether the server is to stop, which devices work, the
+/// NOTIFYs, and what is counted.
 ///
 /// The bell rings where a NOTIFY was taken, where a worker has found work, and where the server is to stop. A worker
 /// that rests remembers how often it had rung when the worker last went on, so it misses no ring.
@@ -23,6 +24,7 @@ pub struct Bell {
     pub(crate) datagrams: Kind,
     /// The acceptors.
     pub(crate) acceptors: Kind,
+    pub(crate) figures: Figures,
 }
 
 impl Bell {
@@ -35,6 +37,7 @@ impl Bell {
             notifies: Notifies::new(alloc),
             datagrams: Kind::new("UDP"),
             acceptors: Kind::new("TCP"),
+            figures: Figures::new(),
         }
     }
 

@@ -5,6 +5,7 @@ ghost use Rattle.dz_edge.specs.declared.waiting.TheConstants.{WAITING_OCTETS};
 
 use crate::connection::Connection;
 use crate::replies::ROOM_OCTETS;
+use crate::tally::{Guests, count};
 use crate::waiting::Waiting;
 use std::alloc::{AllocError, Global};
 use std::collections::VecDeque;
@@ -30,6 +31,8 @@ pub(crate) struct Crowd {
     /// The octets that wait at all places together, which are never more than may wait.
     waiting: Waiting,
     ghost sum: { waiting.octets ≡ waiting_at places.items },
+    /// What was counted since it was last added to the figures.
+    pub guests: Guests,
 }
 
 impl Crowd {
@@ -50,6 +53,7 @@ impl Crowd {
             for_zones: VecDeque::with_capacity(alloc, size)?,
             later: VecDeque::with_capacity(alloc, size)?,
             waiting: Waiting::new(),
+            guests: Guests::new(),
         })
     }
 
@@ -65,18 +69,19 @@ impl Crowd {
         if self.free.is_empty() {
             self.drop_oldest();
         }
+        count(&mut self.guests.taken, !self.free.is_empty());
         self.free.pop()
     }
 
     /// Where an address has as many connections as it may, the oldest of them is closed.
     pub fn make_room_for(&mut self, address: [u8; 4]) {
-        let mut count = 0_usize;
+        let mut same = 0_usize;
         let mut oldest = u64::MAX;
         let mut found = None;
         'places: for (place, slot) in self.places.iter().enumerate() {
             if let Some(connection) = slot {
                 if connection.peer.address == address {
-                    count = count.saturating_add(1);
+                    same = same.saturating_add(1);
                     if connection.seen() < oldest {
                         oldest = connection.seen();
                         found = Some(place);
@@ -84,7 +89,8 @@ impl Crowd {
                 }
             }
         }
-        if let (true, Some(place)) = (count >= ADDRESS_CONNECTIONS, found) {
+        if let (true, Some(place)) = (same >= ADDRESS_CONNECTIONS, found) {
+            count(&mut self.guests.address, true);
             self.release(place);
         }
     }
@@ -95,6 +101,7 @@ impl Crowd {
     pub fn put(&mut self, place: usize, connection: Connection) -> bool {
         if !self.waiting.has_room(connection.waits()) {
             drop(connection);
+            count(&mut self.guests.unread, true);
             self.release(place);
             return false;
         }
@@ -111,7 +118,10 @@ impl Crowd {
         'places: for _ in 0..self.places.len() {
             let Slow { octets, place } = self.slow();
             match place {
-                Some(place) if octets > QUERY_OCTETS => self.release(place),
+                Some(place) if octets > QUERY_OCTETS => {
+                    count(&mut self.guests.unread, true);
+                    self.release(place);
+                }
                 _ => break,
             }
         }
@@ -168,6 +178,7 @@ impl Crowd {
     {
         if place < self.places.len() {
             let _gone = self.change(place, None);
+            count(&mut self.guests.ended, true);
             let _kept = self.free.push(place);
         }
     }
@@ -265,6 +276,7 @@ impl Crowd {
             }
         }
         if let Some(place) = found {
+            count(&mut self.guests.crowded, true);
             self.release(place);
         }
     }
@@ -288,6 +300,7 @@ impl Crowd {
         };
         let was_clogged = connection.is_clogged();
         let stands = connection.flush(now) && !connection.is_late(now);
+        count(&mut self.guests.idle, connection.is_late(now));
         let is_free = was_clogged && !connection.is_clogged();
         if !self.put(place, connection) {
             Look::Leave

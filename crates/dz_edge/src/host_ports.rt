@@ -91,18 +91,14 @@ impl<'a, R: Net<Stream = TcpStream> + Clock + Eprint + Files<File = File> + Wait
     ghost faults = { λ ports. ports.faults };
 
     /// A UDP socket at this address, for a worker; it fails where there is none.
-    fn open_datagrams(
-        &mut self,
-        listen: &Peer,
-        _worker: u8,
-    ) -> Result<UdpDatagrams<'a, R>, Failed> {
+    fn open_datagrams(&mut self, listen: &Peer, worker: u8) -> Result<UdpDatagrams<'a, R>, Failed> {
         self.begin(listen);
         let socket = share_socket(self.rt, &mut self.socket, listen);
         match (socket, self.datagrams_out.checked_add(1)) {
             (Some(socket), Some(out)) => {
                 self.datagrams_out = out;
                 self.bell.datagrams.open();
-                Ok(UdpDatagrams::new(self.rt, self.bell, socket))
+                Ok(UdpDatagrams::new(self.rt, self.bell, socket, worker))
             }
             _ => {
                 self.faults = self.faults.saturating_add(1);
@@ -112,9 +108,9 @@ impl<'a, R: Net<Stream = TcpStream> + Clock + Eprint + Files<File = File> + Wait
     }
 
     /// A TCP listener at this address, for a worker; it fails where there is none.
-    fn open_acceptor(&mut self, listen: &Peer, _worker: u8) -> Result<TcpAcceptor<'a, R>, Failed> {
+    fn open_acceptor(&mut self, listen: &Peer, worker: u8) -> Result<TcpAcceptor<'a, R>, Failed> {
         let listener = share_listener(self.rt, &mut self.listener, listen);
-        let acceptor = accept_at(self.rt, self.alloc, self.bell, listener);
+        let acceptor = accept_at(self.rt, self.alloc, self.bell, listener, worker);
         match (acceptor, self.acceptors_out.checked_add(1)) {
             (Some(acceptor), Some(out)) => {
                 self.acceptors_out = out;

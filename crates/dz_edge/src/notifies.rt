@@ -1,6 +1,7 @@
 //! NOTIFYs, which are delivered at a pace.
 ghost use Rattle.std.specs.Prelude.{◌≤◌, length, IfSome};
 
+use crate::figures::{Numbers, add};
 use crate::pacing::{NEVER, Pacing};
 use crate::work::{Work, has_log_room};
 use dz_io::Peer;
@@ -26,6 +27,7 @@ pub(crate) struct Notifies {
     soonest: AtomicU64,
     /// Since when the log or the disk has been at work.
     pub(crate) work: Work,
+    pub(crate) fates: Fates,
 }
 
 /// What is kept of NOTIFYs.
@@ -46,6 +48,7 @@ impl Notifies {
             }),
             soonest: AtomicU64::new(NEVER),
             work: Work::new(),
+            fates: Fates::new(),
         }
     }
 
@@ -58,28 +61,35 @@ impl Notifies {
     /// A NOTIFY came from this peer over UDP. It answers whether its session begins. Otherwise the NOTIFY waits, in
     /// place of one before it with the same question, or is dropped; then its primary sends it again.
     pub fn begin<R: Wait>(&self, rt: &R, now: u64, peer: &Peer, packet: &[u8]) -> bool {
+        let fate = self.judge(rt, now, peer, packet);
+        self.fates.count(fate);
+        fate == Fate::Begins
+    }
+
+    /// What becomes of a NOTIFY that came from this peer over UDP.
+    fn judge<R: Wait>(&self, rt: &R, now: u64, peer: &Peer, packet: &[u8]) -> Fate {
         let mut desk = self.desk.lock(rt);
         let source = u32::from_be_bytes(peer.address);
         let is_known = desk.pacing.is_known(source);
         if !is_known && desk.pacing.opens(source) > now {
-            return false;
+            return Fate::Dropped;
         }
         let is_free = !desk.is_heard && !self.work.lasts(now, WORK_MILLIS) && has_log_room();
         if !is_known && !is_free {
-            return false;
+            return Fate::Dropped;
         }
         let Some(place) = desk.pacing.place_of(peer, packet) else {
-            return false;
+            return Fate::Dropped;
         };
         if is_free && desk.pacing.is_open(place, now) {
             desk.pacing.deliver(place, now);
             desk.is_heard = true;
-            return true;
+            return Fate::Begins;
         }
         let moment = desk.pacing.hold(place, peer, packet);
         let soonest = self.soonest.load(Ordering::SeqCst);
         self.soonest.store(soonest.min(moment), Ordering::SeqCst);
-        false
+        Fate::Waits
     }
 
     /// The session of a NOTIFY over UDP has ended.
@@ -108,6 +118,7 @@ impl Notifies {
             Ok(place) => {
                 let found = desk.pacing.take(place, now, buffer);
                 desk.is_heard = found.is_some();
+                add(&self.fates.delivered, found.is_some() as u64);
                 found
             }
             Err(soonest) => {
@@ -128,9 +139,56 @@ impl Notifies {
         match desk.pacing.place_of(peer, packet) {
             Some(place) if desk.pacing.is_open(place, now) => {
                 desk.pacing.deliver(place, now);
+                add(&self.fates.delivered, 1);
                 true
             }
             _ => false,
         }
+    }
+}
+
+/// What becomes of a NOTIFY that came over UDP.
+#[derive(Clone, Copy, PartialEq, Eq)]
+enum Fate {
+    /// Its session begins.
+    Begins,
+    /// It is held back.
+    Waits,
+    Dropped,
+}
+
+/// How many NOTIFYs were delivered, held back at first, and dropped. One over TCP is never held back: its connection
+/// waits with it, and it counts once it is delivered.
+#[derive(Drop)]
+pub(crate) struct Fates {
+    delivered: AtomicU64,
+    waited: AtomicU64,
+    dropped: AtomicU64,
+}
+
+impl Fates {
+    /// None came.
+    fn new() -> Fates {
+        Fates {
+            delivered: AtomicU64::new(0),
+            waited: AtomicU64::new(0),
+            dropped: AtomicU64::new(0),
+        }
+    }
+
+    /// Counts one.
+    fn count(&self, fate: Fate) {
+        match fate {
+            Fate::Begins => add(&self.delivered, 1),
+            Fate::Waits => add(&self.waited, 1),
+            Fate::Dropped => add(&self.dropped, 1),
+        }
+    }
+
+    /// Puts them among the numbers of a line.
+    pub fn put_in(&self, numbers: &mut Numbers) {
+        numbers.notifies = self.delivered.load(Ordering::SeqCst);
+        numbers.paced = self.waited.load(Ordering::SeqCst);
+        numbers.dropped = self.dropped.load(Ordering::SeqCst);
     }
 }

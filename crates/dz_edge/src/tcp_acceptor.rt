@@ -28,19 +28,20 @@ pub(crate) fn bind_tcp<R: Net>(rt: &R, listen: &Peer) -> Option<TcpListener> {
     Some(TcpListener::from(listener))
 }
 
-/// An acceptor at a listener, if there is one, that has given no link; none where the system or memory refuses.
+/// A worker's acceptor at a listener, if there is one, that has given no link; none where the system or memory refuses.
 pub(crate) fn accept_at<'a, R: Net + Clock>(
     rt: &'a R,
     alloc: Global,
     bell: &'a Bell,
     listener: Option<TcpListener>,
+    worker: u8,
 ) -> Option<TcpAcceptor<'a, R>>
     ensures out { IfSome result (λ acceptor. acceptor.out ≡ None) }
     ensures closed { IfSome result (λ acceptor. acceptor.is_closed ≡ false) }
     ensures faults { IfSome result (λ acceptor. acceptor.faults ≡ 0) }
 {
     let listener = mio::net::TcpListener::from_std(listener?);
-    let turns = Turns::new(rt, alloc, bell, listener)?;
+    let turns = Turns::new(rt, alloc, bell, listener, worker)?;
     Some(TcpAcceptor::new(turns))
 }
 

@@ -2,6 +2,7 @@
 ghost use Rattle.std.specs.Prelude.{◌≡◌, None, IfSome};
 
 use crate::calls::{begin_dial, is_made};
+use crate::figures::add;
 use crate::watch::Watch;
 use crate::{Bell, TcpLink};
 use dz_io::{Dialer, Failed, Peer};
@@ -63,6 +64,7 @@ impl<'a, R: Net<Stream = TcpStream> + Clock + Files<File = File> + Wait + Sync> 
     /// A new connection to a peer; it fails where the peer doesn't answer within the limit, or the server is to stop.
     fn dial(&mut self, peer: &Peer) -> Result<TcpLink<'a, R>, Failed> {
         self.bell.notifies.know(self.rt, peer.address);
+        add(&self.bell.figures.dials, 1);
         let from = leaves_from(self.listen, peer);
         match connect(Watch::new(self.rt, self.bell), from, peer) {
             Some(link) => {
@@ -70,6 +72,7 @@ impl<'a, R: Net<Stream = TcpStream> + Clock + Files<File = File> + Wait + Sync> 
                 Ok(link)
             }
             None => {
+                add(&self.bell.figures.failed, 1);
                 self.faults = self.faults.saturating_add(1);
                 Err(Failed)
             }

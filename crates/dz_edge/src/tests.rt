@@ -1,10 +1,13 @@
 ghost use Rattle.std.specs.Prelude.{◌≡◌, ◌≤◌, IsSome, None, length};
 
+use crate::figures::Numbers;
 use crate::frames::{asks_for_zone, takes_notify, turn_frames};
 use crate::pacing::Pacing;
 use crate::stop::mask_of;
+use crate::tally::{Guests, Tally};
 use crate::tcp_dialer::leaves_from;
 use crate::tcp_link::is_too_slow;
+use crate::tell::{period_of, resident_in};
 use crate::waiting::{WAITING_OCTETS, Waiting};
 use crate::{Bell, HostClock, HostPorts, TcpAcceptor, Turn, UdpDatagrams};
 use dz_io::{
@@ -354,6 +357,96 @@ fn the_mask_of_pending_signals_is_read(rt: HostRuntime) {
     assert_eq!(rt; mask_of(b"Name:\tcatzd\n"), None);
     // The line is cut.
     assert_eq!(rt; mask_of(b"ShdPnd:\t00000000"), None);
+}
+
+#[test]
+fn an_answer_is_counted_by_its_code_and_its_tc(rt: HostRuntime) {
+    let mut tally = Tally::new();
+    tally.ask();
+    // A response with TC and the code 3, a name error (RFC 1035 section 4.1.1).
+    tally.answer(b"\x12\x34\x82\x03");
+    assert_eq!(rt;
+        (tally.requests, tally.nxdomain, tally.truncated),
+        (1, 1, 1)
+    );
+}
+
+#[test]
+fn of_an_answer_the_first_message_counts(rt: HostRuntime) {
+    let mut tally = Tally::new();
+    tally.ask();
+    tally.answer(b"\x12\x34\x84\x05");
+    tally.answer(b"\x12\x34\x84\x00");
+    assert_eq!(rt; (tally.noerror, tally.refused, tally.truncated), (0, 1, 0));
+}
+
+/// Messages, each of another number.
+fn some_messages() -> Tally {
+    let mut tally = Tally::new();
+    tally.requests = 9;
+    tally.noerror = 10;
+    tally.nxdomain = 11;
+    tally.servfail = 12;
+    tally.refused = 13;
+    tally.formerr = 14;
+    tally.notimp = 15;
+    tally.other = 16;
+    tally.truncated = 17;
+    tally
+}
+
+/// Figures, each of another number, with five open connections.
+fn some_figures() -> Numbers {
+    Numbers {
+        uptime: 1,
+        udp: 2,
+        tally: some_messages(),
+        guests: Guests {
+            taken: 25,
+            ended: 20,
+            idle: 21,
+            crowded: 22,
+            address: 23,
+            unread: 24,
+        },
+        notifies: 30,
+        paced: 31,
+        dropped: 32,
+        dials: 33,
+        failed: 34,
+        memory: 35,
+    }
+}
+
+/// The line of them.
+const FIGURES: &str =
+    "figures, uptime 1 s, udp 2 tcp 7, noerror 10 nxdomain 11 servfail 12 refused 13 formerr 14 notimp 15 \
+    other 16, truncated 17, connections 5 taken 25 idle 21 crowded 22 address 23 unread 24, notifies 30 paced 31 \
+    dropped 32, dials 33 failed 34, memory 35 kB";
+
+#[test]
+fn the_line_of_figures_has_each_number(rt: HostRuntime) -> Result<(), AllocError> {
+    let numbers = some_figures();
+    let line = format!(in rt.alloc(); "{numbers}")?;
+    assert_eq!(rt; line.as_str(), FIGURES);
+    Ok(())
+}
+
+#[test]
+fn a_period_of_figures_has_a_second_to_a_day(rt: HostRuntime) {
+    assert_eq!(rt;
+        (period_of("1"), period_of("86400")),
+        (Some(1), Some(86_400))
+    );
+    assert_eq!(rt;
+        (period_of("0"), period_of("86401"), period_of("1s")),
+        (None, None, None)
+    );
+}
+
+#[test]
+fn the_second_number_of_statm_is_what_is_resident(rt: HostRuntime) {
+    assert_eq!(rt; resident_in(b"9012 345 67 8 0 9 0\n"), 345);
 }
 
 /// The most octets of a frame in these tests.

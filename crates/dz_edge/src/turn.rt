@@ -5,6 +5,7 @@ use crate::buffers::Buffers;
 use crate::connection::Connection;
 use crate::frames::{frame_end, takes_notify};
 use crate::replies::REPLY_OCTETS;
+use crate::tally::Tally;
 use dz_io::{Failed, Link, Sink, Source};
 use dz_name::dns::LENGTH_OCTETS;
 
@@ -22,6 +23,8 @@ pub struct Turn {
     pub(crate) more: bool,
     /// The reply to a NOTIFY that was taken is among the replies.
     pub(crate) rings: bool,
+    /// The frames that were read and answered.
+    pub(crate) tally: Tally,
     pub(crate) faults: u64,
 }
 
@@ -79,6 +82,7 @@ impl Turn {
             frames,
             more,
             rings: false,
+            tally: Tally::new(),
             faults: 0,
         }
     }
@@ -91,6 +95,7 @@ impl Turn {
             let room = self.buffers.room.as_slice();
             if let Some(end) = frame_end(room, self.frames.at) {
                 self.frames.end = end;
+                self.tally.ask();
             }
         }
     }
@@ -143,7 +148,9 @@ impl Sink for Turn {
             self.faults = self.faults.saturating_add(1);
             return Err(Failed);
         }
-        if takes_notify(piece.get(LENGTH_OCTETS..).unwrap_or(&[])) {
+        let message = piece.get(LENGTH_OCTETS..).unwrap_or(&[]);
+        self.tally.answer(message);
+        if takes_notify(message) {
             self.rings = true;
         }
         Ok(())

@@ -8,7 +8,10 @@ use crate::buffers::Buffers;
 use crate::connection::{Connection, Fetched};
 use crate::crowd::Crowd;
 use crate::errors::{is_for_good, is_shortage};
+use crate::figures::Share;
 use crate::frames::{TurnFrames, asks_for_zone, begins_with_notify, frame_end, turn_frames};
+use crate::tally::Guests;
+use crate::tell::{tell_figures, tell_stop};
 use crate::turn::{Frames, Turn};
 use crate::watch::Watch;
 use crate::work::millis;
@@ -95,6 +98,8 @@ pub(crate) struct Turns<'a, R> {
     rt: &'a R,
     watch: Watch<'a, R>,
     alloc: Global,
+    /// Where it adds what it has counted.
+    share: &'a Share,
     poll: Poll,
     events: Events,
     pub(crate) listener: TcpListener,
@@ -123,6 +128,7 @@ impl<'a, R: Net + Clock> Turns<'a, R> {
         alloc: Global,
         bell: &'a Bell,
         listener: TcpListener,
+        worker: u8,
     ) -> Option<Turns<'a, R>> {
         let mut listener = listener;
         let poll = Poll::new(rt).ok()?;
@@ -134,6 +140,7 @@ impl<'a, R: Net + Clock> Turns<'a, R> {
             rt,
             watch: Watch::new(rt, bell),
             alloc,
+            share: bell.figures.tcp_of(worker),
             poll,
             events: Events::with_capacity(alloc, EVENTS).ok()?,
             listener,
@@ -187,6 +194,7 @@ impl<'a, R: Clock + Eprint + Files<File = File> + Wait> Turns<'a, R> {
 
     /// Sends what waits, for a second at most.
     fn drain(&mut self) {
+        tell_stop(self.rt, self.watch.bell);
         'tries: for _ in 0..DRAINS {
             if self.crowd.waiting().is_none() {
                 break;
@@ -209,8 +217,10 @@ impl<'a, R: Clock + Eprint + Files<File = File> + Wait> Turns<'a, R> {
             frames,
             more,
             rings,
+            tally,
             faults,
         } = turn;
+        self.share.add(&tally);
         let address = connection.peer.address;
         let room = buffers.room.as_slice();
         let left = room.get(frames.at..frames.total).unwrap_or(&[]);
@@ -401,9 +411,17 @@ impl<'a, R: Clock + Eprint + Files<File = File> + Wait> Turns<'a, R> {
         if second > self.swept {
             self.swept = second;
             self.crowd.sweep(second);
+            self.tell(second);
         }
         self.round = self.crowd.queued();
         self.has_zone_turn = true;
+    }
+
+    /// Adds what the crowd has counted to the figures, and writes their line where it is due in this second.
+    fn tell(&mut self, second: u64) {
+        self.share.add_guests(&self.crowd.guests);
+        self.crowd.guests = Guests::new();
+        tell_figures(self.rt, self.watch.bell, second);
     }
 
     /// Queues the connections whose NOTIFY was kept back, where that was a little ago.

@@ -6,7 +6,9 @@ use crate::Bell;
 use crate::address::{peer_of, socket_address};
 use crate::calls::send_at_once;
 use crate::errors::is_for_good;
+use crate::figures::Share;
 use crate::frames::{is_notify, takes_notify};
+use crate::tally::Tally;
 use crate::watch::Watch;
 use crate::work::millis;
 use dz_io::{Datagrams, Failed, Peer, Received};
@@ -27,6 +29,10 @@ const TRIES: usize = 1000;
 pub struct UdpDatagrams<'a, R> {
     watch: Watch<'a, R>,
     pub(crate) socket: UdpSocket,
+    /// Where it adds what it has counted.
+    share: &'a Share,
+    /// The last packet and its reply.
+    pub(crate) tally: Tally,
     /// Whether a NOTIFY that it received has its session.
     hears: bool,
     is_closed: bool,
@@ -42,14 +48,21 @@ pub(crate) fn bind_udp<R: Net>(rt: &R, listen: &Peer) -> Option<UdpSocket> {
 }
 
 impl<'a, R> UdpDatagrams<'a, R> {
-    /// A device that has received and sent nothing.
-    pub(crate) fn new(rt: &'a R, bell: &'a Bell, socket: UdpSocket) -> UdpDatagrams<'a, R>
+    /// A worker's device that has received and sent nothing.
+    pub(crate) fn new(
+        rt: &'a R,
+        bell: &'a Bell,
+        socket: UdpSocket,
+        worker: u8,
+    ) -> UdpDatagrams<'a, R>
         ensures closed { result.is_closed ≡ false }
         ensures faults { result.faults ≡ 0 }
     {
         UdpDatagrams {
             watch: Watch::new(rt, bell),
             socket,
+            share: bell.figures.udp_of(worker),
+            tally: Tally::new(),
             hears: false,
             is_closed: false,
             faults: 0,
@@ -147,12 +160,17 @@ impl<'a, R: Clock + Eprint + Files<File = File> + Wait> Datagrams for UdpDatagra
     /// is bad, since a later packet may come through; after the last such socket the server is to stop.
     fn receive(&mut self, buffer: &mut [u8]) -> Result<Received, Failed> {
         self.end_session();
+        self.share.add(&self.tally);
+        self.tally = Tally::new();
         match self.next_packet(buffer) {
             Some(Received::Closed) => {
                 self.is_closed = true;
                 Ok(Received::Closed)
             }
-            Some(Received::Packet { length, peer }) => Ok(Received::Packet { length, peer }),
+            Some(Received::Packet { length, peer }) => {
+                self.tally.ask();
+                Ok(Received::Packet { length, peer })
+            }
             None => {
                 self.faults = self.faults.saturating_add(1);
                 let bell = self.watch.bell;
@@ -166,6 +184,7 @@ impl<'a, R: Clock + Eprint + Files<File = File> + Wait> Datagrams for UdpDatagra
     /// then the zone that it tells of is due.
     fn send(&mut self, peer: &Peer, piece: &[u8]) -> Result<(), Failed> {
         let is_sent = send_whole(&self.socket, peer, piece);
+        self.tally.answer(piece);
         self.end_session();
         if takes_notify(piece) {
             let bell = self.watch.bell;

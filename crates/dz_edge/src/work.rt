@@ -10,6 +10,9 @@ use std::time::{Clock, Duration};
 /// The descriptor of the log, which is standard output.
 const LOG: i32 = 1;
 
+/// The descriptor of standard error.
+const ERRORS: i32 = 2;
+
 /// What is kept while neither is at work.
 const IDLE: u64 = u64::MAX;
 
@@ -56,12 +59,22 @@ pub(crate) fn millis(time: Duration) -> u64 {
 
 /// Whether the log takes a line at once. A pipe that takes any octets has room for 4,096, and a line has fewer.
 pub(crate) fn has_log_room() -> bool {
-    let mut log = [pollfd {
-        fd: LOG,
+    has_room(LOG)
+}
+
+/// Whether standard error takes a line at once.
+pub(crate) fn has_errors_room() -> bool {
+    has_room(ERRORS)
+}
+
+/// Whether a write to a descriptor doesn't wait.
+fn has_room(fd: i32) -> bool {
+    let mut ends = [pollfd {
+        fd,
         events: POLLOUT,
         revents: 0,
     }];
-    poll(&mut log, 0) != 0
+    poll(&mut ends, 0) != 0
 }
 
 /// A writer of the log, which tells while it is at work.
