@@ -41,7 +41,7 @@ PROGRAM = crates/catzd/out/catzd
 CONFDIR = $(SYSCONFDIR)/catzd
 SAMPLES = knot.conf nsd.conf named.conf pdns.conf pdns-zones.conf catzd.toml \
 	catalog.example.zone a.example.zone b.example.zone c.example.zone
-TEXTS   = OPERATING.md USING.md INTEROP.md PERFORMANCE.md
+TEXTS   = OPERATING.md USING.md INTEROP.md PERFORMANCE.md RFC.md DECISIONS.md GLOSSARY.md
 SCRIPTS = zonefile.py
 
 all:
@@ -64,6 +64,7 @@ install:
 	chmod 644 "$(DESTDIR)$(UNITDIR)/catzd.service"
 	for one in $(SAMPLES); do \
 		$(INSTALL) -m 644 samples/$$one "$(DESTDIR)$(DOCDIR)/samples/$$one" || exit 1; done
+	$(INSTALL) -m 644 README.md "$(DESTDIR)$(DOCDIR)/README.md"
 	for one in $(TEXTS); do $(INSTALL) -m 644 docs/$$one "$(DESTDIR)$(DOCDIR)/docs/$$one" || exit 1; done
 	for one in $(SCRIPTS); do \
 		$(INSTALL) -m 755 contrib/$$one "$(DESTDIR)$(DOCDIR)/contrib/$$one" || exit 1; done
@@ -74,6 +75,7 @@ uninstall:
 	rm -f "$(DESTDIR)$(SBINDIR)/catzd" "$(DESTDIR)$(UNITDIR)/catzd.service"
 	rm -f "$(DESTDIR)$(MANDIR)/man8/catzd.8" "$(DESTDIR)$(MANDIR)/man5/catzd.toml.5"
 	for one in $(SAMPLES); do rm -f "$(DESTDIR)$(DOCDIR)/samples/$$one"; done
+	rm -f "$(DESTDIR)$(DOCDIR)/README.md"
 	for one in $(TEXTS); do rm -f "$(DESTDIR)$(DOCDIR)/docs/$$one"; done
 	for one in $(SCRIPTS); do rm -f "$(DESTDIR)$(DOCDIR)/contrib/$$one"; done
 	-rmdir "$(DESTDIR)$(DOCDIR)/samples" "$(DESTDIR)$(DOCDIR)/docs" "$(DESTDIR)$(DOCDIR)/contrib" "$(DESTDIR)$(DOCDIR)"

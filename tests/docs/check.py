@@ -3,8 +3,8 @@
 
 It finds each place that a page links to; each name that a table of docs/RFC.md has in code quotes, as a declaration in the
 file that it links to; each crate in docs/ARCHITECTURE.md, in the families and the order of crates.txt; and the modules of
-each crate in its README's table. It compares docs/DEFINITIONS.md with what definitions.py makes. It ends with status 1 where
-something is missing or differs.
+each crate in its README's table. It compares docs/DEFINITIONS.md with what definitions.py makes, and the program's version
+with the Makefile's. It ends with status 1 where something is missing or differs.
 """
 import pathlib
 import re
@@ -119,7 +119,7 @@ def made(seen):
     for page in ("README.md", PROVED):
         told = re.findall(r"(\d+) modules of `crates/\*/specs/`", text_of(page))
         if told != [str(modules)]:
-            seen.fault(f"{page} tells of {told} modules that begin with Meaning, and there are {modules}")
+            seen.fault(f"{page} tells of {told} modules that begin with Meaning or Answer, and there are {modules}")
 
 
 def crates(seen):
@@ -147,9 +147,17 @@ def tables_of_crates(seen):
         seen.count("crates' READMEs")
 
 
+def version(seen):
+    """The version that the program tells is that of the Makefile, which names archives and packages."""
+    told = re.search(r'^const VERSION: &str = "catzd (.*)";$', text_of("crates/catzd/src/main.rt"), re.M)
+    made = re.search(r"^VERSION *= (.*)$", text_of("Makefile"), re.M)
+    if not told or not made or told.group(1) != made.group(1):
+        seen.fault("the VERSION of crates/catzd/src/main.rt isn't that of the Makefile")
+
+
 def main():
     seen = Comparison()
-    for check in (made, links, names, crates, tables_of_crates):
+    for check in (made, links, names, crates, tables_of_crates, version):
         check(seen)
     print(", ".join(f"{number} {what}" for what, number in seen.counts.items()))
     print(f"{seen.faults} faults")

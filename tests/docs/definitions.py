@@ -1,8 +1,8 @@
 #!/usr/bin/env python3
 """definitions.py: makes docs/DEFINITIONS.md: `python3 tests/docs/definitions.py`, in a few seconds.
 
-The page has each definition of the modules of crates/*/specs/ that begin with "-- Meaning", in the order of crates.txt,
-with the comment above it. A definition without a comment has its sentence from docs/definitions.txt, or else goes with the
+The page has each definition of the modules of crates/*/specs/ that begin with "-- Meaning" or "-- Answer", in the order of
+crates.txt, with the comment above it. A definition without a comment has its sentence from docs/definitions.txt, or else goes with the
 one before it. Modules that begin with "-- Judge" are on the page if a crate's src/laws.rt states them. What cites a
 definition is searched in the contracts of src/.
 """
@@ -12,6 +12,8 @@ import re
 ROOT = pathlib.Path(__file__).resolve().parents[2]
 PAGE, SENTENCES, MAP = "docs/DEFINITIONS.md", "docs/definitions.txt", "docs/ARCHITECTURE.md"
 TESTS = ("dz_tests", "dz_low_tests")
+# How a module begins that a reader has to trust.
+TRUSTED = ("-- Meaning", "-- Answer")
 CITED = 3  # how many that cite a definition are named
 # A definition, by its words before the name; a field or a constructor of one, with what is said at its end.
 DECLARED = re.compile(r"^(?:(?:abbrev|unfoldable|opaque) )?pub (?!use )(?:(?:record|data) )?([^\s:({]+)")
@@ -191,7 +193,7 @@ def lines_of(module, found):
     link = f"../{module.file.relative_to(ROOT)}"
     yield f"### [{module.path.split('.', 1)[1]}]({link})"
     yield ""
-    yield sentence(head) + (" These are laws, which are proved, and need not be believed." if kind != "Meaning" else "")
+    yield sentence(head) + (" These are laws, which are proved, and need not be believed." if kind == "Judge" else "")
     yield ""
     for group in module.groups:
         names = ", ".join(f"`{name}`" for name in group.names)
@@ -208,17 +210,17 @@ def roles():
 
 
 def page():
-    """The text of the page, the number of modules that begin with Meaning, and the sentences that no definition needs."""
+    """The text of the page, the number of modules that a reader has to trust, and the sentences that no definition needs."""
     order, said, does, shown = crates(), sentences(), roles(), {}
     for crate in order:
         files = sorted((ROOT / "crates" / crate / "specs").rglob("*.antt"))
         stated = laws(crate)
-        modules = [Module(file, said) for file in files if file.read_text().startswith("-- Meaning")
+        modules = [Module(file, said) for file in files if file.read_text().startswith(TRUSTED)
                    or file.read_text().startswith("-- Judge") and f"specs.{file.stem}" in stated]
         if modules:
             shown[crate] = in_order(modules)
     found = citations(order)
-    meanings = [module for modules in shown.values() for module in modules if module.head.startswith("Meaning")]
+    meanings = [module for modules in shown.values() for module in modules if not module.head.startswith("Judge")]
     count = sum(len(group.names) for module in meanings for group in module.groups)
     used = {module.key(name) for modules in shown.values() for module in modules
             for group in module.groups for name in group.names} & set(said)

@@ -5,6 +5,7 @@ The parts are notifies, primaries, sockets, stops, clients, addresses and log; a
 two minutes. It prints what it saw, and each fault, and ends with status 1 where there was one."""
 import argparse
 import fcntl
+import json
 import pathlib
 import resource
 import shutil
@@ -121,12 +122,23 @@ def seconds_to(asker, name, number, limit=30):
     return asker.wait(f"www.{name}", lambda message: ask.is_address(message, rdata), limit=limit) - begun
 
 
+# What asks is a process of its own, so that it doesn't wait for the primary.
+ASK = """
+import json, subprocess, sys
+sys.path.insert(0, sys.argv[1])
+import ask
+steady = ask.Steady(int(sys.argv[2]), sys.argv[3])
+lost = steady.run(subprocess.Popen(["sleep", sys.argv[4]]))
+print(json.dumps([lost, steady.found]))
+"""
+
+
 def asked(seconds, owner):
     """Queries, one each millisecond over UDP and over TCP, for some seconds: lost, and the times over UDP and over TCP."""
-    steady = ask.Steady(PORT, owner)
-    lost = steady.run(subprocess.Popen(["sleep", str(seconds)]))
-    times = {kind: sorted(took for transport, _, took in steady.found if transport == kind)
-             for kind in {transport for transport, _, _ in steady.found}}
+    words = [sys.executable, "-c", ASK, sys.path[0], str(PORT), owner, str(seconds)]
+    lost, found = json.loads(subprocess.run(words, stdout=subprocess.PIPE, check=True).stdout)
+    times = {kind: sorted(took for transport, _, took in found if transport == kind)
+             for kind in {transport for transport, _, _ in found}}
     return lost, times
 
 
@@ -433,6 +445,20 @@ def addresses(folder):
         primary.close()
 
 
+# A process of its own, so that what asks doesn't wait for it.
+PESTER = """
+import socket, sys, time
+port, seconds = map(int, sys.argv[1:3])
+packets = [bytes.fromhex(one) for one in sys.argv[3:]]
+sender = socket.socket(socket.AF_INET, socket.SOCK_DGRAM)
+end = time.monotonic() + seconds
+while time.monotonic() < end:
+    for one in packets:
+        sender.sendto(one, ("127.0.0.1", port))
+    time.sleep(0.05)
+"""
+
+
 def log(folder):
     """NOTIFYs and queries while the reader of the log reads nothing for 20 seconds."""
     names = [f"m{number}.test." for number in range(100)]
@@ -447,19 +473,15 @@ def log(folder):
                 time.sleep(22)
                 stop.clear()
 
-    def pester():
-        end = time.monotonic() + 20
-        while time.monotonic() < end:
-            for one in names:
-                primary.notify(one, PORT)
-            time.sleep(0.05)
+    notify = [wire.query(7, one, wire.SOA, wire.NOTIFY_FLAGS).hex() for one in names]
     threading.Thread(target=read, daemon=True).start()
     try:
         server.log.close()
         wait_answered(names)
         stop.set()
-        threading.Thread(target=pester, daemon=True).start()
+        pester = subprocess.Popen([sys.executable, "-c", PESTER, str(PORT), "20", *notify])
         lost, times = asked(20, "www.m1.test.")
+        pester.wait()
         judge(worst(times, 1) < 0.05 and lost == 0, f"{told_times(times)}; {lost} lost")
         time.sleep(4)
         new_address(members["m5.test."], 80)

@@ -131,10 +131,12 @@ class Crowd:
 
     def ask_once(self):
         """A query over UDP, whose reply is that of some state so far."""
-        member = self.random.choice(self.members)
+        member, identity = self.random.choice(self.members), self.datagrams + self.lost & 0xFFFF
         try:
-            self.socket.send(wire.query(self.datagrams & 0xFFFF, f"h2.{member.zone.apex}", wire.TXT))
+            self.socket.send(wire.query(identity, f"h2.{member.zone.apex}", wire.TXT))
             message = wire.read_message(self.socket.recv(65_535))
+            while message.identity != identity:  # the reply to a query that counts as lost
+                message = wire.read_message(self.socket.recv(65_535))
             story.Cursor(member).see(story.said_by(message))
             self.datagrams += 1
         except TimeoutError:

@@ -3,8 +3,8 @@
 
     datagrams.py [COUNT] [--seed N] [--catzd PROGRAM]
 
-It starts catzd behind a primary of its own on ports above 5300 of 127.0.0.1, and sends a million datagrams, where COUNT
-doesn't say another number. Each reply is read to its last octet and compared with its request; behind each batch an
+It starts catzd with a primary of its own on ports above 5300 of 127.0.0.1, and sends a million datagrams, where COUNT
+doesn't say another number. Each reply is read to its last octet and compared with its request; after each batch an
 ordinary query must be answered right. The seed makes a run again.
 """
 import argparse
@@ -89,7 +89,7 @@ class Maker:
         return bytes(octets)
 
     def pointed(self):
-        """A pointer stands somewhere in the question, or in a record behind it."""
+        """A pointer somewhere in the question, or in a record after it."""
         octets = bytearray(self.valid())
         struct.pack_into(">H", octets, self.random.randrange(12, len(octets) - 1),
                          0xC000 | self.random.randrange(len(octets) + 4))
@@ -130,6 +130,11 @@ def judge(request, reply, limits=(512, 1232)):
     return None if request[12:end] == reply[12:end] else "another question"
 
 
+def is_notify(octets):
+    """Whether the opcode of a message is that of a NOTIFY (RFC 1996)."""
+    return len(octets) > 2 and octets[2] >> 3 & 15 == 4
+
+
 class Attack:
     """The sockets, and what came so far."""
 
@@ -139,6 +144,7 @@ class Attack:
         self.socket.connect(("127.0.0.1", PORT))
         self.sent = self.replies = 0
         self.requests = {}  # the last one with each ID
+        self.held = {}  # those with each ID that may be NOTIFYs, which may be held back and answered late
         self.faults = []
 
     def batch(self):
@@ -148,6 +154,8 @@ class Attack:
             made, identity = self.maker.make(), number & 0xFFFF
             batch.append(made if len(made) < 2 else struct.pack(">H", identity) + made[2:])
             self.requests[identity] = batch[-1]
+            if is_notify(batch[-1]):
+                self.held.setdefault(identity, []).append(batch[-1])
         for request in batch:
             self.socket.send(request)
         self.sent += BATCH
@@ -165,14 +173,16 @@ class Attack:
             except BlockingIOError:
                 return
             self.replies += 1
-            request = self.requests.get(int.from_bytes(reply[:2], "big"), b"")
+            identity = int.from_bytes(reply[:2], "big")
+            request = self.requests.get(identity, b"")
+            late = self.held.get(identity, []) if is_notify(reply) else []
             fault = judge(request, reply)
-            if fault:
+            if fault and all(judge(one, reply) for one in late):
                 self.faults.append(f"{fault}: {request.hex()} got {reply.hex()}")
 
 
 def attacked(folder):
-    """A primary, and catzd behind it, which answers."""
+    """A primary, and a catzd that transfers from it and answers."""
     primary = Primary(PRIMARY_PORT)
     primary.hold(zones.catalog("catalog.test.", [APEX]), zone())
     server = servers.Catzd(servers.Plan("catalog.test.", PRIMARY_PORT), folder, PORT).start()

@@ -85,7 +85,7 @@ def spread(seconds):
 # -- The disk, and starts ---------------------------------------------------------------------------------------------
 
 def syncs(folder):
-    """What fdatasync costs behind a piece of 400 octets."""
+    """What fdatasync costs after a piece of 400 octets."""
     with open(folder / "syncs", "wb", buffering=0) as file:
         times = []
         for _ in range(200):
@@ -94,7 +94,7 @@ def syncs(folder):
             os.fdatasync(file.fileno())
             times.append(time.monotonic() - begun)
     times.sort()
-    print(f"fdatasync behind 400 octets: {times[100] * 1000:.2f} ms in the median, {times[197] * 1000:.2f} ms at 99 %")
+    print(f"fdatasync after 400 octets: {times[100] * 1000:.2f} ms in the median, {times[197] * 1000:.2f} ms at 99 %")
 
 
 def restarts(folder, count, library):

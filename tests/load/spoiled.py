@@ -170,8 +170,8 @@ def strange(folder, chance, whole):
     files = {
         "no octets": b"",
         "zeros": bytes(1000),
-        "random octets behind a closed gate": b"\0" + noise,
-        "random octets behind an open gate": b"\1" + noise,
+        "random octets after a closed gate": b"\0" + noise,
+        "random octets after an open gate": b"\1" + noise,
         "a store and random octets": records_of(whole) + b"\0" + noise,
     }
     for name, octets in files.items():
@@ -317,7 +317,7 @@ def renewals(folder, whole):
 
 
 def records_of(octets):
-    """The records of a store without the gate behind the last."""
+    """The records of a store without the gate after the last."""
     return octets[:kept.records(octets)[-1][0]]
 
 

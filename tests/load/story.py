@@ -38,21 +38,21 @@ class Cursor:
                 self.go_on(lambda stay: stay is not None, 1)
         else:
             if not self.serial <= said <= self.member.zone.serial:
-                raise Wrong(f"{self.member.zone.apex}: serial {said} behind {self.serial} "
+                raise Wrong(f"{self.member.zone.apex}: serial {said} after {self.serial} "
                             f"of {self.member.zone.serial} versions")
             if stays[self.stay] is None:
                 self.go_on(lambda stay: stay is not None)
             self.serial, self.is_served = said, True
 
     def go_on(self, is_right, least=0):
-        """To the first stay from here on, or behind it, that is right."""
+        """To the first stay from here on, or after it, that is right."""
         stays = self.member.stays
         for place in range(self.stay + least, len(stays)):
             if is_right(stays[place]):
                 self.is_served = self.is_served and place == self.stay
                 self.stay = place
                 return
-        raise Wrong(f"{self.member.zone.apex}: no such reply can come behind stay {self.stay} of {stays}")
+        raise Wrong(f"{self.member.zone.apex}: no such reply can come after stay {self.stay} of {stays}")
 
 
 def serials(message):

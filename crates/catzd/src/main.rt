@@ -28,25 +28,18 @@ const NEW_STORE: &str = "catzd.store.new";
 /// The variable of the environment which, where it is `1`, has `serve` check its configuration alone.
 const CHECK: &str = "CATZD_CHECK";
 
+/// The version of the program.
+const VERSION: &str = "catzd 0.1";
+
 /// Runs the command that the words ask for, and ends with its status. Where `serve` was refused its configuration,
-/// advice goes to standard error.
+/// advice goes to standard error, and where the words are no command, the version.
 fn main(rt: HostRuntime) -> ExitCode {
     let alloc = rt.alloc();
-    let words = match env::args(&rt) {
-        Ok(mut args) => {
-            let _program = args.next();
-            args.collect(alloc)
-        }
-        Err(error) if error.kind() == ErrorKind::OutOfMemory => Err(AllocError),
-        // Words that aren't UTF-8 are no command.
-        Err(_) => Ok(Vec::new(alloc)),
-    };
-    let Ok(list) = words else {
+    let Ok(words) = words_of(&rt, alloc) else {
         return exit_code(Ok(Status::NoMemory));
     };
-    let words = Words { list };
     let is_serve = read_words(&words) == Ok(Command::Serve);
-    let mut input = Kept::new(alloc, ReadSource::new(rt.stdin()));
+    let mut input = input_of(alloc, ReadSource::new(rt.stdin()), is_serve);
     if is_serve && is_check(&rt) {
         return exit_code(Ok(check(&rt, alloc, &mut input)));
     }
@@ -67,10 +60,38 @@ fn main(rt: HostRuntime) -> ExitCode {
         &rt, alloc, &words, &mut input, output, desk, &mut ports, &clock, &mut disk,
     );
     end(&rt, desk);
-    if status == Status::BadInput && is_serve {
-        tell_advice(&rt, alloc, input.text());
+    match status {
+        Status::Usage => tell_version(&rt),
+        Status::BadInput if is_serve => tell_advice(&rt, alloc, input.text()),
+        _ => {}
     }
     exit_code(Ok(status))
+}
+
+/// The words that the program was called with. Those that aren't UTF-8 are no command.
+///
+/// # Errors
+///
+/// `AllocError` if memory runs out.
+fn words_of<R: Env + Alloc<A = Global>>(rt: &R, alloc: Global) -> Result<Words, AllocError> {
+    let list = match env::args(rt) {
+        Ok(mut args) => {
+            let _program = args.next();
+            args.collect(alloc)
+        }
+        Err(error) if error.kind() == ErrorKind::OutOfMemory => Err(AllocError),
+        Err(_) => Ok(Vec::new(alloc)),
+    };
+    Ok(Words { list: list? })
+}
+
+/// The input, of which a configuration is kept for advice, and nothing of what other commands read.
+fn input_of<S: Source + Drop>(alloc: Global, source: S, is_serve: bool) -> Kept<S> {
+    if is_serve {
+        Kept::new(alloc, source)
+    } else {
+        Kept::passing(alloc, source)
+    }
 }
 
 /// Whether the environment asks for a check of the configuration alone.
@@ -125,10 +146,17 @@ fn tell_advice<R: Eprint>(rt: &R, alloc: Global, text: &[u8]) {
     }
 }
 
-/// The bell that all share. Where the program is to serve, it has figures written as the environment asks.
+/// Tells the version on standard error.
+fn tell_version<R: Eprint>(rt: &R) {
+    let _ = rt.eprintln(VERSION);
+}
+
+/// The bell that all share. Where the program is to serve, it tells its version, and has figures written as the
+/// environment asks.
 fn bell_of<R: Env + Alloc + Eprint + Clock>(rt: &R, alloc: Global, is_server: bool) -> Bell {
     let bell = Bell::new(alloc);
     if is_server {
+        tell_version(rt);
         bell.begin_figures(rt);
     }
     bell

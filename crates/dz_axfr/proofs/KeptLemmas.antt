@@ -11,18 +11,27 @@ use Rattle.dz_xfr.specs.declared.fault.Progress.{Progress}
 use Rattle.dz_xfr.specs.declared.fault.Progress.TheVariants.{More, Ended}
 use Rattle.dz_xfr.specs.declared.fault.FeedError.{FeedError}
 use Rattle.dz_xfr.specs.declared.fault.FeedError.TheVariants.{Shape, OutOfMemory}
+use Rattle.dz_xfr.specs.declared.fault.ShapeFault.{ShapeFault}
 use Rattle.dz_xfr.specs.declared.fault.ShapeFault.TheVariants.{SerialGap, AfterEnd}
 use Rattle.dz_xfr.specs.Apex.{is_apex_soa}
-use Rattle.dz_xfr.specs.Feeding.{IsOpen, Says}
+use Rattle.dz_xfr.specs.Feeding.{IsOpen}
+use Rattle.dz_xfr.specs.Answers.{Says}
 use Rattle.dz_xfr.specs.Place.{amid, ended, failed, read, said}
 use Rattle.dz_xfr.specs.Stands.{Stands, more, complete, is_complete, IsComplete}
 use Rattle.dz_xfr.proofs.ReadingLemmas.{stays_failed, read_pieces}
 use Rattle.dz_axfr.specs.Assembly.{Assembly}
 use Rattle.dz_axfr.specs.Whole.{IsWhole, Blames}
 use Rattle.dz_axfr.specs.Reading.{nothing, opened, one, place_of}
-use Rattle.dz_axfr.specs.inner.Kept.{kept_place, OpensAt, AreKept, IsKept, Extends}
+use Rattle.dz_axfr.specs.inner.Kept.{kept_place, OpensAt, AreKept, IsKept, IsHeld, Cuts, Misfits}
 use Rattle.dz_axfr.proofs.ListLemmas.{front_fails, none_passes, some_behind, none_behind, cut_at}
+use Rattle.dz_axfr.proofs.SiftLemmas.{same_front, first_kept}
 use Rattle.dz_axfr.proofs.WholeLemmas.{read_body, agrees, whole_stands, whole_stands_once}
+
+-- records that were read after those that are kept, and what is kept then; a fault leaves it as it was
+abbrev Extends : Name → List Record → List Record → Result Progress FeedError → List Record → Type 0
+Extends apex old records (Ok progress) new = OpensAt apex new × (read (one apex) (kept_place More old) records ≡ kept_place progress new) × AreKept progress new (old ++ records)
+Extends apex old records (Err (Shape fault)) new = (new ≡ old) × (read (one apex) (kept_place More old) records ≡ failed fault)
+Extends apex old records (Err OutOfMemory) new = new ≡ old
 
 module _ (apex : Name) where
   pub no_soa_there : (kept records : List Record) → OpensAt apex kept → position (is_apex_soa apex) records ≡ None → read (one apex) (kept_place More kept) records ≡ kept_place More (kept ++ records)
@@ -70,10 +79,6 @@ module _ (apex : Name) where
       let w = position-Some (is_apex_soa apex) records at x e in
       let cut : records ≡ take at records ++ x ∷ [] = cut_at records at x w.0 is ∙ ap (λ l. take at records ++ x ∷ l) (none_behind records (suc at) (omega arith)) in
       (x, ap (λ l. kept ++ l) cut ∙ sym (append_assoc kept (take at records) (x ∷ [])))
-
-  pub still_opens : (kept rest : List Record) → OpensAt apex kept → OpensAt apex (kept ++ rest)
-  still_opens [] rest o = absurd o
-  still_opens (first ∷ body) rest o = o
 
   -- the first SOA alone
   pub one_kept : (first : Record) → is_apex_soa apex first ≡ true → IsKept apex (first ∷ []) More (first ∷ [])
@@ -163,6 +168,64 @@ module _ (apex : Name) where
       → IsComplete (IsWhole seen.apex) seen.fed → AreKept Ended kept seen.fed
   seen_items seen kept fed progress e k =
       subst (λ (s : Assembly). IsComplete (IsWhole s.apex) s.fed → AreKept Ended kept s.fed) e (λ w. items_kept kept fed progress k w)
+
+  -- ---- what is kept where those that are the same may be kept once
+  all_opens : (all : List Record) → OpensAt apex all → (first : Record) × (body : List Record) × (all ≡ first ∷ body) × (is_apex_soa apex first ≡ true)
+  all_opens [] o = absurd o
+  all_opens (first ∷ body) o = (first, body, refl, o)
+
+  first_of : (kept body : List Record) (first x : Record) → distinct kept ≡ distinct (first ∷ body) → x ≡ get_or kept 0 x → x ≡ first
+  first_of kept body first x h e = let w = first_kept kept body first h in e ∙ ap (λ l. get_or l 0 x) w.1
+
+  kept_opens : (kept all : List Record) (x : Record) → distinct kept ≡ distinct all → OpensAt apex all → x ≡ get_or kept 0 x → is_apex_soa apex x ≡ true
+  kept_opens kept [] x h o e = absurd o
+  kept_opens kept (first ∷ body) x h o e = ap (is_apex_soa apex) (first_of kept body first x h e) ∙ o
+
+  -- the first record that is kept is the first SOA
+  pub held_first : (kept fed : List Record) (progress : Progress) (x : Record) → IsHeld apex kept progress fed → x ≡ get_or kept 0 x → is_apex_soa apex x ≡ true
+  held_first kept fed progress x h e = kept_opens kept h.all x h.same h.keeps.opens e
+
+  not_empty : (kept all : List Record) → distinct kept ≡ distinct all → OpensAt apex all → 0 < length kept
+  not_empty kept [] h o = absurd o
+  not_empty kept (first ∷ body) h o = let w = first_kept kept body first h in rw w.1 (omega arith)
+
+  pub held_some : (kept fed : List Record) (progress : Progress) → IsHeld apex kept progress fed → 0 < length kept
+  held_some kept fed progress h = not_empty kept h.all h.same h.keeps.opens
+
+  cuts_on : (kept all records cut : List Record) (x : Record) (progress : Progress) → distinct kept ≡ distinct all → OpensAt apex all → x ≡ get_or kept 0 x → Cuts apex x records progress cut → Extends apex all records (Ok progress) (all ++ cut)
+  cuts_on kept [] records cut x progress h o e w = absurd o
+  cuts_on kept (first ∷ body) records cut x progress h o e w =
+      let v = subst (λ r. Cuts apex r records progress cut) (first_of kept body first x h e) w in
+      (o, (v body).0, (v body).1)
+
+  misfits_on : (kept all records : List Record) (x : Record) (fault : ShapeFault) → distinct kept ≡ distinct all → OpensAt apex all → x ≡ get_or kept 0 x → Misfits apex x records fault → Extends apex all records (Err (Shape fault)) all
+  misfits_on kept [] records x fault h o e w = absurd o
+  misfits_on kept (first ∷ body) records x fault h o e w = (refl, subst (λ r. Misfits apex r records fault) (first_of kept body first x h e) w body)
+
+  module _ (seen : Assembly) (kept fed records : List Record) (before : Progress) (x : Record) (e : record { apex = apex; fed = fed } ≡ seen) (h : IsHeld apex kept before fed) (o : IsOpen (IsWhole seen.apex) Blames seen.fed) (f : x ≡ get_or kept 0 x) where
+    pub held_on : (new cut : List Record) (progress : Progress) → Cuts apex x records progress cut → distinct new ≡ distinct (kept ++ cut) → IsHeld apex new progress (fed ++ records)
+    held_on new cut progress w d = record {
+      all = h.all ++ cut;
+      same = d ∙ same_front kept h.all cut h.same;
+      keeps = seen_kept seen h.all (h.all ++ cut) fed records before progress e h.keeps o (cuts_on kept h.all records cut x progress h.same h.keeps.opens f w);
+    }
+
+    pub says_cut : (cut : List Record) (progress : Progress) → Cuts apex x records progress cut → Says (Ok progress) (Stands (IsWhole seen.apex) Blames (seen.fed ++ records))
+    says_cut cut progress w = seen_says seen (Ok progress) h.all (h.all ++ cut) fed records before e h.keeps o (cuts_on kept h.all records cut x progress h.same h.keeps.opens f w)
+
+    pub says_misfit : (fault : ShapeFault) → Misfits apex x records fault → Says (Err (Shape fault)) (Stands (IsWhole seen.apex) Blames (seen.fed ++ records))
+    says_misfit fault w = seen_says seen (Err (Shape fault)) h.all h.all fed records before e h.keeps o (misfits_on kept h.all records x fault h.same h.keeps.opens f w)
+
+  module _ (seen : Assembly) (kept fed : List Record) (progress : Progress) (e : record { apex = apex; fed = fed } ≡ seen) (h : IsHeld apex kept progress fed) (w : IsComplete (IsWhole seen.apex) seen.fed) where
+    pub held_whole : IsWhole seen.apex seen.fed (distinct kept)
+    held_whole = subst (λ zone. IsWhole seen.apex seen.fed zone) (sym h.same) (seen_whole seen h.all fed progress e h.keeps w)
+
+    pub held_items : (front : List Record) × (last : Record) × (seen.fed ≡ front ++ last ∷ []) × (distinct kept ≡ distinct front)
+    held_items = let v = seen_items seen h.all fed progress e h.keeps w in (h.all, v.0, v.1, h.same)
+
+  -- the first SOA alone
+  pub one_held : (first : Record) → is_apex_soa apex first ≡ true → IsHeld apex (first ∷ []) More (first ∷ [])
+  one_held first t = record { all = first ∷ []; same = refl; keeps = one_kept first t }
 
 -- at the end the records that were fed are a whole form
 whole_of : (apex : Name) (fed zone : List Record) → Stands (IsWhole apex) Blames fed (complete zone) → IsWhole apex fed zone

@@ -1,2 +1,3 @@
 -- Inner: how the code keeps things.
 pub mod Kept
+pub mod Sifted

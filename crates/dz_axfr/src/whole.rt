@@ -1,17 +1,18 @@
 //! The whole form, fed record by record.
 
-ghost use Rattle.std.specs.Prelude.{◌≡◌, ◌∷◌, ◌++◌, [], IfOk, OnOk, OnErr};
+ghost use Rattle.std.specs.Prelude.{◌≡◌, ◌<◌, ◌∷◌, ◌++◌, [], true, length, slice_index_or, List, IfOk, IfErr};
 ghost use Rattle.std.specs.List.{position};
 ghost use Rattle.dz_name.specs.declared.dns.TheConstants.{TYPE_SOA};
 ghost use Rattle.dz_record.specs.Record.{Record};
 ghost use Rattle.dz_record.specs.Records.{distinct};
 ghost use Rattle.dz_xfr.specs.Apex.{is_apex_soa};
-ghost use Rattle.dz_xfr.specs.Feeding.{IsOpen, Says, progress_of};
+ghost use Rattle.dz_xfr.specs.Feeding.{IsOpen, progress_of};
+ghost use Rattle.dz_xfr.specs.Answers.{Says};
 ghost use Rattle.dz_xfr.specs.Stands.{Stands, IsComplete};
-ghost use Rattle.dz_axfr.specs.Laws.{ReadingStands, NothingElse};
 ghost use Rattle.dz_axfr.specs.Whole.{IsWhole, Blames};
-ghost use Rattle.dz_axfr.specs.inner.Kept.{OpensAt, Extends};
+ghost use Rattle.dz_axfr.specs.inner.Kept.{Cuts, Misfits};
 
+use crate::kept::Kept;
 use dz_name::Name;
 use dz_record::Rr;
 use dz_xfr::{Fed, FeedError, Progress, ShapeFault, is_apex_soa, same_rdata};
@@ -22,20 +23,20 @@ use std::marker::Model;
 #[derive(Drop)]
 pub struct Whole {
     apex: Name,
-    records: Vec<Rr>,
+    kept: Kept,
     progress: Progress,
     fed: Fed,
 }
 
 impl Model for Whole {
     ghost use Rattle.dz_axfr.specs.Assembly.{Assembly};
-    ghost use Rattle.dz_axfr.specs.inner.Kept.{IsKept};
+    ghost use Rattle.dz_axfr.specs.inner.Kept.{IsHeld};
 
     ghost Value = { Assembly };
 
     ghost view = { λ w. record { apex = w.apex; fed = w.fed } };
 
-    ghost invariant = { λ w. IsKept w.apex w.records.items w.progress w.fed };
+    ghost invariant = { λ w. IsHeld w.apex w.kept w.progress w.fed };
 }
 
 impl Whole {
@@ -50,12 +51,11 @@ impl Whole {
         ensures is_open { IfOk result (λ w. IsOpen (IsWhole w.apex) Blames w.fed) }
     {
         let apex = first.owner();
-        let mut records = Vec::with_capacity(alloc, 1)?;
-        records.push(first)?;
-        let fed = Fed::nothing().and_all(&records);
+        let fed = Fed::nothing().and(&first);
+        let kept = Kept::one(alloc, first)?;
         Ok(Whole {
             apex,
-            records,
+            kept,
             progress: Progress::More,
             fed,
         })
@@ -67,49 +67,52 @@ impl Whole {
     /// # Errors
     ///
     /// The fault of the first record with which no whole form goes on, or `AfterEnd` where records follow one; or out
-    /// of memory.
-    pub fn feed(mut self, records: Vec<Rr>) -> Result<(Whole, Progress), FeedError>
+    /// of memory, as which it also counts where the records, those that are the same being counted once, are more than
+    /// [`dz_xfr::KEPT_RECORDS`] or take more than [`dz_xfr::KEPT_OCTETS`].
+    pub fn feed(self, records: Vec<Rr>) -> Result<(Whole, Progress), FeedError>
         requires { IsOpen (IsWhole self.apex) Blames self.fed }
         ensures apex { IfOk result (λ r. r.0.apex ≡ self.apex) }
         ensures fed { IfOk result (λ r. r.0.fed ≡ self.fed ++ records.items) }
         ensures says { Says (progress_of result)
             (Stands (IsWhole self.apex) Blames (self.fed ++ records.items)) }
     {
-        match self.read(records) {
-            Ok(progress) => Ok((self, progress)),
-            Err(error) => Err(error),
-        }
-    }
-
-    /// Reads further records, in place. An error leaves what was read as it was; the errors are those of
-    /// [`Whole::feed`].
-    fn read(&mut self, records: Vec<Rr>) -> Result<Progress, FeedError>
-        requires { IsOpen (IsWhole self.old.apex) Blames self.old.fed }
-        ensures apex { self.new.apex ≡ self.old.apex }
-        ensures fed { OnOk result (self.new.fed ≡ self.old.fed ++ records.items) }
-        ensures kept { OnErr result (self.new ≡ self.old) }
-        ensures says { Says result
-            (Stands (IsWhole self.old.apex) Blames (self.old.fed ++ records.items)) }
-    {
         let fed = self.fed.and_all(&records);
-        match extend(&self.apex, &mut self.records, records) {
-            Ok(progress) => {
-                self.progress = progress;
-                self.fed = fed;
-                Ok(progress)
+        match body_of(&self.apex, first_of(self.kept.records()), records) {
+            Ok((body, progress)) => {
+                let Whole { apex, kept, .. } = self;
+                let kept = kept.and(body)?;
+                Ok((
+                    Whole {
+                        apex,
+                        kept,
+                        progress,
+                        fed,
+                    },
+                    progress,
+                ))
             }
-            Err(error) => Err(error),
+            Err(fault) => Err(FeedError::Shape(fault)),
         }
     }
 
-    /// The records of the zone, as they came: the first SOA and the body, which are all that were fed but the last.
+    /// The records of the zone: the first SOA and the body, which are all that were fed but the last, in the order in
+    /// which they came. Of records that are the same some may be left out, but the first is there.
     pub fn finish(self) -> Vec<Rr>
         requires { IsComplete (IsWhole self.apex) self.fed }
         ensures whole { IsWhole self.apex self.fed (distinct result.items) }
-        ensures items { (last : Record) × (self.fed ≡ result.items ++ last ∷ []) }
+        ensures items { (front : List Record) × (last : Record)
+            × (self.fed ≡ front ++ last ∷ []) × (distinct result.items ≡ distinct front) }
     {
-        self.records
+        self.kept.into_records()
     }
+}
+
+/// The first of some records.
+fn first_of(records: &[Rr]) -> &Rr
+    requires { 0 < length records.now }
+    ensures { result.now ≡ slice_index_or records.now 0 result.now }
+{
+    &records[0]
 }
 
 /// The index of the first SOA of the apex; `None` where there is none.
@@ -119,37 +122,28 @@ fn first_soa(apex: &Name, records: &[Rr]) -> Option<usize>
     records.iter().position(|found| is_apex_soa(apex, found))
 }
 
-/// Appends the records up to the closing SOA, if it is there and closes the form.
+/// What of these records belongs to the body of a form that begins with this SOA, and whether one of them closes it.
 ///
 /// # Errors
 ///
-/// `SerialGap` where the SOA has other RDATA than the first, `AfterEnd` where records follow it; or out of memory.
-fn extend(apex: &Name, kept: &mut Vec<Rr>, mut records: Vec<Rr>) -> Result<Progress, FeedError>
-    requires { OpensAt apex.now kept.old.items }
-    ensures { Extends apex.now kept.old.items records.items result kept.new.items }
+/// `SerialGap` where an SOA has other RDATA than the first, `AfterEnd` where records follow the one that closes the
+/// form.
+fn body_of(apex: &Name, first: &Rr, mut records: Vec<Rr>) -> Result<(Vec<Rr>, Progress), ShapeFault>
+    requires { is_apex_soa apex.now first.now ≡ true }
+    ensures body { IfOk result (λ r. Cuts apex.now first.now records.items r.1 r.0.items) }
+    ensures fault { IfErr result (Misfits apex.now first.now records.items) }
 {
     match first_soa(apex, records.as_slice()) {
-        None => {
-            kept.append(&mut records)?;
-            Ok(Progress::More)
-        }
+        None => Ok((records, Progress::More)),
         Some(at) => {
-            if !same_rdata(&records[at], &kept[0]) {
-                return Err(FeedError::Shape(ShapeFault::SerialGap));
+            if !same_rdata(&records[at], first) {
+                return Err(ShapeFault::SerialGap);
             }
             if at + 1 < records.len() {
-                return Err(FeedError::Shape(ShapeFault::AfterEnd));
+                return Err(ShapeFault::AfterEnd);
             }
             records.truncate(at);
-            kept.append(&mut records)?;
-            Ok(Progress::Ended)
+            Ok((records, Progress::Ended))
         }
     }
 }
-
-/// What the reading of the whole form says of a list of records is what holds of the list, and nothing else does.
-#[tactic(auto, using(crate::proofs::WholeLemmas::whole_stands_once))]
-pub fn whole_form()
-    ensures stands { ReadingStands }
-    ensures once { NothingElse }
-{}

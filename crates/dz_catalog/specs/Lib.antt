@@ -1,3 +1,4 @@
+pub mod Answers
 pub mod Broken
 pub mod Examples
 pub mod Laws

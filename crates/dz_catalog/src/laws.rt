@@ -1,4 +1,4 @@
-//! Laws of listings.
+//! Laws of listings. Each is a contract without a call, so its body is empty.
 
 ghost use Rattle.dz_catalog.specs.Laws.{OrderIsFree};
 

@@ -5,7 +5,8 @@ ghost use Rattle.std.specs.List.Sorted.{IsStrictlySortedBy};
 ghost use Rattle.dz_record.specs.Record.{record_order};
 ghost use Rattle.dz_catalog.specs.Broken.{broken_records};
 ghost use Rattle.dz_catalog.specs.inner.Count.{by_count};
-ghost use Rattle.dz_catalog.specs.Listing.{Reads, listing_of};
+ghost use Rattle.dz_catalog.specs.Listing.{listing_of};
+ghost use Rattle.dz_catalog.specs.Answers.{Reads};
 
 use crate::broken::broken_records;
 use crate::fault::CatalogError;

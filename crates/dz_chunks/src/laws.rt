@@ -1,4 +1,4 @@
-//! Laws of chunks.
+//! Laws of chunks. Each is a contract without a call, so its body is empty.
 
 ghost use Rattle.dz_chunks.specs.Laws.{FewChunks};
 

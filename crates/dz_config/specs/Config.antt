@@ -1,18 +1,12 @@
 -- Meaning: what a text configures, or its least fault.
-use Rattle.std.specs.Prelude.{◌≡◌, ◌≤◌, List, length, Some, Result, Ok, Err, ⊤, IsUtf8}
-use Rattle.dz_io.specs.declared.peer.Peer.{Peer}
-use Rattle.dz_settings.specs.declared.config.CatalogSettings.{CatalogSettings}
+use Rattle.std.specs.Prelude.{◌≡◌, ◌≤◌, length, Some, Err, IsUtf8}
 use Rattle.dz_name.specs.Words.{Octets}
 use Rattle.toml.specs.Data.{Members}
 use Rattle.toml.specs.Parse.{parse_document}
-use Rattle.dz_config.specs.Reading.{Reading}
-use Rattle.dz_config.specs.Document.{config_of, downstream_of}
-use Rattle.dz_config.specs.declared.config.Said.{Said}
+use Rattle.dz_config.specs.Document.{config_of}
 use Rattle.dz_config.specs.declared.config.TheConstants.{TEXT_OCTETS}
 use Rattle.dz_config.specs.declared.fault.ConfigFault.{ConfigFault}
 use Rattle.dz_config.specs.declared.fault.ConfigFault.TheVariants.{NotToml}
-use Rattle.dz_config.specs.declared.fault.ConfigError.{ConfigError}
-use Rattle.dz_config.specs.declared.fault.ConfigError.TheVariants.{Fault, OutOfMemory}
 
 -- a text of at most 1,048,576 octets that is UTF-8 and a TOML document: its table
 pub record IsDocument (text : Octets) (table : Members) : Type 0 where
@@ -24,23 +18,3 @@ pub record IsDocument (text : Octets) (table : Members) : Type 0 where
 pub record IsFaultOf (text : Octets) (fault : ConfigFault) : Type 0 where
   pub least : (table : Members) → IsDocument text table → config_of table ≡ Err fault
   pub document : (fault ≡ NotToml → ⊥) → (table : Members) × IsDocument text table
-
--- what a call read: what the text's document gives, or its fault; out of memory tells nothing
-abbrev pub ReadsBy : {X : Type 0} → (Members → Reading X) → Octets → Result X ConfigError → Type 0
-ReadsBy read text (Ok x) = (table : Members) × IsDocument text table × (read table ≡ Ok x)
-ReadsBy read text (Err (Fault fault)) = IsFaultOf text fault
-ReadsBy read text (Err OutOfMemory) = ⊤
-
--- what a call read of the configuration
-abbrev pub Reads : Octets → Result (Peer × List CatalogSettings) ConfigError → Type 0
-Reads text result = ReadsBy config_of text result
-
--- what a call read of the addresses to which zones are sent
-abbrev pub ReadsDownstream : Octets → Result (List Octets) ConfigError → Type 0
-ReadsDownstream text result = ReadsBy downstream_of text result
-
--- what a call read of a document: what it says, or its fault; out of memory tells nothing
-abbrev pub ReadsTable : Result Said ConfigError → Reading Said → Type 0
-ReadsTable (Ok said) reading = reading ≡ Ok said
-ReadsTable (Err (Fault fault)) reading = reading ≡ Err fault
-ReadsTable (Err OutOfMemory) reading = ⊤

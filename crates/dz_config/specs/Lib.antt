@@ -1,3 +1,4 @@
+pub mod Answers
 pub mod Config
 pub mod Document
 pub mod Examples

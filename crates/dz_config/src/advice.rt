@@ -1,6 +1,6 @@
 //! What to correct in a configuration.
 ghost use Rattle.std.specs.Prelude.{IfSome, Err};
-ghost use Rattle.dz_config.specs.Config.{Reads};
+ghost use Rattle.dz_config.specs.Answers.{Reads};
 
 use crate::config::{TEXT_OCTETS, read_config};
 use crate::entry::Found;

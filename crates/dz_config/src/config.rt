@@ -2,7 +2,7 @@
 
 ghost use Rattle.std.specs.Prelude.{◌≡◌};
 ghost use Rattle.toml.specs.View.{table_view};
-ghost use Rattle.dz_config.specs.Config.{Reads, ReadsBy, ReadsDownstream, ReadsTable};
+ghost use Rattle.dz_config.specs.Answers.{Reads, ReadsBy, ReadsDownstream, ReadsTable};
 ghost use Rattle.dz_config.specs.Document.{said_of, judged};
 
 use crate::document::settings;

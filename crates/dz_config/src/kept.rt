@@ -11,6 +11,7 @@ use std::alloc::Global;
 pub struct Kept<S> {
     source: S,
     text: Vec<u8>,
+    /// Nothing more is kept.
     is_lost: bool,
 }
 
@@ -23,6 +24,17 @@ impl<S: Source + Drop> Kept<S> {
             source,
             text: Vec::new(alloc),
             is_lost: false,
+        }
+    }
+
+    /// A source of which nothing is kept.
+    pub fn passing(alloc: Global, source: S) -> Kept<S>
+        ensures { result.source ≡ source }
+    {
+        Kept {
+            source,
+            text: Vec::new(alloc),
+            is_lost: true,
         }
     }
 

@@ -1,4 +1,4 @@
-//! Laws of configurations.
+//! Laws of configurations. Each is a contract without a call, so its body is empty.
 
 ghost use Rattle.dz_config.specs.Laws.{NotTomlIsExact};
 

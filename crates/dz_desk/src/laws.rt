@@ -1,4 +1,4 @@
-//! Laws of the steps of a desk: each is a contract without a call, so its body is empty.
+//! Laws of the steps of a desk. Each is a contract without a call, so its body is empty.
 
 ghost use Rattle.dz_desk.specs.Kinds.{EachKeeps};
 ghost use Rattle.dz_desk.specs.Steps.{StepsKeep};

@@ -1,4 +1,4 @@
-//! What a crash leaves of a list of records.
+//! What a crash leaves of a list of records. Each is a contract without a call, so its body is empty.
 
 ghost use Rattle.dz_disk.specs.Laws.{OneJoins, SeveralJoin};
 

@@ -1,15 +1,18 @@
 //! The bell that wakes the workers that rest.
+use crate::expiries::Expiries;
 use crate::figures::Figures;
 use crate::kind::Kind;
 use crate::notifies::Notifies;
 use crate::stop::Stop;
+use crate::tell::tell_lost;
 use std::alloc::Global;
 use std::fs::{File, Files};
+use std::io::Eprint;
 use std::sync::{Condvar, CondvarTimeouts, Mutex, Wait};
 use std::time::{Clock, Duration};
 
 /// What the devices and clocks of a server share: a bell, whether the server is to stop, which devices work, the
-/// NOTIFYs, and what is counted.
+/// NOTIFYs, what is counted, and when versions expire.
 ///
 /// The bell rings where a NOTIFY was taken, where a worker has found work, and where the server is to stop. A worker
 /// that rests remembers how often it had rung when the worker last went on, so it misses no ring.
@@ -25,6 +28,7 @@ pub struct Bell {
     /// The acceptors.
     pub(crate) acceptors: Kind,
     pub(crate) figures: Figures,
+    pub(crate) expiries: Expiries,
 }
 
 impl Bell {
@@ -38,6 +42,7 @@ impl Bell {
             datagrams: Kind::new("UDP"),
             acceptors: Kind::new("TCP"),
             figures: Figures::new(),
+            expiries: Expiries::new(alloc),
         }
     }
 
@@ -75,9 +80,12 @@ impl Bell {
         self.ring(rt);
     }
 
-    /// A device of a kind has failed for good. After the last one the server is to stop: it would answer no more.
-    pub(crate) fn lose<R: Wait>(&self, rt: &R, kind: &Kind) {
-        if kind.lose() {
+    /// A device of a kind has failed for good, which is told. After the last one the server is to stop: it would answer
+    /// no more.
+    pub(crate) fn lose<R: Wait + Eprint>(&self, rt: &R, kind: &Kind) {
+        let is_last = kind.lose();
+        tell_lost(rt, kind, is_last);
+        if is_last {
             self.stop(rt);
         }
     }

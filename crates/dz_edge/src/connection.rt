@@ -13,7 +13,7 @@ const LIMIT_SECONDS: u64 = 10;
 /// A room for a part of a frame that has more octets is given back once it is empty.
 const HELD_OCTETS: usize = 4096;
 
-/// At most so many octets of replies that wait are copied, so that the worker keeps its room.
+/// Replies that wait are copied if they have at most this many octets, so that the worker keeps its room.
 const COPIED_OCTETS: usize = 81_921;
 
 /// A TCP connection that a client has made, whose calls don't wait.

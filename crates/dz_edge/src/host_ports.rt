@@ -2,6 +2,7 @@
 ghost use Rattle.std.specs.Prelude.{◌≡◌, None};
 
 use crate::tcp_acceptor::{accept_at, bind_tcp};
+use crate::tell::tell_refused;
 use crate::udp_datagrams::bind_udp;
 use crate::{Bell, TcpAcceptor, TcpDialer, UdpDatagrams};
 use dz_io::{Failed, Peer, Ports};
@@ -160,8 +161,8 @@ impl<'a, R: Net<Stream = TcpStream> + Clock + Eprint + Files<File = File> + Wait
     }
 }
 
-/// The socket that was kept at this address, or a new one, which it keeps.
-fn share_socket<R: Net>(
+/// The socket that was kept at this address, or a new one, which it keeps. Where the system refuses it, that is told.
+fn share_socket<R: Net + Eprint>(
     rt: &R,
     kept: &mut Option<(Peer, UdpSocket)>,
     listen: &Peer,
@@ -171,13 +172,13 @@ fn share_socket<R: Net>(
             return socket.try_clone().ok();
         }
     }
-    let socket = bind_udp(rt, listen)?;
+    let socket = tell_refused(rt, "UDP", listen, bind_udp(rt, listen))?;
     *kept = Some((*listen, socket.try_clone().ok()?));
     Some(socket)
 }
 
-/// The listener that was kept at this address, or a new one, which it keeps.
-fn share_listener<R: Net>(
+/// The listener that was kept at this address, or a new one, which it keeps. Where the system refuses it, that is told.
+fn share_listener<R: Net + Eprint>(
     rt: &R,
     kept: &mut Option<(Peer, TcpListener)>,
     listen: &Peer,
@@ -187,7 +188,7 @@ fn share_listener<R: Net>(
             return listener.try_clone().ok();
         }
     }
-    let listener = bind_tcp(rt, listen)?;
+    let listener = tell_refused(rt, "TCP", listen, bind_tcp(rt, listen))?;
     *kept = Some((*listen, listener.try_clone().ok()?));
     Some(listener)
 }

@@ -20,7 +20,7 @@ impl Quota {
         Quota { end: 0, count: 0 }
     }
 
-    /// The first moment at which one more may be delivered, where at most so many are in a second: any while fewer were
+    /// The first moment at which one more may be delivered, where `most` may be in a second: any while fewer were
     /// delivered, and the end of the second otherwise.
     pub fn opens(self, most: u64) -> u64
         ensures few { self.count < most → result ≡ 0 }

@@ -7,6 +7,7 @@ use crate::{Bell, Turn};
 use dz_io::{Accepted, Acceptor, Failed, Peer};
 use std::alloc::Global;
 use std::fs::{File, Files};
+use std::io;
 use std::io::Eprint;
 use std::net::{Net, TcpListener};
 use std::sync::Wait;
@@ -22,10 +23,10 @@ pub struct TcpAcceptor<'a, R> {
     pub(crate) faults: u64,
 }
 
-/// A listener at this address and port, whose `accept` doesn't wait.
-pub(crate) fn bind_tcp<R: Net>(rt: &R, listen: &Peer) -> Option<TcpListener> {
-    let listener = mio::net::TcpListener::bind(rt, socket_address(listen)).ok()?;
-    Some(TcpListener::from(listener))
+/// A listener at this address and port, whose `accept` doesn't wait; the system's error where there is none.
+pub(crate) fn bind_tcp<R: Net>(rt: &R, listen: &Peer) -> io::Result<TcpListener> {
+    let listener = mio::net::TcpListener::bind(rt, socket_address(listen))?;
+    Ok(TcpListener::from(listener))
 }
 
 /// A worker's acceptor at a listener, if there is one, that has given no link; none where the system or memory refuses.

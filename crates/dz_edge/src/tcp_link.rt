@@ -1,6 +1,7 @@
 //! Links over TCP.
 ghost use Rattle.std.specs.Prelude.{◌≡◌, ◌≤◌, ◌<◌, ◌+◌, ◌/◌, ◌↔◌, refl, length, None, IfSome, IsTrue};
 
+use crate::glimpse::Glimpse;
 use crate::watch::Watch;
 use crate::work::millis;
 use dz_io::{Failed, Link, Sink, Source};
@@ -36,6 +37,7 @@ pub struct TcpLink<'a, R> {
     dialled: Duration,
     /// How many octets were read.
     octets: u64,
+    glimpse: Glimpse,
     pub(crate) faults: u64,
 }
 
@@ -65,12 +67,25 @@ impl<'a, R> TcpLink<'a, R> {
             stream,
             dialled,
             octets: 0,
+            glimpse: Glimpse::nothing(),
             faults: 0,
         })
     }
 }
 
 impl<'a, R: Clock + Files<File = File> + Wait> TcpLink<'a, R> {
+    /// Octets of the reply came. What they show of EXPIRE is kept.
+    fn show(&mut self, octets: &[u8])
+        ensures { self.new.faults ≡ self.old.faults }
+    {
+        if !self.glimpse.add(octets) {
+            return;
+        }
+        if let Some((zone, span)) = self.glimpse.expire() {
+            self.watch.bell.expiries.note(self.watch.rt, &zone, span);
+        }
+    }
+
     /// Whether it is to go on waiting for octets since a moment: the server isn't to stop, and the primary isn't too slow.
     fn may_wait(&mut self, since: Duration) -> bool
         ensures { self.new.faults ≡ self.old.faults }
@@ -118,7 +133,10 @@ impl<'a, R: Clock + Files<File = File> + Wait> Source for TcpLink<'a, R> {
     /// Reads octets, and answers how many; it fails where the primary is too slow, or the server is to stop.
     fn read(&mut self, buffer: &mut [u8]) -> Result<usize, Failed> {
         match self.read_within(buffer) {
-            Some(count) => Ok(count),
+            Some(count) => {
+                self.show(buffer.get(..count).unwrap_or(&[]));
+                Ok(count)
+            }
             None => {
                 self.faults = self.faults.saturating_add(1);
                 Err(Failed)
@@ -136,6 +154,7 @@ impl<'a, R: Clock + Files<File = File> + Wait> Sink for TcpLink<'a, R> {
 
     /// Writes all octets; it fails where the socket does.
     fn write(&mut self, piece: &[u8]) -> Result<(), Failed> {
+        self.glimpse.ask(piece);
         match self.stream.write_all(piece) {
             Ok(()) => Ok(()),
             Err(_) => {

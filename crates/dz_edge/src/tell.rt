@@ -1,14 +1,19 @@
-//! The lines on standard error that tell what a server does: its figures, and that it stops.
+//! The lines on standard error that tell what a server does: its figures, which versions expired, where it can't
+//! listen, which device has failed, and that it stops.
 use crate::Bell;
+use crate::address::socket_address;
 use crate::figures::Numbers;
+use crate::kind::Kind;
 use crate::work::has_errors_room;
+use dz_io::Peer;
 use std::alloc::Alloc;
-use std::env;
 use std::env::{Env, VarError};
 use std::fs::{File, Files};
 use std::io::Eprint;
 use std::os::unix::fs::FileExt;
+use std::sync::Wait;
 use std::time::{Clock, Duration};
+use std::{env, io, str};
 
 /// The variable of the environment with the seconds between two lines of figures.
 const STATS: &str = "CATZD_STATS";
@@ -62,6 +67,43 @@ pub(crate) fn tell_figures<R: Eprint + Files<File = File>>(rt: &R, bell: &Bell, 
         let numbers = numbers_of(rt, bell, second);
         let _ = rt.eprintln(format_args!("catzd: {numbers}"));
     }
+}
+
+/// Tells of zones whose versions have expired before this second, once each. It is put off where standard error has no
+/// room.
+pub(crate) fn tell_expired<R: Eprint + Wait>(rt: &R, bell: &Bell, second: u64) {
+    if !has_errors_room() {
+        return;
+    }
+    'zones: for text in bell.expiries.expired(rt, second) {
+        if let Ok(zone) = str::from_utf8(&text) {
+            let _ = rt.eprintln(format_args!("catzd: {zone}: expired"));
+        }
+    }
+}
+
+/// What was opened at an address; none where the system has refused it, which is told.
+pub(crate) fn tell_refused<R: Eprint, T: Drop>(
+    rt: &R,
+    name: &str,
+    listen: &Peer,
+    opened: io::Result<T>,
+) -> Option<T> {
+    match opened {
+        Ok(device) => Some(device),
+        Err(error) => {
+            let at = socket_address(listen);
+            let _ = rt.eprintln(format_args!("catzd: {name}: can't listen at {at}: {error}"));
+            None
+        }
+    }
+}
+
+/// Tells that a device of a kind has failed for good, and whether it was the last.
+pub(crate) fn tell_lost<R: Eprint>(rt: &R, kind: &Kind, is_last: bool) {
+    let name = kind.name;
+    let left = if is_last { ", none is left" } else { "" };
+    let _ = rt.eprintln(format_args!("catzd: {name}: a socket has failed for good{left}"));
 }
 
 /// Tells once that the server stops.

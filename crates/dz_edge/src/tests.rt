@@ -1,7 +1,9 @@
 ghost use Rattle.std.specs.Prelude.{◌≡◌, ◌≤◌, IsSome, None, length};
 
+use crate::expiries::Expiries;
 use crate::figures::Numbers;
 use crate::frames::{asks_for_zone, takes_notify, turn_frames};
+use crate::glimpse::Glimpse;
 use crate::pacing::Pacing;
 use crate::stop::mask_of;
 use crate::tally::{Guests, Tally};
@@ -171,6 +173,45 @@ fn a_known_source_has_more_than_all_strangers(rt: HostRuntime) {
     assert_eq!(rt; delivered(&mut pacing, &peer_at([192, 0, 2, 3]), 5999), 0);
     assert_eq!(rt; delivered(&mut pacing, &peer_at([192, 0, 2, 3]), 6000), 16);
     assert_eq!(rt; delivered(&mut pacing, &known, 6000), 100);
+}
+
+/// A query for the whole zone `a.`, and a reply that begins with an SOA of which EXPIRE is 3, each preceded by its
+/// length.
+const ASKED: &[u8] = b"\x00\x13\0\x01\0\0\0\x01\0\0\0\0\0\0\x01a\0\0\xfc\0\x01";
+
+const CAME: &[u8] = b"\x00\x37\0\x01\x84\0\0\x01\0\x01\0\0\0\0\x01a\0\0\xfc\0\x01\
+    \xc0\x0c\0\x06\0\x01\0\0\x0e\x10\0\x18\xc0\x0c\xc0\x0c\
+    \0\0\0\x05\0\0\0\x01\0\0\0\x02\0\0\0\x03\0\0\0\x04";
+
+#[test]
+fn a_version_that_expires_is_told_once(rt: HostRuntime) {
+    let mut glimpse = Glimpse::nothing();
+    glimpse.ask(ASKED);
+    glimpse.add(&CAME[..20]);
+    glimpse.add(&CAME[20..]);
+    let Some((zone, span)) = glimpse.expire() else {
+        panic!(rt; "no SOA");
+    };
+    assert_eq!(rt; span, 3);
+    let expiries = Expiries::new(rt.alloc());
+    expiries.note(&rt, &zone, span);
+    assert_eq!(rt; expiries.expired(&rt, 1000).len(), 0);
+    expiries.read(&rt, 10, b"published 7 a. 5\nadded b. a.\n");
+    assert_eq!(rt; expiries.expired(&rt, 13).len(), 0);
+    assert_eq!(rt; told(&rt, &expiries, 14), 1);
+    assert_eq!(rt; told(&rt, &expiries, 15), 0);
+    expiries.read(&rt, 20, b"confirmed 8 a. 5\n");
+    expiries.read(&rt, 21, b"removed a. c.\n");
+    assert_eq!(rt; told(&rt, &expiries, 30), 0);
+}
+
+/// How many zones have expired before a second, each of them `a.`.
+fn told<R: Abort + Wait>(rt: &R, expiries: &Expiries, second: u64) -> usize {
+    let texts = expiries.expired(rt, second);
+    'texts: for text in &texts {
+        assert_eq!(rt; text.as_slice(), b"a.".as_slice());
+    }
+    texts.len()
 }
 
 #[test]

@@ -11,7 +11,7 @@ use crate::errors::{is_for_good, is_shortage};
 use crate::figures::Share;
 use crate::frames::{TurnFrames, asks_for_zone, begins_with_notify, frame_end, turn_frames};
 use crate::tally::Guests;
-use crate::tell::{tell_figures, tell_stop};
+use crate::tell::{tell_expired, tell_figures, tell_stop};
 use crate::turn::{Frames, Turn};
 use crate::watch::Watch;
 use crate::work::millis;
@@ -417,11 +417,13 @@ impl<'a, R: Clock + Eprint + Files<File = File> + Wait> Turns<'a, R> {
         self.has_zone_turn = true;
     }
 
-    /// Adds what the crowd has counted to the figures, and writes their line where it is due in this second.
+    /// Adds what the crowd has counted to the figures, writes their line where it is due in this second, and tells which
+    /// versions have expired.
     fn tell(&mut self, second: u64) {
         self.share.add_guests(&self.crowd.guests);
         self.crowd.guests = Guests::new();
         tell_figures(self.rt, self.watch.bell, second);
+        tell_expired(self.rt, self.watch.bell, second);
     }
 
     /// Queues the connections whose NOTIFY was kept back, where that was a little ago.
@@ -454,8 +456,8 @@ impl<'a, R: Clock + Eprint + Files<File = File> + Wait> Turns<'a, R> {
         }
     }
 
-    /// Accepts connections while there may be some, `GUESTS` at most. Where none of so many came through, the listener
-    /// rests a little.
+    /// Accepts connections while there may be some, `GUESTS` at most. Where each of these fails, the listener rests a
+    /// little.
     fn accept_guests(&mut self) {
         let mut missed = 0_usize;
         'guests: for _ in 0..GUESTS {

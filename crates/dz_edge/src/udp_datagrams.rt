@@ -13,6 +13,7 @@ use crate::watch::Watch;
 use crate::work::millis;
 use dz_io::{Datagrams, Failed, Peer, Received};
 use std::fs::{File, Files};
+use std::io;
 use std::io::{Eprint, Error, ErrorKind};
 use std::net::{Net, UdpSocket};
 use std::sync::Wait;
@@ -39,12 +40,12 @@ pub struct UdpDatagrams<'a, R> {
     pub(crate) faults: u64,
 }
 
-/// A socket that listens at this address and port.
-pub(crate) fn bind_udp<R: Net>(rt: &R, listen: &Peer) -> Option<UdpSocket> {
-    let socket = UdpSocket::bind(rt, socket_address(listen)).ok()?;
+/// A socket that listens at this address and port; the system's error where there is none.
+pub(crate) fn bind_udp<R: Net>(rt: &R, listen: &Peer) -> io::Result<UdpSocket> {
+    let socket = UdpSocket::bind(rt, socket_address(listen))?;
     let limit = Some(Duration::from_millis(LOOK_MILLIS));
-    socket.set_read_timeout(limit).ok()?;
-    Some(socket)
+    socket.set_read_timeout(limit)?;
+    Ok(socket)
 }
 
 impl<'a, R> UdpDatagrams<'a, R> {

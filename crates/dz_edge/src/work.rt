@@ -4,6 +4,7 @@ use libc::net::{POLLOUT, poll};
 use libc::types::pollfd;
 use std::io;
 use std::io::Write;
+use std::sync::Wait;
 use std::sync::atomic::{AtomicU64, Ordering};
 use std::time::{Clock, Duration};
 
@@ -77,7 +78,7 @@ fn has_room(fd: i32) -> bool {
     poll(&mut ends, 0) != 0
 }
 
-/// A writer of the log, which tells while it is at work.
+/// A writer of the log, which tells while it is at work, and what its lines say of versions.
 #[derive(Drop)]
 pub struct LogWriter<'a, R, W> {
     rt: &'a R,
@@ -92,9 +93,13 @@ impl<'a, R, W: Drop> LogWriter<'a, R, W> {
     }
 }
 
-impl<'a, R: Clock, W: Write> Write for LogWriter<'a, R, W> {
+impl<'a, R: Clock + Wait, W: Write> Write for LogWriter<'a, R, W> {
     /// Writes octets, and answers how many.
     fn write(&mut self, piece: &[u8]) -> io::Result<usize> {
+        if self.bell.expiries.knows() {
+            let now = self.rt.monotonic().unwrap_or(Duration::ZERO);
+            self.bell.expiries.read(self.rt, now.as_secs(), piece);
+        }
         self.bell.notifies.work.begin(self.rt);
         let written = self.writer.write(piece);
         self.bell.notifies.work.end();

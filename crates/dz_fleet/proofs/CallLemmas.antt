@@ -7,7 +7,8 @@ use Rattle.dz_job.specs.declared.verdict.Verdict.{Verdict}
 use Rattle.dz_job.specs.declared.verdict.Verdict.TheVariants.{Published, Confirmed, Refused, PolicyRefused, Stale, OutOfMemory}
 use Rattle.dz_fleet.specs.declared.due.Due.{Due}
 use Rattle.dz_fleet.specs.declared.due.Due.TheVariants as due
-use Rattle.dz_fleet.specs.Core.{Core, after_due, IsDue, IsOffered, after_notify}
+use Rattle.dz_fleet.specs.Core.{Core, after_due, after_notify}
+use Rattle.dz_fleet.specs.Answers.{IsDue, IsOffered}
 use Rattle.dz_fleet.specs.Events.{asked, ended, starved, next, CallsAreEvents}
 
 due_event : (c : Core) (now : ℕ) (answer : Due) (d : Core) → IsDue c now answer d → (memory : Bool) × (d ≡ next c (asked now memory))

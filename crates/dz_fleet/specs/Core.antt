@@ -1,6 +1,6 @@
 -- Meaning: the core of the server (RFC 9432 section 5, RFC 1995 section 4, RFC 1996 section 3, RFC 8976 section 4). It
 -- is the list of taken transfers, the jobs in flight, and what each zone waits for; events change them.
-use Rattle.std.specs.Prelude.{◌≡◌, ℕ, ◌+◌, ◌-◌, ◌^◌, ◌%◌, ◌==◌, ◌||◌, Bool, true, false, not, nat_le, nat_lt, List, [], ◌∷◌, ◌++◌, length, filter, take, slice_index_or, replicate, position, Option, Some, None, if◌then◌else◌}
+use Rattle.std.specs.Prelude.{ℕ, ◌+◌, ◌-◌, ◌^◌, ◌%◌, ◌==◌, ◌||◌, Bool, true, false, not, nat_le, nat_lt, List, [], ◌∷◌, ◌++◌, length, filter, take, slice_index_or, replicate, position, Option, Some, None, if◌then◌else◌}
 use Rattle.std.specs.Option.{option_map, option_map_or}
 use Rattle.dz_name.specs.Words.{Name, Octets}
 use Rattle.dz_io.specs.declared.peer.Peer.{Peer}
@@ -131,11 +131,6 @@ after_due c (due.Idle quiet) = c
 after_due c (due.Full quiet) = c
 after_due c due.OutOfMemory = c
 
--- what is answered and what is left; running out of memory changes nothing
-abbrev pub IsDue : Core → ℕ → Due → Core → Type 0
-IsDue c now due.OutOfMemory d = d ≡ c
-IsDue c now answer d = (answer ≡ due_of c now) × (d ≡ after_due c answer)
-
 -- ---- a job ends
 -- the entry that ended the incarnation of a job, if one did
 abbrev pub ended_of : Core → JobOf → Option ℕ
@@ -254,11 +249,6 @@ failure_of None = failures.Failed
 -- the core after a job that failed; where memory runs out a job ends in the same way
 abbrev pub failed_core : Core → JobOf → ℕ → Core
 failed_core c job now = after_end c job now (ended_of c job)
-
--- what `offer` answers and leaves
-abbrev pub IsOffered : Core → JobOf → Octets → ℕ → Verdict → Core → Type 0
-IsOffered c job octets now OutOfMemory d = d ≡ failed_core c job now
-IsOffered c job octets now verdict d = (verdict ≡ verdict_of c job octets) × (d ≡ settled c job octets now)
 
 -- ---- a NOTIFY comes (RFC 1996 section 3.11)
 -- how a NOTIFY from a peer is heard

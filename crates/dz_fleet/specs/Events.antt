@@ -11,7 +11,8 @@ use Rattle.dz_take.specs.Outcome.{octets_used}
 use Rattle.dz_job.specs.Job.{JobOf, transfer_for}
 use Rattle.dz_job.specs.declared.verdict.Verdict.{Verdict}
 use Rattle.dz_fleet.specs.declared.due.Due.{Due}
-use Rattle.dz_fleet.specs.Core.{Core, opened_core, due_of, after_due, IsDue, settled, failed_core, IsOffered, heard_of, after_notify}
+use Rattle.dz_fleet.specs.Core.{Core, opened_core, due_of, after_due, settled, failed_core, heard_of, after_notify}
+use Rattle.dz_fleet.specs.Answers.{IsDue, IsOffered}
 use Rattle.dz_fleet.specs.Sound.{IsSound, IsFlying}
 
 -- an event, some at a moment in seconds: a job is asked for, with memory for it or without; it ends with these octets;

@@ -1,9 +1,10 @@
 pub mod Absence
+pub mod Answers
 pub mod Core
-pub mod Last
 pub mod Events
+pub mod Last
 pub mod Quiet
+pub mod Sound
 pub mod Values
 pub mod Weighing
-pub mod Sound
 pub mod inner

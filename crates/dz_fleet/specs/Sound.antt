@@ -11,8 +11,6 @@ use Rattle.dz_history.specs.Legal.{IsLegal}
 use Rattle.dz_history.specs.Places.{Seat, seats}
 use Rattle.dz_job.specs.declared.flight.Flight.{Flight}
 use Rattle.dz_job.specs.Job.{JobOf, IsJob}
-use Rattle.dz_fleet.specs.declared.due.Due.{Due}
-use Rattle.dz_fleet.specs.declared.due.Due.TheVariants as due
 use Rattle.dz_fleet.specs.Core.{Core, state_of, primaries_of}
 use Rattle.dz_fleet.specs.Values.{value_at}
 
@@ -70,10 +68,3 @@ IsAmong flight (job ∷ jobs) = (job.flight ≡ flight) ⊎ IsAmong flight jobs
 pub record IsFlying (c : Core) (job : JobOf) : Type 0 where
   pub there : IsAmong job.flight c.flight
   pub held : stands (state_of c) job.flight.zone job.flight.incarnation ≡ true → job.held ≡ held_at (state_of c) job.flight.zone
-
--- a job that was handed out is this core's
-abbrev pub IsHanded : Due → Core → Type 0
-IsHanded (due.Job job) c = IsFlying c job
-IsHanded (due.Idle quiet) c = ⊤
-IsHanded (due.Full quiet) c = ⊤
-IsHanded due.OutOfMemory c = ⊤

@@ -6,9 +6,10 @@ ghost use Rattle.std.specs.Str.{bytes_eq};
 ghost use Rattle.std.specs.Arc.{arc_value};
 ghost use Rattle.dz_history.specs.State.{held_at, primaries_at};
 ghost use Rattle.dz_fleet.specs.Quiet.{IsQuiet};
-ghost use Rattle.dz_fleet.specs.Sound.{IsHanded};
+ghost use Rattle.dz_fleet.specs.Answers.{IsHanded};
 ghost use Rattle.dz_fleet.specs.Values.{value_at};
-ghost use Rattle.dz_fleet.specs.Core.{state_of, is_full, first_place, quiet_of, ask_of, primary_at, primaries_of, job_at, IsDue, heard_of, after_notify};
+ghost use Rattle.dz_fleet.specs.Core.{state_of, is_full, first_place, quiet_of, ask_of, primary_at, primaries_of, job_at, heard_of, after_notify};
+ghost use Rattle.dz_fleet.specs.Answers.{IsDue};
 
 use crate::due::{Due, Quiet};
 use crate::fleet::Fleet;

@@ -1,4 +1,5 @@
-//! Laws of a core to which events happen, one after the other.
+//! Laws of a core to which events happen, one after the other. Each is a contract without a call, so its body is
+//! empty.
 
 ghost use Rattle.dz_fleet.specs.Events.{ListOnlyGrows, ListStaysLegal, CoreStaysSound, CallsAreEvents};
 

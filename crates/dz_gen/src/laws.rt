@@ -1,4 +1,4 @@
-//! Laws of the script.
+//! Laws of the script. Each is a contract without a call, so its body is empty.
 
 ghost use Rattle.dz_gen.specs.Reading.{IsReadable};
 

@@ -2,7 +2,8 @@
 ghost use Rattle.std.specs.Prelude.{◌≡◌, ◌++◌, [], ◌∷◌, IfOk, codes};
 ghost use Rattle.dz_gen.specs.Records.{first_records, first_digest as first_digests};
 ghost use Rattle.dz_gen.specs.Messages.{question, message, response, query, catalog_begins, catalog_member, catalog_ends, catalog_changes, part_of, whole_of, changes_of};
-ghost use Rattle.dz_message.specs.Writing.{message_octets, IsWritten};
+ghost use Rattle.dz_message.specs.Writing.{message_octets};
+ghost use Rattle.dz_message.specs.Answers.{IsWritten};
 
 use crate::records::{
     catalog, first_digest, first_records, group, hourly, is_strict, mail, node, second_digest, soa,

@@ -11,7 +11,8 @@ use Rattle.dz_zone.specs.Version.{Zone}
 use Rattle.dz_take.specs.Taken.{IsOfZone}
 use Rattle.dz_take.specs.declared.outcome.TakeFault.{TakeFault}
 use Rattle.dz_take.specs.Transfer.{Transfer, Decision, up_to_date, new, refused}
-use Rattle.dz_catalog.specs.Listing.{listing_of, Reads}
+use Rattle.dz_catalog.specs.Listing.{listing_of}
+use Rattle.dz_catalog.specs.Answers.{Reads}
 use Rattle.dz_catalog.specs.declared.fault.CatalogError.{CatalogError}
 use Rattle.dz_catalog.specs.declared.fault.CatalogError.TheVariants.{Broken, OutOfMemory}
 use Rattle.dz_take.specs.Fit.{Fits}

@@ -1,4 +1,4 @@
-//! Laws of what a transfer changes.
+//! Laws of what a transfer changes. Each is a contract without a call, so its body is empty.
 
 ghost use Rattle.dz_history.specs.Laws.{BrokenKeeps, BeginsEmpty, RefusedKeeps, RecordsAreOwn};
 

@@ -18,7 +18,7 @@ use Rattle.dz_name.specs.inner.Starts.{offset_of}
 use Rattle.dz_name.proofs.OrderLemmas.{label_is, label_within, offset_step}
 use Rattle.dz_index.specs.SortKey.{octet_before, label_before, keys_of, key_of}
 
-then_then : (a b c : Ordering) → ordering_then (ordering_then a b) c ≡ ordering_then a (ordering_then b c)
+pub then_then : (a b c : Ordering) → ordering_then (ordering_then a b) c ≡ ordering_then a (ordering_then b c)
 then_then Less b c = refl
 then_then Equal b c = refl
 then_then Greater b c = refl

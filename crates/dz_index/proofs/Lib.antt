@@ -5,3 +5,5 @@ pub mod SearchLemmas
 pub mod OrderLemmas
 pub mod OwnerKeyLemmas
 pub mod AddingLemmas
+mod OctetLemmas
+pub mod SharedLemmas

@@ -148,7 +148,8 @@ impl Index {
         ensures cost { TakesAtMost (total self.now) (steps.new - steps.old) }
         ensures counted { steps.old ≤ steps.new }
     {
-        let sort_key = SortKey::of(name);
+        let mut sort_key = SortKey::empty();
+        sort_key.set(name);
         let key = sort_key.octets();
         let found = self.search(key, steps);
         let begin = self.first(found);
@@ -184,6 +185,14 @@ impl Index {
             begin: self.first(number),
             end: self.end(number),
         })
+    }
+
+    /// Gives back the memory that was taken beyond these owners.
+    pub fn fit(&mut self)
+        ensures { self.new ≡ self.old }
+    {
+        self.keys.fit();
+        self.firsts.shrink_to_fit();
     }
 
     /// How many distinct owners there are.

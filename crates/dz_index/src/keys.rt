@@ -5,6 +5,7 @@ ghost use Rattle.dz_index.specs.Rows.{compared};
 ghost use Rattle.dz_index.specs.inner.Parts.{AreBounds};
 
 use crate::index::OWNERS;
+use crate::octets::compare_octets;
 use crate::sort_key::ROOM;
 use dz_steps::Steps;
 use std::alloc::{AllocError, Global};
@@ -51,6 +52,14 @@ impl Keys {
         })
     }
 
+    /// Gives back the memory that was taken beyond these keys.
+    pub(crate) fn fit(&mut self)
+        ensures { self.new ≡ self.old }
+    {
+        self.octets.shrink_to_fit();
+        self.bounds.shrink_to_fit();
+    }
+
     /// How many keys there are.
     pub(crate) fn len(&self) -> usize
         ensures { result ≡ length self.now }
@@ -70,7 +79,7 @@ impl Keys {
         ensures counted { steps.new ≡ steps.old + 1 }
     {
         steps.tick();
-        self.key(number).cmp(key)
+        compare_octets(self.key(number), key)
     }
 
     /// One more key after the others. If memory runs out, none is added.

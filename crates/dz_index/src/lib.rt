@@ -4,10 +4,13 @@
 mod index;
 mod keys;
 mod lead;
+mod octets;
 mod owner_key;
+mod shared;
 mod sort_key;
 
 pub use index::{Index, OWNERS, Run};
 pub use lead::{LEAD, lead_of};
 pub use owner_key::OwnerKey;
+pub use shared::labels_apart;
 pub use sort_key::SortKey;

@@ -6,3 +6,4 @@ pub mod Links
 pub mod Ports
 pub mod Clocks
 pub mod MemoryDevices
+pub mod Examples

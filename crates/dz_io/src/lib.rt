@@ -3,11 +3,11 @@
 
 mod acceptor;
 mod clock;
-mod counts;
 mod datagram;
 mod datagrams;
 mod device;
 mod dialer;
+mod laws;
 mod memory;
 mod memory_acceptor;
 mod memory_clock;
@@ -25,11 +25,11 @@ mod tape;
 
 pub use acceptor::{Accepted, Acceptor};
 pub use clock::{Clock, Rest};
-pub use counts::{rises_add_up, rises_last};
 pub use datagram::{Datagram, PACKET_OCTETS};
 pub use datagrams::{Datagrams, Received};
 pub use device::{Failed, Link, Sink, Source};
 pub use dialer::Dialer;
+pub use laws::{rises_add_up, rises_last};
 pub use memory::{MemoryLink, MemorySink, MemorySource};
 pub use memory_acceptor::MemoryAcceptor;
 pub use memory_clock::MemoryClock;

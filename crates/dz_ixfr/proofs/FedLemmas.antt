@@ -10,7 +10,8 @@ use Rattle.dz_xfr.specs.declared.fault.Progress.TheVariants.{More, Ended as IsEn
 use Rattle.dz_xfr.specs.declared.fault.FeedError.{FeedError}
 use Rattle.dz_xfr.specs.declared.fault.FeedError.TheVariants.{Shape, OutOfMemory}
 use Rattle.dz_xfr.specs.Apex.{is_apex_soa, serial_of, held_serial}
-use Rattle.dz_xfr.specs.Feeding.{IsOpen, Says}
+use Rattle.dz_xfr.specs.Feeding.{IsOpen}
+use Rattle.dz_xfr.specs.Answers.{Says}
 use Rattle.dz_xfr.specs.Place.{Place, amid, ended, failed, read, said}
 use Rattle.dz_xfr.specs.Stands.{Stands, IsComplete, more, complete, misfit, is_complete}
 use Rattle.dz_xfr.proofs.ReadingLemmas.{read_pieces, stays_failed}

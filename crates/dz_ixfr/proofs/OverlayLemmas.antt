@@ -1,5 +1,5 @@
 -- A sorted list under changes: the elements that are still there, and those that overlaid.
-use Rattle.std.proofs.Common.{◌≡◌, ℕ, zero, suc, ◌+◌, ◌-◌, ◌<◌, Bool, true, false, not, ◌||◌, List, [], ◌∷◌, ◌++◌, append_assoc, is_lt, length, take, map, get_or, set, refl, sym, ◌∙◌, ap, subst, is_gt, is_eq, Ordering, Less, Equal, Greater, inl, inr, arith}
+use Rattle.std.proofs.Common.{◌≡◌, ℕ, zero, suc, ◌-◌, ◌<◌, Bool, true, false, not, ◌||◌, List, [], ◌∷◌, ◌++◌, append_assoc, is_lt, length, take, map, get_or, set, refl, sym, ◌∙◌, ap, subst, is_gt, is_eq, Ordering, Less, Equal, Greater, inl, inr, arith}
 use Rattle.std.specs.Prelude.{filter, if◌then◌else◌}
 use Rattle.std.specs.List.{AllByRecursion, list_any}
 use Rattle.std.specs.List.Sorted.{IsStrictlySortedBy}

@@ -2,7 +2,8 @@
 
 ghost use Rattle.std.specs.Prelude.{◌≡◌, ◌∷◌, ◌++◌, [], true, false, IfOk, OnOk};
 ghost use Rattle.dz_xfr.specs.Apex.{is_apex_soa, serial_of};
-ghost use Rattle.dz_xfr.specs.Feeding.{IsOpen, Says, progress_of};
+ghost use Rattle.dz_xfr.specs.Feeding.{IsOpen, progress_of};
+ghost use Rattle.dz_xfr.specs.Answers.{Says};
 ghost use Rattle.dz_xfr.specs.Stands.{Stands, IsComplete};
 ghost use Rattle.dz_ixfr.specs.Incremental.{IsIncremental, Blames};
 ghost use Rattle.dz_ixfr.specs.Reading.{reading_of};

@@ -1,4 +1,4 @@
-//! Laws of the incremental form.
+//! Laws of the incremental form. Each is a contract without a call, so its body is empty.
 
 ghost use Rattle.dz_ixfr.specs.Changes.{ChangesAll};
 ghost use Rattle.dz_ixfr.specs.Laws.{ReadingStands, NothingElse};

@@ -14,7 +14,7 @@ ghost use Rattle.dz_ixfr.specs.inner.Overlay.{Flagged, flagged, fallen, items, l
 
 use dz_name::Name;
 use dz_record::Rr;
-use dz_xfr::is_apex_soa;
+use dz_xfr::{KEPT_RECORDS, Room, is_apex_soa};
 use dz_zone::Version;
 use std::alloc::{AllocError, Global};
 use std::cmp::Ordering;
@@ -63,11 +63,12 @@ impl Held {
     }
 }
 
-/// The held records in canonical order, each with a flag, and the added records.
+/// The held records in canonical order, each with a flag, and the added records, with the room that is left for these.
 #[derive(Debug, Drop)]
 pub(crate) struct Standing {
     base: Vec<Held>,
     added: BTreeSet<Rr>,
+    room: Room,
 }
 
 impl Model for Standing {
@@ -90,6 +91,7 @@ impl Standing {
         Standing {
             base: Vec::new(alloc),
             added: BTreeSet::new(alloc),
+            room: Room::whole(),
         }
     }
 
@@ -99,7 +101,8 @@ impl Standing {
     {
         let base = shared(alloc, &held.apex().to_name(), held.records())?;
         let added = BTreeSet::new(alloc);
-        Ok(Standing { base, added })
+        let room = Room::whole();
+        Ok(Standing { base, added, room })
     }
 
     /// Removes a record, whatever its TTL, and says whether it was there.
@@ -108,6 +111,7 @@ impl Standing {
         ensures left { self.new ≡ without found.now self.old }
     {
         if leave(&mut self.added, found) {
+            self.room.give(found);
             return true;
         }
         match search(self.base.as_slice(), found) {
@@ -120,8 +124,8 @@ impl Standing {
         }
     }
 
-    /// Puts a record at its place unless the same is there, and says whether it was not. Where memory runs out, the
-    /// records are as they were.
+    /// Puts a record at its place unless the same is there, and says whether it was not. Where memory runs out, or where
+    /// the added records would be more than are kept, the records are as they were.
     pub(crate) fn insert(&mut self, found: Rr) -> Result<bool, AllocError>
         ensures added { IfOk result (λ added. added ≡ not (is_there found self.old)) }
         ensures joined { IfOk result (λ added. OnTrue added (self.new ≡ insertion found self.old)) }
@@ -131,7 +135,7 @@ impl Standing {
         if stands_in(self.base.as_slice(), &found) {
             return Ok(false);
         }
-        join(&mut self.added, found)
+        join(&mut self.added, &mut self.room, found)
     }
 
     /// All records that are left, and the SOA at its place, in one merging pass. `AllocError` where memory runs out.
@@ -140,7 +144,7 @@ impl Standing {
         ensures { IfOk result (λ v. v.items ≡ insertion soa self) }
     {
         self.insert(soa)?;
-        let Standing { base, added } = self;
+        let Standing { base, added, .. } = self;
         merged(alloc, base, added)
     }
 }
@@ -171,14 +175,18 @@ fn leave(added: &mut BTreeSet<Rr>, found: &Rr) -> bool
 }
 
 /// Puts a record among the added ones unless one of them compares equal, and says whether none does. `AllocError` where
-/// memory runs out.
-fn join(added: &mut BTreeSet<Rr>, found: Rr) -> Result<bool, AllocError>
+/// memory runs out, or where they would be more than are kept.
+fn join(added: &mut BTreeSet<Rr>, room: &mut Room, found: Rr) -> Result<bool, AllocError>
     ensures new { IfOk result (λ new. new ≡ not (has_tie record_order found added.old.keys)) }
     ensures joined { OnOk result (added.new.keys ≡ insert_key record_order added.old.keys found) }
     ensures rises { OnOk result (IsStrictlySortedBy record_order added.new.keys) }
     ensures kept { IfOk result (λ new. OnFalse new (added.new.keys ≡ added.old.keys)) }
     ensures unchanged { OnErr result (added.new.keys ≡ added.old.keys) }
 {
+    if KEPT_RECORDS <= added.len() {
+        return Err(AllocError);
+    }
+    room.take(&found)?;
     let new = added.insert(found)?;
     Ok(new)
 }

@@ -12,8 +12,8 @@ use dz_take::{Finished, Progress, Taking};
 use std::alloc::{AllocError, Global};
 use std::sync::Arc;
 
-/// What comes of the octets that a job got: their messages are read up to the first that decides, or all. A part of a
-/// frame at the end is not looked at.
+/// What comes of the octets that a job got: their messages are read up to the first that decides; where none does, all
+/// whole frames are read. A part of a frame at the end is not looked at.
 ///
 /// # Errors
 ///
@@ -21,6 +21,7 @@ use std::sync::Arc;
 pub fn take_stream(alloc: Global, job: &Job, octets: &[u8]) -> Result<Finished, AllocError>
     ensures transfer { IfOk result (λ f. f.transfer ≡ transfer_for job.now) }
     ensures read { IfOk result (λ f. IsReadOf (transfer_for job.now) octets.now f.octets) }
+    ensures frames { IfOk result (λ f. HasRead (transfer_for job.now) octets.now f.octets) }
 {
     let mut taking = start_taking(alloc, job)?;
     read_frames(&mut taking, octets)?;

@@ -1,22 +1,22 @@
 -- What is found, and that it has records.
 use Rattle.std.proofs.Common.{◌≡◌, ℕ, ◌<◌, Bool, true, false, List, [], ◌∷◌, length, refl, ap, subst, arith, inl, inr, sym, ◌∙◌}
 use Rattle.std.proofs.lemmas.Bool.Decides.{nat_tests}
-use Rattle.std.specs.Prelude.{Option, Some, None, filter, slice_get, nat_lt, ◌==◌, ◌&&◌, not, if◌then◌else◌}
+use Rattle.std.specs.Prelude.{Option, option_map, Some, None, filter, slice_get, nat_lt, ◌==◌, ◌&&◌, not, if◌then◌else◌}
 use Rattle.std.specs.List.{list_any}
 use Rattle.std.proofs.Common.{drop, get_or}
 use Rattle.std.proofs.lemmas.List.Folds.{list_any_none, list_any_at}
 use Rattle.dz_name.specs.Order.{same_decides}
 use Rattle.dz_zone.specs.Version.{Zone, has_cuts, has_dnames}
-use Rattle.dz_lookup.specs.inner.Places.{renamer_at}
+use Rattle.dz_lookup.specs.inner.Places.{renamer_at, if_exists}
 use Rattle.dz_lookup.proofs.Walk.{topmost_none}
 use Rattle.std.specs.List.Sorted.{IsStrictlySortedBy}
 use Rattle.std.proofs.lemmas.Bool.{cases_Bool, and_parts, false_from_ne_true, false≢true}
 use Rattle.dz_name.specs.Words.{Name}
-use Rattle.dz_name.specs.Name.{same_name}
+use Rattle.dz_name.specs.Name.{same_name, wildcard_of}
 use Rattle.dz_record.specs.Record.{Record, record_order}
 use Rattle.std.specs.Option.{option_or}
-use Rattle.dz_lookup.specs.Runs.{owns, of_type, records_of}
-use Rattle.dz_lookup.specs.Found.{Found, referral, rename, found, at_source, here_or, renaming, barrier, behind_barrier, cut, cut_for, dname, is_cut, source, topmost, HasRecords}
+use Rattle.dz_lookup.specs.Runs.{owns, of_type, records_of, exists}
+use Rattle.dz_lookup.specs.Found.{Found, referral, rename, found, at_node, at_source, encloser, wildcard_under, here_or, renaming, barrier, behind_barrier, cut, cut_for, dname, is_cut, source, topmost, HasRecords}
 use Rattle.dz_lookup.proofs.InOrder.{records_of_is, no_run}
 
 -- the NS records of a referral are some
@@ -193,3 +193,16 @@ no_renamer_at_all zone name up none = ap (λ rs. slice_get rs 0) (sym (no_run zo
 pub renaming_is : (rs : List Record) (r : Record) → slice_get rs 0 ≡ Some r → renaming rs ≡ rename r
 renaming_is [] r e = absurd (cc)
 renaming_is (s ∷ ss) r e = let f : s ≡ r = cc in ap rename f
+
+-- what a node gives that exists
+pub node_answers : (zone : List Record) (kind : ℕ) (name : Name) (rs : List Record) (f : Found) → f ≡ at_node kind rs → rs ≡ records_of zone name → exists zone name ≡ true
+    → f ≡ at_source zone kind (if_exists zone name)
+node_answers zone kind name rs f is own there = rw there (is ∙ ap (at_node kind) own)
+
+-- a wildcard below the closest encloser, as far as it exists
+under_is : (zone : List Record) (above : Option Name) (wildcard : Name) → Some wildcard ≡ option_map wildcard_of above → if_exists zone wildcard ≡ wildcard_under zone above
+under_is zone None wildcard h = absurd (cc)
+under_is zone (Some above) wildcard h = let e : wildcard ≡ wildcard_of above = cc in rw e refl
+
+pub source_is : (zone : List Record) (name wildcard : Name) → exists zone name ≡ false → Some wildcard ≡ option_map wildcard_of (encloser zone name) → if_exists zone wildcard ≡ source zone name
+source_is zone name wildcard none below = rw none (under_is zone (encloser zone name) wildcard below)

@@ -1,6 +1,9 @@
 -- Walks along the names above a name.
 use Rattle.std.proofs.Common.{◌≡◌, ℕ, ◌+◌, ◌-◌, ◌<◌, ◌≤◌, zero, suc, Bool, true, false, List, [], ◌∷◌, ◌++◌, length, drop, refl, sym, ◌∙◌, ap, arith, length-append, length-drop}
-use Rattle.std.specs.Prelude.{Some, None, if◌then◌else◌, ◌==◌, ◌&&◌}
+use Rattle.std.specs.Prelude.{Some, None, if◌then◌else◌, ◌==◌, ◌&&◌, nat_le}
+use Rattle.std.proofs.lemmas.Bool.Decides.{nat_tests}
+use Rattle.std.proofs.lemmas.List.{drop_all}
+use Rattle.dz_lookup.specs.inner.Places.{IsMissing}
 use Rattle.std.specs.List.{All, AllByRecursion}
 use Rattle.std.proofs.Common.{inl, inr}
 use Rattle.dz_name.specs.Name.{wire_of, same_name, is_within, IsLabel}
@@ -31,6 +34,28 @@ pub encloser_root : (zone : List Record) (name : List (List ℕ)) → name ≡ [
 unfolding upward
 encloser_root zone [] e none = rw none refl
 encloser_root zone (label ∷ labels) e none = absurd (cc)
+
+-- .. as many as are missing
+encloser_from : (zone : List Record) (name : List (List ℕ)) (skip : ℕ) → skip ≤ length name → ((k : ℕ) → k < skip → exists zone (drop k name) ≡ false) → encloser zone (drop skip name) ≡ encloser zone name
+encloser_from zone name zero le none = refl
+encloser_from zone name (suc k) le none =
+    let e : k + 1 ≡ suc k = omega arith in
+    rw e at (encloser_step zone name k (omega arith) (none k (omega arith))) ∙ encloser_from zone name k (omega arith) (λ j lt. none j (omega arith))
+
+pub above_missing : (zone : List Record) (name : List (List ℕ)) (missing : ℕ) → IsMissing zone name missing → (k : ℕ) → k ≤ length name → k < missing → exists zone (drop k name) ≡ false
+above_missing zone name missing is k le lt = let f : nat_le missing k ≡ false = grind (arith, nat_tests) in is k le ∙ f
+
+pub encloser_missing : (zone : List Record) (name : List (List ℕ)) (missing : ℕ) → IsMissing zone name missing → missing ≤ length name → Some (drop missing name) ≡ encloser zone name
+encloser_missing zone name missing is le =
+    let t : nat_le missing missing ≡ true = grind (arith, nat_tests) in
+    sym (encloser_here zone (drop missing name) (is missing le ∙ t))
+    ∙ encloser_from zone name missing le (λ k lt. above_missing zone name missing is k (omega arith) lt)
+
+pub encloser_nothing : (zone : List Record) (name : List (List ℕ)) (missing : ℕ) → IsMissing zone name missing → length name < missing → None ≡ encloser zone name
+encloser_nothing zone name missing is lt =
+    let root : drop (length name) name ≡ [] = drop_all (length name) name (omega arith) in
+    sym (encloser_root zone (drop (length name) name) root (above_missing zone name missing is (length name) (omega arith) lt))
+    ∙ encloser_from zone name (length name) (omega arith) (λ k below. above_missing zone name missing is k (omega arith) (omega arith))
 
 -- the wire form of a name that follows a label is at least two octets shorter
 pub wire_grows : (name : List (List ℕ)) (k : ℕ) → k < length name → AllByRecursion IsLabel (drop k name) → length (wire_of (drop (k + 1) name)) + 2 ≤ length (wire_of (drop k name))

@@ -1,25 +1,24 @@
 //! What is found for a name and a type.
 
-ghost use Rattle.std.specs.Prelude.{◌≡◌, ◌<◌, ◌≤◌, ◌-◌, ◌||◌, length, true, false, None, Some, option_map, IfSome};
+ghost use Rattle.std.specs.Prelude.{◌≡◌, ◌<◌, ◌≤◌, ◌-◌, ◌||◌, List, length, true, false, None, option_map};
 ghost use Rattle.std.specs.List.Sorted.{IsStrictlySortedBy, IsNonDecreasingBy};
 ghost use Rattle.dz_name.specs.Name.{is_within, wildcard_of, wire_of};
-ghost use Rattle.dz_record.specs.Record.{record_order};
+ghost use Rattle.dz_record.specs.Record.{Record, record_order};
 ghost use Rattle.dz_zone.specs.Version.{has_cuts, has_dnames};
 ghost use Rattle.dz_lookup.specs.Counted.{TakesSearches, IsLookup};
 ghost use Rattle.dz_lookup.specs.Runs.{exists, records_of, IsPlaceOf};
 ghost use Rattle.dz_lookup.specs.Found.{encloser, cut_for, dname, source, at_node, at_source, barrier, found, meaning, leading, referral, rename, HasRecords};
-ghost use Rattle.dz_lookup.specs.inner.Places.{from_owner, IsBegin, IsNodeOf, if_exists, renamer_at};
+ghost use Rattle.dz_lookup.specs.inner.Places.{IsNodeOf, IsMissing, if_exists, renamer_at};
 
-use crate::runs::{
-    APEX, NEAR, Node, exists_at, exists_beside, node_at_or_of, node_near, node_of,
-    node_of_wildcard, of_type,
-};
+use crate::beside::{counted_missing, missing_labels};
+use crate::runs::{APEX, NEAR, Node, node_at_or_of, node_near, node_of, node_of_wildcard, of_type};
 use dz_name::dns::{NAME_OCTETS, TYPE_ANY, TYPE_CNAME, TYPE_DNAME, TYPE_DS, TYPE_NS};
 use dz_name::{Name, NameRef};
 use dz_record::Rr;
 use dz_steps::Steps;
 use dz_zone::Version;
-use std::sync::ledger::Ledger;
+use std::marker::Brand;
+use std::sync::ledger::{Blank, Ledger};
 
 /// What a zone says of a name and a type (RFC 1034 section 4.3.2).
 #[derive(Clone, Copy, Debug)]
@@ -111,38 +110,58 @@ pub(crate) fn find_near<'a, L: Ledger>(
     ensures cost { IsLookup (length name.now) (length version.now.records) (steps.new - steps.old) }
     ensures counted { steps.old ≤ steps.new }
 {
-    let node = node_of(version, &name.as_ref(), steps);
-    match barrier(version, name, &node, kind, steps) {
+    let sought = seek(version, name, steps);
+    match barrier(version, name, &sought, kind, steps) {
         Some(finding) => finding,
-        None => Finding::beside(at_source(version, name, &node, kind, steps), node.number),
+        None => Finding::beside(
+            at_source(version, name, &sought, kind, steps),
+            sought.node.number,
+        ),
     }
+}
+
+/// The node of a name, and how many of its first labels are missing.
+#[derive(Clone, Copy)]
+struct Sought<'a> {
+    node: Node<'a>,
+    missing: usize,
+}
+
+/// What is at a name, by one search.
+fn seek<'a, L: Ledger>(version: &'a Version, name: &Name, steps: &mut Steps<L>) -> Sought<'a>
+    ensures node { IsNodeOf version.now.records name.now result.node.place
+        result.node.records.now }
+    ensures missing { IsMissing version.now.records name.now result.missing }
+    ensures rises { IsStrictlySortedBy record_order version.now.records }
+    ensures cost { TakesSearches 1 (length version.now.records) (steps.new - steps.old) }
+    ensures counted { steps.old ≤ steps.new }
+{
+    let node = node_of(version, &name.as_ref(), steps);
+    let missing = missing_labels(version, &name.as_ref(), &node);
+    Sought { node, missing }
 }
 
 /// What the node that answers for a name gives: the name's own, or else a wildcard's.
 fn at_source<'a, L: Ledger>(
     version: &'a Version,
     name: &Name,
-    node: &Node<'a>,
+    sought: &Sought<'a>,
     kind: u16,
     steps: &mut Steps<L>,
 ) -> Found<'a>
-    requires node { IsNodeOf version.now.records name.now node.now.place node.now.records.now }
+    requires node { IsNodeOf version.now.records name.now sought.now.node.place
+        sought.now.node.records.now }
+    requires missing { IsMissing version.now.records name.now sought.now.missing }
     ensures found { meaning result
         ≡ at_source version.now.records kind (source version.now.records name.now) }
     ensures cost { TakesSearches 1 (length version.now.records) (steps.new - steps.old) }
     ensures counted { steps.old ≤ steps.new }
 {
-    if exists_beside(version.records(), node.place, &name.as_ref()) {
-        return at_node(node.records, kind);
+    if sought.missing == 0 {
+        return at_node(sought.node.records, kind);
     }
-    match encloser_for(version.records(), name, node.place) {
-        Some(above) => at_wildcard(
-            version,
-            &above.to_name().wildcard(),
-            node.number,
-            kind,
-            steps,
-        ),
+    match wildcard_above(name, sought.missing) {
+        Some(wildcard) => at_wildcard(version, &wildcard, sought.node.number, kind, steps),
         None => Found::NoName,
     }
 }
@@ -162,7 +181,7 @@ fn at_wildcard<'a, L: Ledger>(
     ensures counted { steps.old ≤ steps.new }
 {
     let node = node_of_wildcard(version, &wildcard.as_ref(), number, steps);
-    if exists_at(version.records(), node.place, &wildcard.as_ref()) {
+    if missing_labels(version, &wildcard.as_ref(), &node) == 0 {
         at_node(node.records, kind)
     } else {
         Found::NoName
@@ -192,12 +211,14 @@ fn at_node<'a>(node: &'a [Rr], kind: u16) -> Found<'a>
 fn barrier<'a, L: Ledger>(
     version: &'a Version,
     name: &Name,
-    node: &Node<'a>,
+    sought: &Sought<'a>,
     kind: u16,
     steps: &mut Steps<L>,
 ) -> Option<Finding<'a>>
     requires within { is_within name.now version.now.apex ≡ true }
-    requires node { IsNodeOf version.now.records name.now node.now.place node.now.records.now }
+    requires node { IsNodeOf version.now.records name.now sought.now.node.place
+        sought.now.node.records.now }
+    requires missing { IsMissing version.now.records name.now sought.now.missing }
     ensures barrier { option_map (λ f. meaning f.found) result
         ≡ barrier version.now.records (cut_for version.now.apex version.now.records kind name.now)
         (dname version.now.records name.now) }
@@ -215,7 +236,7 @@ fn barrier<'a, L: Ledger>(
     }
     match apex_renamer(version, steps) {
         Some(renamer) => Some(Finding::beside(Found::Rename(renamer), APEX)),
-        None => barrier_below(version, name, node, kind, labels, steps),
+        None => barrier_below(version, name, sought, kind, labels, steps),
     }
 }
 
@@ -261,13 +282,15 @@ fn renamer_of<'a>(version: &Version, owner: &NameRef, records: &'a [Rr]) -> Opti
 fn barrier_below<'a, L: Ledger>(
     version: &'a Version,
     name: &Name,
-    node: &Node<'a>,
+    sought: &Sought<'a>,
     kind: u16,
     labels: usize,
     steps: &mut Steps<L>,
 ) -> Option<Finding<'a>>
     requires within { is_within name.now version.now.apex ≡ true }
-    requires node { IsNodeOf version.now.records name.now node.now.place node.now.records.now }
+    requires node { IsNodeOf version.now.records name.now sought.now.node.place
+        sought.now.node.records.now }
+    requires missing { IsMissing version.now.records name.now sought.now.missing }
     requires some { 0 < labels }
     requires labels { labels ≡ length name.now - length version.now.apex }
     requires apex { renamer_at version.now.records version.now.apex ≡ None }
@@ -278,15 +301,15 @@ fn barrier_below<'a, L: Ledger>(
         (steps.new - steps.old) }
     ensures counted { steps.old ≤ steps.new }
 {
-    let records = version.records();
+    version.records();
     let mut skip = labels;
     'labels: while 1 < skip {
         skip -= 1;
-        let above = name.ancestor_ref(skip);
-        if !exists_beside(records, node.place, &above) {
+        if skip < sought.missing {
             return None;
         }
-        let near = node_near(version, &above, node.number, NEAR, steps);
+        let above = name.ancestor_ref(skip);
+        let near = node_near(version, &above, sought.node.number, NEAR, steps);
         let servers = of_type(near.records, TYPE_NS);
         if !servers.is_empty() {
             return Some(Finding::at_cut(servers, near.number));
@@ -299,35 +322,26 @@ fn barrier_below<'a, L: Ledger>(
     if kind == TYPE_DS {
         return None;
     }
-    let servers = of_type(node.records, TYPE_NS);
+    let servers = of_type(sought.node.records, TYPE_NS);
     if servers.is_empty() {
         None
     } else {
-        Some(Finding::at_cut(servers, node.number))
+        Some(Finding::at_cut(servers, sought.node.number))
     }
 }
 
-/// The closest encloser of a name that doesn't exist, strictly above it (RFC 4592 section 3.3.1). The name would be at
-/// the place `begin`.
-fn encloser_for<'n>(records: &[Rr], name: &'n Name, begin: usize) -> Option<NameRef<'n>>
-    requires sorted { IsStrictlySortedBy record_order records.now }
-    requires room { begin ≤ length records.now }
-    requires point { IsBegin (from_owner name.now) records.now begin }
-    requires missing { exists records.now name.now ≡ false }
-    ensures encloser { result ≡ encloser records.now name.now }
-    ensures short { IfSome result (λ above. length (wire_of above) < 254) }
+/// The wildcard below the closest encloser of a name, of which so many first labels are missing (RFC 4592 section 3.3.1);
+/// none where no name above it exists.
+fn wildcard_above(name: &Name, missing: usize) -> Option<Name>
+    requires some { 0 < missing }
+    ensures { (zone : List Record) → IsMissing zone name.now missing
+        → result ≡ option_map wildcard_of (encloser zone name.now) }
 {
-    let count = name.label_count();
-    prove!(name.wire().len() <= NAME_OCTETS);
-    let mut skip = 0;
-    'labels: while skip < count {
-        skip += 1;
-        let above = name.ancestor_ref(skip);
-        if exists_beside(records, begin, &above) {
-            return Some(above);
-        }
+    if name.label_count() < missing {
+        return None;
     }
-    None
+    prove!(name.wire().len() <= NAME_OCTETS);
+    Some(name.ancestor(missing).wildcard())
 }
 
 /// Where the answer for a name comes from: the name itself, or else the wildcard below its closest encloser; none where
@@ -344,15 +358,16 @@ pub fn source<L: Ledger>(
     ensures counted { steps.old ≤ steps.new }
 {
     let node = node_at_or_of(version, &name.as_ref(), number, steps);
-    if exists_beside(version.records(), node.place, &name.as_ref()) {
+    let missing = missing_labels(version, &name.as_ref(), &node);
+    if missing == 0 {
         return Some(*name);
     }
-    let wildcard = match encloser_for(version.records(), name, node.place) {
+    let wildcard = match wildcard_above(name, missing) {
         None => return None,
-        Some(above) => above.to_name().wildcard(),
+        Some(wildcard) => wildcard,
     };
-    let place = node_of_wildcard(version, &wildcard.as_ref(), number, steps).place;
-    if exists_at(version.records(), place, &wildcard.as_ref()) {
+    let there = node_of_wildcard(version, &wildcard.as_ref(), number, steps);
+    if missing_labels(version, &wildcard.as_ref(), &there) == 0 {
         Some(wildcard)
     } else {
         None
@@ -367,8 +382,7 @@ pub fn wildcard_of(version: &Version, name: &Name, place: usize) -> Option<Name>
     requires place { IsPlaceOf name.now version.now.records place }
     ensures { result ≡ option_map wildcard_of (encloser version.now.records name.now) }
 {
-    match encloser_for(version.records(), name, place) {
-        None => None,
-        Some(above) => Some(above.to_name().wildcard()),
-    }
+    let records = version.records();
+    let missing = counted_missing::<Brand>(Blank::new(1), records, place, &name.as_ref());
+    wildcard_above(name, missing)
 }

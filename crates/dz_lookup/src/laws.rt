@@ -1,4 +1,4 @@
-//! Laws of lookups.
+//! Laws of lookups. Each is a contract without a call, so its body is empty.
 
 ghost use Rattle.dz_lookup.specs.Laws.{TakesFew};
 

@@ -4,6 +4,7 @@
 //! canonical order.
 #![tactic(auto)]
 
+mod beside;
 mod chain;
 mod found;
 mod laws;

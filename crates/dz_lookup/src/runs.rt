@@ -1,15 +1,14 @@
 //! The records of an owner, and those of an owner and a type, found by one search in the index of a version.
 
-ghost use Rattle.std.specs.Prelude.{◌≡◌, ◌&&◌, ◌≤◌, ◌+◌, ◌-◌, [], length, take, drop, nat_lt, slice_index_or, IfSome};
+ghost use Rattle.std.specs.Prelude.{◌≡◌, ◌≤◌, ◌+◌, ◌-◌, [], length, take, drop, slice_index_or, IfSome};
 ghost use Rattle.std.specs.List.{AllByRecursion};
 ghost use Rattle.std.specs.List.Sorted.{IsStrictlySortedBy, IsNonDecreasingBy};
-ghost use Rattle.dz_name.specs.Name.{is_within};
 ghost use Rattle.dz_record.specs.Record.{Record, record_order};
 ghost use Rattle.dz_lookup.specs.Counted.{TakesSearches};
-ghost use Rattle.dz_lookup.specs.Runs.{of_type, records_of, exists, IsPlaceOf};
+ghost use Rattle.dz_lookup.specs.Runs.{of_type, records_of, IsPlaceOf};
 ghost use Rattle.dz_index.specs.Index.{IsRun};
 ghost use Rattle.dz_zone.specs.Version.{owners_of};
-ghost use Rattle.dz_lookup.specs.inner.Places.{from_owner, IsBegin, IsNodeOf, IsPlaceWithin};
+ghost use Rattle.dz_lookup.specs.inner.Places.{from_owner, IsBegin, IsNodeOf};
 
 use dz_index::Run;
 use dz_name::dns::{TYPE_A, TYPE_AAAA};
@@ -416,42 +415,6 @@ pub(crate) fn of_type<'a>(node: &'a [Rr], kind: u16) -> &'a [Rr]
     let begin = node.partition_point(|r| r.kind().cmp(&kind).is_lt());
     let end = node.partition_point(|r| r.kind().cmp(&kind).is_le());
     between(node, begin, end)
-}
-
-/// Whether the name, or a name below it, owns a record (RFC 4592 section 2.2.2), by the place where its own records are
-/// or would be. Of the names from this one on, those within it come first.
-pub(crate) fn exists_at(records: &[Rr], place: usize, name: &NameRef) -> bool
-    requires sorted { IsStrictlySortedBy record_order records.now }
-    requires point { IsBegin (from_owner name.now) records.now place }
-    ensures { result ≡ exists records.now name.now }
-{
-    place < records.len() && records[place].owner_ref().is_within(name)
-}
-
-/// Whether a name exists, by the place where a name within it is or would be: of the records within the name, one is
-/// beside that place.
-pub(crate) fn exists_beside(records: &[Rr], place: usize, above: &NameRef) -> bool
-    requires sorted { IsStrictlySortedBy record_order records.now }
-    requires room { place ≤ length records.now }
-    requires point { IsPlaceWithin above.now records.now place }
-    ensures { result ≡ exists records.now above.now }
-{
-    if is_within_at(records, place, above) {
-        return true;
-    }
-    if place == 0 {
-        return false;
-    }
-    is_within_at(records, place - 1, above)
-}
-
-/// Whether there is a record at a place, and its owner is within a name.
-fn is_within_at(records: &[Rr], place: usize, above: &NameRef) -> bool
-    ensures { (d : Record) → result
-        ≡ (nat_lt place (length records.now)
-        && is_within (slice_index_or records.now place d).owner above.now) }
-{
-    place < records.len() && records[place].owner_ref().is_within(above)
 }
 
 /// The records from one place to another.

@@ -1,4 +1,4 @@
-//! Laws of what a listing changes.
+//! Laws of what a listing changes. Each is a contract without a call, so its body is empty.
 
 ghost use Rattle.dz_member.specs.Laws.{HeldOnce, MovesWithConsent, KeepsState, StaysWithout, ClashStays, ChangesOnce, InAnyOrder};
 

@@ -20,4 +20,3 @@ pub use fold::Fold;
 pub use laws::{changes_once, held_once, in_any_order, keeps_state, moves_with_consent, stays};
 pub use listing::{Broken, Listing, Node, Texts};
 pub use membership::{Member, Membership};
-pub use sort::has_zone_twice;

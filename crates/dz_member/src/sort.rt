@@ -21,18 +21,6 @@ pub(crate) struct Placed<'a> {
     pub(crate) place: usize,
 }
 
-/// Whether some two nodes have one zone.
-///
-/// # Errors
-///
-/// `AllocError` where there is no memory to put them in order.
-pub fn has_zone_twice(alloc: Global, nodes: &[Node]) -> Result<bool, AllocError>
-    ensures { IfOk result (λ twice. twice ≡ has_twice same_zone nodes.now) }
-{
-    let sorted = by_zone(alloc, nodes)?;
-    Ok(!zones_rise(&sorted))
-}
-
 /// Whether the zone of each node comes before the next one's.
 fn zones_rise(nodes: &[Placed]) -> bool
     ensures { IsTrue result ↔ IsStrictlySortedBy canonical_order (zones_in nodes.now) }

@@ -1,10 +1,13 @@
 -- The given number of a kind, read one after the other as a loop does.
 use Rattle.std.proofs.Common.{◌≡◌, ℕ, suc, ◌-◌, ◌+◌, ◌≤◌, ◌<◌, List, [], ◌∷◌, ◌++◌, Result, Ok, Err, refl, sym, ap, ◌∙◌, append_assoc, arith}
+use Rattle.std.specs.List.{sum_by}
 use Rattle.std.proofs.lemmas.List.{append-nil}
+use Rattle.std.proofs.lemmas.List.Sums.{sum_by-append}
 use Rattle.dz_message.specs.declared.fault.MessageFault.{MessageFault}
 use Rattle.dz_message.specs.declared.fault.MessageError.{MessageError}
 use Rattle.dz_message.specs.declared.fault.MessageError.TheVariants as errors
-use Rattle.dz_message.specs.Reading.{◌>>=◌, Fails, many}
+use Rattle.dz_message.specs.Reading.{◌>>=◌, many}
+use Rattle.dz_message.specs.Answers.{Fails}
 
 -- a reading preceded by what was read before
 abbrev pub after : {X : Type 0} → List X → Result (List X × ℕ) MessageFault → Result (List X × ℕ) MessageFault
@@ -45,3 +48,7 @@ begins one count at = let k : count - 0 ≡ count = omega arith in rw k (same (m
     same : {X : Type 0} (read : Result (List X × ℕ) MessageFault) → after [] read ≡ read
     same (Ok x) = refl
     same (Err f) = refl
+
+-- one more of a kind, each of which has its number
+pub sum_more : {X : Type 0} (f : X → ℕ) (xs ys : List X) (x : X) (n so_far now : ℕ) → ys ≡ xs ++ x ∷ [] → n + sum_by f xs ≤ so_far → so_far + f x ≤ now → n + sum_by f ys ≤ now
+sum_more f xs ys x n so_far now is le more = rw is (omega (arith, sum_by-append f xs (x ∷ [])))

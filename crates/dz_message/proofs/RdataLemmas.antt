@@ -9,7 +9,8 @@ use Rattle.dz_message.specs.declared.fault.MessageFault.{MessageFault}
 use Rattle.dz_message.specs.declared.fault.MessageFault.TheVariants.{BadRdata}
 use Rattle.dz_message.specs.declared.fault.MessageError.{MessageError}
 use Rattle.dz_message.specs.declared.fault.MessageError.TheVariants as errors
-use Rattle.dz_message.specs.Reading.{◌>>=◌, Fails, octets_at, field_at, rdata_at}
+use Rattle.dz_message.specs.Reading.{◌>>=◌, octets_at, field_at, rdata_at}
+use Rattle.dz_message.specs.Answers.{Fails}
 
 pub no_octets : (m : List ℕ) (at end count : ℕ) → end ≤ at → octets_at m at end (count + 1) ≡ Err BadRdata
 unfolding octets_at

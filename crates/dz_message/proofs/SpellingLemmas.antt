@@ -24,8 +24,10 @@ use Rattle.dz_header.specs.declared.record_head.RecordHead.{RecordHead}
 use Rattle.dz_header.proofs.QuestionLemmas.{question_read}
 use Rattle.std.proofs.lemmas.List.{drop-drop}
 use Rattle.dz_message.specs.Message.{Content}
-use Rattle.dz_message.specs.Reading.{◌>>=◌, Gives, named, all_there, question_in, head_at, octets_at, name_within, field_at, rdata_at, rdata_of, record_at, many, ended, count_in, content_of, message_of}
-use Rattle.dz_message.specs.Spelling.{IsNameAt, IsQuestion, AreOctets, IsNameWithin, IsField, AreFields, no_field, one_field, IsRecordAt, Each, no_one, one_first, Spells, SpellsNone}
+use Rattle.dz_message.specs.Reading.{◌>>=◌, named, all_there, question_in, head_at, octets_at, name_within, field_at, rdata_at, rdata_of, record_at, many, ended, count_in, content_of, message_of}
+use Rattle.dz_message.specs.Answers.{Gives}
+use Rattle.dz_message.specs.Spelling.{IsNameAt, IsQuestion, AreOctets, IsNameWithin, IsField, AreFields, no_field, one_field, IsRecordAt, Each, no_one, one_first, Spells}
+use Rattle.dz_message.specs.Answers.{SpellsNone}
 use Rattle.dz_message.proofs.FitLemmas.{then_ok, ok_is, taken, named_ok, name_read}
 
 -- what a test leaves where the whole is an Ok

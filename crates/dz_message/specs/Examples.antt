@@ -19,8 +19,10 @@ use Rattle.dz_message.specs.Query.{query_octets}
 use Rattle.dz_message.specs.declared.fault.MessageFault.{MessageFault}
 use Rattle.dz_message.specs.Fault.{fault_number}
 use Rattle.dz_name.specs.declared.dns.TheConstants.{MESSAGE_OCTETS}
-use Rattle.dz_message.specs.declared.piece.TheConstants.{PIECE_OCTETS, ANSWER_FLAGS}
+use Rattle.dz_message.specs.declared.piece.TheConstants.{PIECE_OCTETS, ANSWER_FLAGS, COUNT_AT}
 use Rattle.dz_message.specs.Piece.{packed, written, size_of}
+use Rattle.dz_message.specs.Looks.{fewest_looks}
+use Rattle.dz_message.specs.declared.read.TheConstants.{LOOKS}
 
 -- the name example.
 abbrev example : Name
@@ -275,3 +277,14 @@ piece_octets_is_16384 = refl
 
 pub answer_flags_is_0x8400 : ANSWER_FLAGS ≡ 0x8400
 answer_flags_is_0x8400 = refl
+
+pub count_at_is_6 : COUNT_AT ≡ 6
+count_at_is_6 = refl
+
+-- ---- the looks of a reading: example. twice, its label and its end, for a question and an owner
+pub looks_of_the_transfer : fewest_looks content ≡ 4
+unfolding fields_of
+looks_of_the_transfer = refl
+
+pub looks_is_258 : LOOKS ≡ 258
+looks_is_258 = refl

@@ -1,6 +1,8 @@
+pub mod Answers
 pub mod Examples
 pub mod Fault
 pub mod Frame
+pub mod Looks
 pub mod Message
 pub mod Piece
 pub mod Query

@@ -1,5 +1,5 @@
 -- Meaning: a message read from left to right, with the first fault that is found (RFC 1035 section 4.1).
-use Rattle.std.specs.Prelude.{◌≡◌, ℕ, zero, suc, ◌+◌, ◌-◌, Bool, ◌==◌, ◌||◌, not, nat_le, nat_lt, List, [], ◌∷◌, ◌++◌, length, take, drop, slice_index, Option, Some, None, Result, Ok, Err, if◌then◌else◌}
+use Rattle.std.specs.Prelude.{ℕ, zero, suc, ◌+◌, ◌-◌, Bool, ◌==◌, ◌||◌, not, nat_le, nat_lt, List, [], ◌∷◌, ◌++◌, length, take, drop, slice_index, Option, Some, None, Result, Ok, Err, if◌then◌else◌}
 use Rattle.dz_name.specs.Name.{wire_of}
 use Rattle.dz_name.specs.Reading.{name_at}
 use Rattle.dz_header.specs.declared.header.Header.{Header}
@@ -11,8 +11,6 @@ use Rattle.dz_record.specs.Fields.{fields_of}
 use Rattle.dz_record.specs.Record.{Record, is_bad_type, ttl_of}
 use Rattle.dz_message.specs.declared.fault.MessageFault.{MessageFault}
 use Rattle.dz_message.specs.declared.fault.MessageFault.TheVariants.{Wire, ShortHeader, BadRdata, BadType, Trailing}
-use Rattle.dz_message.specs.declared.fault.MessageError.{MessageError}
-use Rattle.dz_message.specs.declared.fault.MessageError.TheVariants as errors
 use Rattle.dz_header.specs.declared.question.Question.{Question}
 use Rattle.dz_header.specs.Question.{question_at}
 use Rattle.dz_header.specs.RecordHead.{head_of}
@@ -28,31 +26,6 @@ infixl 10 ◌>>=◌
 abbrev pub ◌>>=◌ : {A B : Type 0} → Result A MessageFault → (A → Result B MessageFault) → Result B MessageFault
 (Ok x) >>= f = f x
 (Err e) >>= f = Err e
-
--- a call failed with the fault that is read, or ran out of memory
-abbrev pub Fails : {Y : Type 0} → MessageError → Result Y MessageFault → Type 0
-Fails errors.OutOfMemory read = Unit {0}
-Fails (errors.Fault f) read = read ≡ Err f
-
--- what a call gave, seen by `view`, is what is read, unless it ran out of memory
-abbrev pub Gives : {X Y : Type 0} → (X → Y) → Result X MessageError → Result Y MessageFault → Type 0
-Gives view (Ok x) read = read ≡ Ok (view x)
-Gives view (Err e) read = Fails e read
-
--- a call that appends what is read, given the octets before, the octets after, and its result
-abbrev pub Appends : {Y : Type 0} → Octets → Octets → Result Y MessageError → Result Octets MessageFault → Type 0
-Appends old new (Ok y) read = (piece : Octets) × (read ≡ Ok piece) × (new ≡ old ++ piece)
-Appends old new (Err e) read = Fails e read
-
--- the same for one field, where the result is the offset after it
-abbrev pub AppendsOne : Octets → Octets → Result ℕ MessageError → Result (Octets × ℕ) MessageFault → Type 0
-AppendsOne old new (Ok next) read = (piece : Octets) × (read ≡ Ok (piece, next)) × (new ≡ old ++ piece)
-AppendsOne old new (Err e) read = Fails e read
-
--- a call that only checks whether something can be read
-abbrev pub EndsWell : {X Y : Type 0} → Result X MessageFault → Result Y MessageFault → Type 0
-EndsWell (Ok x) read = (y : _) × (read ≡ Ok y)
-EndsWell (Err e) read = read ≡ Err e
 
 -- every fault of a name is the fault Wire of the message
 abbrev pub named : {X : Type 0} → Result X WireFault → Result X MessageFault

@@ -10,9 +10,6 @@ use Rattle.dz_record.specs.declared.fields.Field.TheVariants.{FixedLength, Domai
 use Rattle.dz_record.specs.Fields.{fields_of}
 use Rattle.dz_record.specs.Record.{Record, is_bad_type, ttl_of}
 use Rattle.dz_header.specs.declared.question.Question.{Question}
-use Rattle.dz_message.specs.declared.fault.MessageError.{MessageError}
-use Rattle.dz_message.specs.declared.fault.MessageError.TheVariants.{OutOfMemory}
-use Rattle.dz_message.specs.declared.fault.MessageError.TheVariants as errors
 use Rattle.dz_message.specs.Message.{Content}
 use Rattle.dz_message.specs.Reading.{count_in}
 use Rattle.dz_name.specs.declared.dns.TheConstants.{CLASS_IN, HEADER_OCTETS, MESSAGE_OCTETS}
@@ -88,8 +85,3 @@ pub record Spells (octets : Octets) (m : Content) : Type 0 where
   pub answer_count : length m.answers ≡ count_in m.header 1
   pub answers : Each (IsRecordAt octets) answers_at m.answers others_at
   pub others : behind_records (count_in m.header 2 + count_in m.header 3) (drop others_at octets) ≡ Some []
-
--- a fault is reported where the octets spell no message; nothing is known where memory runs out
-abbrev pub SpellsNone : Octets → MessageError → Type 0
-SpellsNone octets OutOfMemory = Unit {0}
-SpellsNone octets (errors.Fault fault) = (m : Content) → ¬ (Spells octets m)

@@ -1,5 +1,5 @@
 -- Meaning: a message as octets, with names without pointers (RFC 1035 section 4.1).
-use Rattle.std.specs.Prelude.{◌≡◌, [], ◌∷◌, ◌++◌, length, Result, Ok, Err, ◌<◌, ◌≤◌, ◌^◌}
+use Rattle.std.specs.Prelude.{◌≡◌, [], ◌∷◌, ◌++◌, length, ◌<◌, ◌^◌}
 use Rattle.std.specs.List.{flat_map, All, AllByRecursion}
 use Rattle.dz_name.specs.Name.{wire_of, IsName}
 use Rattle.dz_name.specs.Numbers.{two}
@@ -7,10 +7,7 @@ use Rattle.dz_header.specs.declared.header.Header.{Header}
 use Rattle.dz_header.specs.Header.{header_octets}
 use Rattle.dz_record.specs.Record.{IsRecord, record_octets}
 use Rattle.dz_header.specs.declared.question.Question.{Question}
-use Rattle.dz_message.specs.declared.fault.WriteError.{WriteError}
-use Rattle.dz_message.specs.declared.fault.WriteError.TheVariants as errors
 use Rattle.dz_message.specs.Message.{Content}
-use Rattle.dz_name.specs.declared.dns.TheConstants.{MESSAGE_OCTETS}
 use Rattle.dz_name.specs.Words.{Octets}
 
 -- a question as octets: name, type and class (RFC 1035 section 4.1.2)
@@ -24,12 +21,6 @@ message_octets m = header_octets m.header ++ (flat_map question_octets m.questio
 -- the header counts the questions and answers that there are, and no other records
 abbrev pub CountsAgree : Content → Type 0
 CountsAgree m = m.header.counts ≡ length m.questions ∷ length m.answers ∷ 0 ∷ 0 ∷ []
-
--- a message of at most 65,535 octets is written; TooLong is given for a longer one only
-abbrev pub IsWritten : Content → Result Octets WriteError → Type 0
-IsWritten m (Ok octets) = (octets ≡ message_octets m) × (length octets ≤ MESSAGE_OCTETS)
-IsWritten m (Err errors.TooLong) = MESSAGE_OCTETS < length (message_octets m)
-IsWritten m (Err errors.OutOfMemory) = Unit {0}
 
 -- a question in memory: a name, and two 16-bit numbers
 pub record IsAsking (q : Question) : Type 0 where

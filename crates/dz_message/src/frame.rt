@@ -1,7 +1,7 @@
 //! Frames: over TCP each message is preceded by its length in two octets (RFC 1035 section 4.2.2).
 
 ghost use Rattle.std.specs.Prelude.{◌≡◌, ◌≤◌, ◌++◌, length, is_ok, if◌then◌else◌, IfSome};
-ghost use Rattle.dz_message.specs.Frame.{frame, frame_at, IsWithin, IsFirst, ComesBack, ComesBackBeforeAPart, EachIsCut};
+ghost use Rattle.dz_message.specs.Frame.{frame, frame_at, IsWithin, IsFirst};
 
 use dz_name::dns::{LENGTH_OCTETS, MESSAGE_OCTETS};
 use dz_name::numbers::{number_of_two, two};
@@ -58,14 +58,3 @@ pub fn push_frame(out: &mut Vec<u8>, message: &[u8]) -> Result<(), AllocError>
         }
     }
 }
-
-/// What was put into frames is read back, also where it is followed by part of a frame.
-pub fn comes_back()
-    ensures whole { ComesBack }
-    ensures cut { ComesBackBeforeAPart }
-{}
-
-/// Every string of octets consists of the frames of its whole messages, followed by part of a frame.
-pub fn each_is_cut()
-    ensures { EachIsCut }
-{}

@@ -3,6 +3,7 @@
 
 mod fault;
 mod frame;
+mod laws;
 mod message;
 mod packed;
 mod piece;
@@ -13,11 +14,12 @@ mod write;
 
 pub use dz_header::{Header, Question};
 pub use fault::{MessageError, MessageFault, WriteError};
-pub use frame::{comes_back, each_is_cut, next_frame, push_frame};
+pub use frame::{next_frame, push_frame};
+pub use laws::{comes_back, each_is_cut};
 pub use message::Message;
 pub use packed::pack;
 pub use piece::{ANSWER_FLAGS, PIECE_OCTETS, Piece};
 pub use query::write_query;
-pub use read::read_message;
+pub use read::{LOOKS, counted_read, read_message};
 pub use tally::Tally;
 pub use write::write_message;

@@ -1,11 +1,11 @@
 -- What is at the end of a chain of pointers reads the same as what is at its beginning, but for the offset after it.
-use Rattle.std.proofs.Common.{◌≡◌, ℕ, ◌+◌, ◌<◌, ◌≤◌, List, [], ◌∷◌, ◌++◌, length, refl, sym, ◌∙◌, inl, inr, true, false, ◌*◌, ◌-◌, ◌⊎◌, arith}
+use Rattle.std.proofs.Common.{◌≡◌, ℕ, ◌+◌, ◌<◌, ◌≤◌, List, [], ◌∷◌, ◌++◌, length, refl, sym, ◌∙◌, inl, inr, true, false, ◌⊎◌, arith}
 use Rattle.std.specs.Prelude.{slice_index, slice_index_or, nat_lt}
 use Rattle.std.proofs.Common.{length-append}
 use Rattle.std.proofs.lemmas.List.{get_or_append_left, get_or_push, get_or_default}
 use Rattle.std.proofs.lemmas.Bool.{cases_lt}
 use Rattle.std.proofs.lemmas.Bool.Decides.{nat_tests}
-use Rattle.dz_name.specs.Reading.{Reading, Reads, at_pointer, ends_at}
+use Rattle.dz_name.specs.Reading.{Reading, Reads, at_pointer, ends_at, target_at}
 use Rattle.std.specs.Prelude.{Ok, Err}
 use Rattle.dz_name.specs.inner.Landings.{LeadsTo, LeadsOn, Lands, stays, goes_on, AreLandings, EndsChains, landing_in}
 
@@ -81,3 +81,27 @@ all_end m landings are octets long at target leads =
     let within : target < length landings = elim long [ inl all ↦ omega (arith, leads.before, leads.within) | inr far ↦ omega arith ] in
     let e : nat_lt target (length landings) ≡ true = grind (arith, nat_tests) in
     rw e (are.ended target within)
+
+-- no more steps than the labels so far have octets, or one more right after a pointer, where no pointer leads on
+pub data TakesUpTo (m : List ℕ) : ℕ → ℕ → ℕ → ℕ → Type 0 where
+  at_piece : {piece at used steps : ℕ} → at ≡ piece → ¬ LeadsOn m at → steps ≤ used + 1 → TakesUpTo m piece at used steps
+  in_piece : {piece at used steps : ℕ} → steps ≤ used → TakesUpTo m piece at used steps
+
+pub takes_few : (m : List ℕ) {piece at used steps : ℕ} → TakesUpTo m piece at used steps → steps ≤ used + 1
+takes_few m (at_piece e last le) = le
+takes_few m (in_piece le) = omega arith
+
+-- a label, one step later
+pub takes_label : (m : List ℕ) {piece at used steps : ℕ} (next longer later : ℕ) → TakesUpTo m piece at used steps → used + 2 ≤ longer → later ≡ steps + 1 → TakesUpTo m piece next longer later
+takes_label m next longer later so_far long one = in_piece (omega (arith, takes_few m so_far))
+
+-- a pointer that is followed, one step later
+pub takes_pointer : (m landings : List ℕ) {piece at used steps : ℕ} (target landing later : ℕ) → EndsChains m landings → TakesUpTo m piece at used steps
+    → piece ≤ at → target < piece → at + 1 < length m → 192 ≤ slice_index m at → target_at m at ≡ target → landing ≡ landing_in landings target → later ≡ steps + 1
+    → TakesUpTo m landing landing used later
+takes_pointer m landings {piece} {at} target landing later ends so_far order before within pointer is lands one =
+    let leads : LeadsTo m at target = record { within = within; pointer = pointer; target_is = is; before = omega arith } in
+    elim so_far [
+      | at_piece e last le ↦ absurd (last (target, leads))
+      | in_piece le ↦ at_piece refl (rw lands (ends at target leads)) (omega arith)
+    ]

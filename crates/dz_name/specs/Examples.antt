@@ -10,7 +10,10 @@ use Rattle.dz_name.specs.Text.{items, labels_from, with_label, name_of_text, tex
 use Rattle.dz_name.specs.declared.text.NameError.{NameError}
 use Rattle.dz_name.specs.declared.text.NameError.TheVariants.{LabelTooLong, NameTooLong, EmptyLabel, BadEscape}
 use Rattle.dz_name.specs.declared.dns.TheConstants.{TYPE_A, TYPE_NS, TYPE_MD, TYPE_MF, TYPE_CNAME, TYPE_SOA, TYPE_MB, TYPE_MG, TYPE_MR, TYPE_PTR, TYPE_MINFO, TYPE_MX, TYPE_TXT, TYPE_RP, TYPE_AFSDB, TYPE_RT, TYPE_SIG, TYPE_PX, TYPE_AAAA, TYPE_NXT, TYPE_SRV, TYPE_NAPTR, TYPE_KX, TYPE_A6, TYPE_DNAME, TYPE_OPT, TYPE_DS, TYPE_RRSIG, TYPE_NSEC, TYPE_ZONEMD, TYPE_TKEY, TYPE_IXFR, TYPE_AXFR, TYPE_MAILA, TYPE_ANY, CLASS_IN, OPCODE_QUERY, OPCODE_NOTIFY, LABEL_OCTETS, NAME_OCTETS, HEADER_OCTETS, MESSAGE_OCTETS, LENGTH_OCTETS, UDP_OCTETS, EDNS_OCTETS, ALIASES, ZONE_RECORDS, TRANSFER_OCTETS}
+use Rattle.dz_name.specs.declared.decimal.TheConstants.{PAST}
+use Rattle.dz_name.specs.declared.name_ref.TheConstants.{LABELS}
 use Rattle.dz_name.specs.declared.wire.TheConstants.{POINTER_REACH}
+use Rattle.dz_name.specs.declared.wire_fault.TheConstants.{NAME_LOOKS}
 
 -- example.
 abbrev example : Name
@@ -618,3 +621,12 @@ transfer_octets_is_67108864 = refl
 
 pub pointer_reach_is_16384 : POINTER_REACH ≡ 16384
 pointer_reach_is_16384 = refl
+
+pub name_looks_is_256 : NAME_LOOKS ≡ 256
+name_looks_is_256 = refl
+
+pub labels_is_128 : LABELS ≡ 128
+labels_is_128 = refl
+
+pub past_is_2_to_64 : PAST ≡ 18446744073709551616
+past_is_2_to_64 = refl

@@ -22,5 +22,5 @@ pub use name::Name;
 pub use name_ref::NameRef;
 pub use octets::Octets;
 pub use text::NameError;
-pub use wire::{Wire, landings_of};
-pub use wire_fault::{WireFault, canonical_name_end};
+pub use wire::{POINTER_REACH, Wire, landings_of};
+pub use wire_fault::{NAME_LOOKS, WireFault, canonical_name_end};

@@ -1,16 +1,18 @@
 //! Messages whose names are read, and where chains of their pointers end.
 
-ghost use Rattle.std.specs.Prelude.{◌≡◌, ℕ, ◌<◌, ◌≤◌, length, false, IfOk, IfSome, IsNone};
+ghost use Rattle.std.specs.Prelude.{◌≡◌, ℕ, ◌+◌, ◌*◌, ◌<◌, ◌≤◌, length, min, false, IfOk, IfSome, IsNone};
 ghost use Rattle.dz_name.specs.inner.Landings.{LeadsTo, LeadsOn, AreLandings, HasNoChain, EndsChains, landing_in};
 
+use dz_steps::Steps;
 use std::alloc::{AllocError, Global};
 use std::marker::Model;
+use std::sync::ledger::Ledger;
 
 /// How far a pointer reaches: its offset has 14 bits (RFC 1035 section 4.1.4).
-const POINTER_REACH: usize = 16_384;
+pub const POINTER_REACH: usize = 16_384;
 
-/// The octets of a message whose names are read, with an optional table of where pointers end that lead to pointers, so
-/// that no chain of them is followed twice. Contracts see the octets.
+/// The octets of a message whose names are read, with a table of where pointers end that lead to pointers, so that no
+/// chain of them is followed more than once. Contracts see the octets.
 #[derive(Debug, Drop)]
 pub struct Wire<'m> {
     octets: &'m [u8],
@@ -19,30 +21,20 @@ pub struct Wire<'m> {
 
 impl<'m> Model for Wire<'m> {
     ghost use Rattle.dz_name.specs.Words.{Octets};
-    ghost use Rattle.dz_name.specs.inner.Landings.{AreLandings};
+    ghost use Rattle.dz_name.specs.inner.Landings.{IsTable};
 
     ghost Value = { Octets };
 
     ghost view = { λ w. w.octets.now };
 
-    ghost invariant = { λ w. AreLandings w.octets.now w.landings.now };
+    ghost invariant = { λ w. IsTable w.octets.now w.landings.now };
 }
 
 impl<'m> Wire<'m> {
-    /// A message without a table: each chain of pointers is followed anew. It is for octets in which few names are
-    /// read.
-    pub fn plain(octets: &'m [u8]) -> Wire<'m>
-        ensures { result ≡ octets.now }
-    {
-        Wire {
-            octets,
-            landings: &[],
-        }
-    }
-
     /// A message and the table that `landings_of` gave for it.
     pub fn with_landings(octets: &'m [u8], landings: &'m [u16]) -> Wire<'m>
-        requires { AreLandings octets.now landings.now }
+        requires are { AreLandings octets.now landings.now }
+        requires ends { EndsChains octets.now landings.now }
         ensures { result ≡ octets.now }
     {
         Wire { octets, landings }
@@ -55,9 +47,10 @@ impl<'m> Wire<'m> {
         self.octets
     }
 
-    /// The table, which may be empty.
+    /// The table, which is empty where no pointer leads to a pointer that leads on.
     pub(crate) fn landings(&self) -> &'m [u16]
-        ensures { AreLandings self.now result.now }
+        ensures are { AreLandings self.now result.now }
+        ensures ends { EndsChains self.now result.now }
     {
         self.landings
     }
@@ -75,17 +68,27 @@ pub(crate) fn landing(landings: &[u16], target: usize) -> usize
 }
 
 /// Where the chains of pointers end that begin at the offsets of a message: two octets for each offset that a pointer
-/// can lead to. It is empty where no pointer leads to a pointer that leads on. `AllocError` where memory runs out.
-pub fn landings_of(alloc: Global, message: &[u8]) -> Result<Vec<u16>, AllocError>
+/// can lead to. It is empty where no pointer leads to a pointer that leads on. Each offset that is looked at is one
+/// step. `AllocError` where memory runs out.
+pub fn landings_of<L: Ledger>(
+    alloc: Global,
+    message: &[u8],
+    steps: &mut Steps<L>,
+) -> Result<Vec<u16>, AllocError>
     ensures are { IfOk result (λ landings. AreLandings message.now landings.items) }
     ensures ends { IfOk result (λ landings. EndsChains message.now landings.items) }
+    ensures counted { steps.old ≤ steps.new }
+    ensures most { steps.new ≤ steps.old + 2 * length message.now }
+    ensures least { IfOk result
+        (λ _. steps.old + min (length message.now) POINTER_REACH ≤ steps.new) }
 {
-    if !has_chain(message) {
+    if !has_chain(message, steps) {
         return Ok(Vec::new(alloc));
     }
     let reach = message.len().min(POINTER_REACH);
     let mut landings = Vec::with_capacity(alloc, reach)?;
     'offsets: for at in 0..reach {
+        steps.tick();
         let landing = match leads_to(message, at) {
             Some(target) => landings[target],
             None => at as u16,
@@ -95,11 +98,15 @@ pub fn landings_of(alloc: Global, message: &[u8]) -> Result<Vec<u16>, AllocError
     Ok(landings)
 }
 
-/// Whether some pointer leads to a pointer that leads on.
-fn has_chain(message: &[u8]) -> bool
-    ensures { result ≡ false → HasNoChain message.now }
+/// Whether some pointer leads to a pointer that leads on. Each offset that is looked at is one step.
+fn has_chain<L: Ledger>(message: &[u8], steps: &mut Steps<L>) -> bool
+    ensures none { result ≡ false → HasNoChain message.now }
+    ensures counted { steps.old ≤ steps.new }
+    ensures most { steps.new ≤ steps.old + length message.now }
+    ensures all { result ≡ false → steps.new ≡ steps.old + length message.now }
 {
     'offsets: for at in 0..message.len() {
+        steps.tick();
         if is_chained(message, at) {
             return true;
         }

@@ -2,10 +2,17 @@ ghost use Rattle.std.specs.Prelude.{◌≡◌, ℕ, ◌+◌, ◌<◌, ◌≤◌,
 ghost use Rattle.dz_name.specs.Name.{wire_of, IsName};
 ghost use Rattle.dz_name.specs.Words.{Name};
 ghost use Rattle.dz_name.specs.Reading.{Reading, Reads, name_at, IsNameBetween, canonical_end};
-ghost use Rattle.dz_name.specs.inner.Landings.{AreLandings};
+ghost use Rattle.dz_name.specs.inner.Landings.{AreLandings, EndsChains};
 
 use crate::name::Name;
 use crate::wire::{Wire, landing};
+use dz_steps::Steps;
+use std::marker::Brand;
+use std::sync::ledger::{Blank, Ledger};
+
+/// The most steps that reading a name takes where no chain of pointers is followed: each of up to 127 labels and the
+/// zero octet, and a pointer before each of these.
+pub const NAME_LOOKS: usize = 256;
 
 /// What is wrong with a name in a message: the first fault met in reading it.
 #[derive(Clone, Copy, Debug, PartialEq, Eq)]
@@ -22,7 +29,8 @@ pub enum WireFault {
 
 impl Name {
     /// Reads the name at an offset of a message and follows its pointers (RFC 1035 sections 3.1 and 4.1.4). Its labels
-    /// are given in lower case, together with the offset after the name at the place where it was read.
+    /// are given in lower case, together with the offset after the name at the place where it was read. It is for
+    /// octets in which few names are read: each chain of pointers is followed anew.
     ///
     /// A pointer has to lead to before the first octet of the piece of the name that it ends, so each reading ends.
     ///
@@ -38,27 +46,58 @@ impl Name {
         ensures written { (end : ℕ) (labels : Name) → IsNameBetween message.now at end labels
             → result ≡ Ok (labels, end) }
     {
-        Name::read_in(&Wire::plain(message), at)
+        read_plain::<Brand>(Blank::new(1), message, at)
     }
 
-    /// The same, with the same errors, without following any chain of pointers whose end the table of the message
-    /// gives.
-    pub fn read_in(message: &Wire<'_>, at: usize) -> Result<(Name, usize), WireFault>
+    /// The same, with the same errors, without following any chain of pointers: the table of the message gives its
+    /// end. A step is one look at a label, a pointer or the zero octet.
+    pub fn read_in<L: Ledger>(
+        message: &Wire<'_>,
+        at: usize,
+        steps: &mut Steps<L>,
+    ) -> Result<(Name, usize), WireFault>
         ensures relation { Reads message.now at 0 at result }
         ensures value { result ≡ name_at message.now at }
         ensures place { IfOk result (λ r. (at < r.1) × (r.1 ≤ length message.now)) }
         ensures once { (other : Reading) → Reads message.now at 0 at other → other ≡ result }
         ensures written { (end : ℕ) (labels : Name) → IsNameBetween message.now at end labels
             → result ≡ Ok (labels, end) }
+        ensures counted { steps.old ≤ steps.new }
+        ensures most { steps.new ≤ steps.old + NAME_LOOKS }
+        ensures least { IfOk result (λ r. steps.old + length r.0 < steps.new) }
     {
-        read_name(message.octets(), message.landings(), at)
+        read_name(message.octets(), message.landings(), at, steps)
     }
 }
 
-/// Reads the name at an offset, with this table of where chains of pointers end. The error is the first fault.
-fn read_name(message: &[u8], landings: &[u16], at: usize) -> Result<(Name, usize), WireFault>
-    requires { AreLandings message.now landings.now }
+/// Reads the name at an offset without a table, counted in a ledger that is still blank.
+fn read_plain<L: Ledger>(
+    blank: Blank,
+    message: &[u8],
+    at: usize,
+) -> Result<(Name, usize), WireFault>
+    requires name { blank.name ≡ L.name }
+    requires parts { blank.parts ≡ L.parts }
+    requires whole { blank.parts ≡ 1 }
     ensures { Reads message.now at 0 at result }
+{
+    let mut steps = Steps::<L>::new(blank);
+    read_name(message, &[], at, &mut steps)
+}
+
+/// Reads the name at an offset, with this table of where chains of pointers end. The error is the first fault. Each
+/// label, pointer and zero octet that is looked at is one step.
+fn read_name<L: Ledger>(
+    message: &[u8],
+    landings: &[u16],
+    at: usize,
+    steps: &mut Steps<L>,
+) -> Result<(Name, usize), WireFault>
+    requires { AreLandings message.now landings.now }
+    ensures reads { Reads message.now at 0 at result }
+    ensures counted { steps.old ≤ steps.new }
+    ensures most { EndsChains message.now landings.now → steps.new ≤ steps.old + NAME_LOOKS }
+    ensures least { IfOk result (λ r. steps.old + length r.0 < steps.new) }
 {
     let mut name = Name::root();
     let mut piece = at;
@@ -66,6 +105,7 @@ fn read_name(message: &[u8], landings: &[u16], at: usize) -> Result<(Name, usize
     let mut used = 0;
     let mut behind = None;
     'octets: while offset < message.len() {
+        steps.tick();
         let first = message[offset] as usize;
         if first == 0 {
             return Ok((name, behind.unwrap_or(offset + 1)));

@@ -1,4 +1,4 @@
-//! Laws of the streams of versions.
+//! Laws of the streams of versions. Each is a contract without a call, so its body is empty.
 
 ghost use Rattle.dz_outward.specs.Laws.{ComesBack};
 

@@ -3,7 +3,8 @@ use Rattle.std.specs.Bool.{⊤}
 use Rattle.std.proofs.Common.{◌≡◌, ◌≢◌, ◌+◌, ℕ, Bool, true, false, cond, nat_lt, List, [], ◌∷◌, length, Option, Some, None, IsSome, Result, Ok, Err, refl}
 use Rattle.dz_script.specs.Lines.{lines_of, content}
 use Rattle.dz_script.specs.Script.{Turn, goes_on, ends, Said, Rules, behind}
-use Rattle.dz_script.specs.Run.{Place, beginning, Step, further, over, after_turn, step_at, said_from, said_of, place_after, GoesToTheEnd, IsRun}
+use Rattle.dz_script.specs.Run.{Place, beginning, Step, further, over, after_turn, step_at, said_from, said_of, place_after, GoesToTheEnd}
+use Rattle.dz_script.specs.Answers.{IsRun}
 use Rattle.dz_script.specs.declared.lines.TheConstants.{LIMIT}
 use Rattle.dz_script.specs.declared.run.ScriptError.{ScriptError}
 use Rattle.dz_name.specs.Words.{Octets}

@@ -2,7 +2,7 @@
 -- another of each change. A line is bad where it has no form, where it isn't in its turn, or where it brings a fault.
 use Rattle.std.specs.Prelude.{ℕ, Bool, ◌==◌, ◌&&◌, List, [], ◌∷◌, ◌++◌, length, codes, decimal, Option, Some, None, is_some, Result, if◌then◌else◌}
 use Rattle.hex.specs.Hex.{encode_lower}
-use Rattle.dz_script.specs.Run.{IsRun}
+use Rattle.dz_script.specs.Answers.{IsRun}
 use Rattle.dz_script.specs.Script.{Turn, goes_on, ends, Said, Rules}
 use Rattle.dz_script.specs.declared.run.ScriptError.{ScriptError}
 use Rattle.dz_name.specs.Words.{Name, Octets}

@@ -2,7 +2,7 @@
 
 ghost use Rattle.std.specs.Prelude.{◌≡◌, [], Ok, Some, None};
 ghost use Rattle.dz_io.specs.Device.{HasCauseOf};
-ghost use Rattle.dz_script.specs.Run.{IsRun};
+ghost use Rattle.dz_script.specs.Answers.{IsRun};
 ghost use Rattle.dz_name.specs.Words.{Octets};
 ghost use Rattle.dz_produce.specs.Producing.{State, Runs, produce_rules};
 
@@ -90,6 +90,8 @@ impl<'a, K: Sink> Script for ProduceScript<'a, K> {
     ghost Others = { GName × GName };
 
     ghost beside = { λ s. (s.producing.ghost_name, s.output.ghost_name) };
+
+    ghost Before = { λ _ _. Unit {0} };
 
     ghost rules = { produce_rules };
 

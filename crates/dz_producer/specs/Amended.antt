@@ -1,6 +1,6 @@
--- Meaning: a catalog without some of its nodes and with others, the difference that leads to it (RFC 1995 section 4),
--- and what a call that makes both answers.
-use Rattle.std.specs.Prelude.{◌≡◌, ℕ, Bool, ◌||◌, not, nat_lt, List, [], ◌∷◌, ◌++◌, length, filter, flat_map, Option, Some, None, Result, Ok, Err, ⊤, if◌then◌else◌}
+-- Meaning: a catalog without some of its nodes and with others, and the difference that leads to it (RFC 1995 section
+-- 4).
+use Rattle.std.specs.Prelude.{◌≡◌, ℕ, Bool, ◌||◌, not, nat_lt, List, [], ◌∷◌, ◌++◌, length, filter, flat_map, Option, Some, None, Result, Ok, Err, if◌then◌else◌}
 use Rattle.std.specs.List.{list_any, list_all}
 use Rattle.dz_name.specs.Name.{same_label}
 use Rattle.dz_name.specs.Words.{Name, Octets}
@@ -19,12 +19,9 @@ use Rattle.dz_catalog.specs.Listing.{listing_of}
 use Rattle.dz_producer.specs.Faults.{produce_fault}
 use Rattle.dz_producer.specs.Produced.{produced}
 use Rattle.dz_producer.specs.Records.{soa, plain_records, node_records, digest}
-use Rattle.dz_producer.specs.declared.amended.Amended.{Amended}
 use Rattle.dz_producer.specs.declared.fault.ProduceFault.{ProduceFault}
 use Rattle.dz_producer.specs.declared.fault.AmendFault.{AmendFault}
 use Rattle.dz_producer.specs.declared.fault.AmendFault.TheVariants.{OldSerial, NoLabel, Produce, TooLong}
-use Rattle.dz_producer.specs.declared.fault.AmendError.{AmendError}
-use Rattle.dz_producer.specs.declared.fault.AmendError.TheVariants.{Fault, OutOfMemory}
 
 -- the nodes that a zone lists; a broken catalog lists none
 abbrev pub nodes_in : Result (List Node) Broken → List Node
@@ -108,11 +105,3 @@ amend_fault old serial dropped added =
     if not (is_newer (held_serial old) serial) then Some OldSerial
     else if no_label old dropped then Some NoLabel
     else after_nodes (produce_fault old.apex serial (nodes_after old dropped added)) (nat_lt TRANSFER_OCTETS (length (difference_octets old serial dropped added)))
-
--- the catalog of the nodes after the change and the difference, where there is no fault, or else the first fault; where
--- memory runs out, nothing is told
-abbrev pub IsAmended : Zone → ℕ → List Octets → List Node → Result Amended AmendError → Type 0
-IsAmended old serial dropped added (Ok amended) =
-    (amend_fault old serial dropped added ≡ None) × ((amended.version ≡ produced old.apex serial (nodes_after old dropped added)) × (amended.octets ≡ difference_octets old serial dropped added))
-IsAmended old serial dropped added (Err (Fault fault)) = amend_fault old serial dropped added ≡ Some fault
-IsAmended old serial dropped added (Err OutOfMemory) = ⊤

@@ -1,4 +1,5 @@
 pub mod Amended
+pub mod Answers
 pub mod Draft
 pub mod Examples
 pub mod Faults

@@ -1,4 +1,4 @@
-//! Laws of catalogs that are made.
+//! Laws of catalogs that are made. Each is a contract without a call, so its body is empty.
 
 ghost use Rattle.dz_producer.specs.Laws.{LeadsOn, ListsItsNodes, StandsGood};
 

@@ -6,7 +6,8 @@ ghost use Rattle.dz_name.specs.declared.dns.TheConstants.{ZONE_RECORDS};
 ghost use Rattle.dz_catalog.specs.Broken.{version_name};
 ghost use Rattle.dz_producer.specs.Amended.{IsCatalogOf};
 ghost use Rattle.dz_producer.specs.Faults.{has_bad_group, is_long};
-ghost use Rattle.dz_producer.specs.Produced.{IsProduced, produced};
+ghost use Rattle.dz_producer.specs.Produced.{produced};
+ghost use Rattle.dz_producer.specs.Answers.{IsProduced};
 ghost use Rattle.dz_producer.specs.Records.{node_records, plain_records};
 ghost use Rattle.dz_producer.specs.inner.Nodes.{IsLed, values, whole_count};
 

@@ -8,6 +8,7 @@ use Rattle.dz_job.specs.Job.{JobOf}
 use Rattle.dz_job.specs.declared.verdict.Verdict.{Verdict}
 use Rattle.dz_job.specs.declared.verdict.Verdict.TheVariants.{Published, Confirmed, Refused, PolicyRefused, Stale, OutOfMemory}
 use Rattle.dz_job.specs.declared.verdict.Failure.{Failure}
+use Rattle.dz_job.specs.declared.verdict.Failure.TheVariants as failures
 use Rattle.dz_desk.specs.Seen.{Page}
 use Rattle.dz_desk.specs.declared.ear.Hearing.TheVariants as hearing
 use Rattle.dz_report.specs.Lines.{verdict_lines}
@@ -15,7 +16,7 @@ use Rattle.dz_provision.specs.declared.provisioner.LogFault.{LogFault}
 use Rattle.dz_provision.specs.declared.provisioner.Unmade.{Unmade}
 use Rattle.dz_provision.specs.declared.provisioner.Unmade.TheVariants as unmade
 use Rattle.dz_provision.specs.inner.Ready.{is_want}
-use Rattle.dz_provision.specs.Held.{Held, IsSettled, IsFailed, IsHeard, IsSaid, IsSettledAloud, IsFailedAloud, IsHeardAloud}
+use Rattle.dz_provision.specs.Held.{Held, IsSettled, IsFailed, IsHeard, IsSaid, IsSettledAloud, IsFailedAloud, IsStarvedAloud, IsHeardAloud}
 
 -- a verdict that isn't want of memory, and want of memory whose line was said
 module _ (h : Held) (job : JobOf) (octets : Octets) (now : ℕ) where
@@ -49,6 +50,17 @@ module _ (h : Held) (job : JobOf) (octets : Octets) (now : ℕ) where
 pub failed_aloud : (h k : Held) (job : JobOf) (now : ℕ) (f : Failure) (note : Page) → IsFailed h job now (Ok (f, note)) k → IsFailedAloud h job now f k
 unfolding IsFailedAloud
 failed_aloud h k job now f note is = (note, is)
+
+-- a job that failed for want of memory: it is stale, or its second line was said
+pub stale_aloud : (h k : Held) (job : JobOf) (now : ℕ) (f : Failure) (n : ℕ) → f ≡ failures.Stale n → IsFailedAloud h job now f k → IsStarvedAloud h job now (failures.Stale n) k
+unfolding IsStarvedAloud
+stale_aloud h k job now f n stale is = subst (λ x. IsFailedAloud h job now x k) stale is
+
+pub failed_starved : (h between k : Held) (job : JobOf) (now : ℕ) (f : Failure) (r : Result Failure Unmade) → f ≡ failures.Failed → IsFailedAloud h job now f between → MatchResult r (λ g. g ≡ failures.Failed) (λ u. u ≡ unmade.LogFault)
+    → OnOk r (IsSaid between (verdict_lines job.flight.zone OutOfMemory) (Ok tt) k) → IfOk r (λ g. IsStarvedAloud h job now g k)
+unfolding IsStarvedAloud
+failed_starved h between k job now f (Ok g) own is want said = rw want (between, subst (λ x. IsFailedAloud h job now x between) own is, said)
+failed_starved h between k job now f (Err u) own is want said = tt
 
 pub heard_aloud : (h k : Held) (peer : Peer) (zone : Name) (how : Heard) (note : Page) → IsHeard h peer zone (Ok (how, note)) k → IsHeardAloud h peer zone (hearing.Heard how) k
 unfolding IsHeardAloud

@@ -22,7 +22,8 @@ use Rattle.dz_job.specs.Job.{JobOf}
 use Rattle.dz_fleet.specs.declared.due.Due.{Due}
 use Rattle.dz_fleet.specs.declared.due.Due.TheVariants as due
 use Rattle.dz_fleet.specs.Values.{value_at}
-use Rattle.dz_fleet.specs.Core.{Core, state_of, is_full, first_place, quiet_of, primary_at, job_at, due_from, due_of, IsDue}
+use Rattle.dz_fleet.specs.Core.{Core, state_of, is_full, first_place, quiet_of, primary_at, job_at, due_from, due_of}
+use Rattle.dz_fleet.specs.Answers.{IsDue}
 use Rattle.dz_fleet.specs.Sound.{IsSound}
 use Rattle.dz_fleet.proofs.HandLemmas.{room, first_idle, job_is}
 use Rattle.dz_fleet.proofs.StateLemmas.{state_step, state_opened}

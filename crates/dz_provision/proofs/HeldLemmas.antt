@@ -12,7 +12,8 @@ use Rattle.dz_job.specs.Job.{JobOf}
 use Rattle.dz_job.specs.declared.verdict.Verdict.{Verdict}
 use Rattle.dz_job.specs.declared.verdict.Failure.{Failure}
 use Rattle.dz_fleet.specs.declared.due.Due.{Due}
-use Rattle.dz_fleet.specs.Core.{Core, IsDue, IsOffered, failed_core, failure_of, ended_of, heard_of, after_notify}
+use Rattle.dz_fleet.specs.Core.{Core, failed_core, failure_of, ended_of, heard_of, after_notify}
+use Rattle.dz_fleet.specs.Answers.{IsDue, IsOffered}
 use Rattle.dz_fleet.specs.Sound.{IsSound, IsAmong, IsFlying}
 use Rattle.dz_job.specs.declared.flight.Flight.{Flight}
 use Rattle.dz_fleet.specs.Absence.{AbsentOf, absent_of}

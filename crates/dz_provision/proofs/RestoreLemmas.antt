@@ -29,7 +29,8 @@ use Rattle.dz_job.specs.declared.verdict.Verdict.TheVariants.{Published, Confirm
 use Rattle.dz_job.specs.declared.verdict.Failure.{Failure}
 use Rattle.dz_desk.specs.Seen.{Page}
 use Rattle.dz_fleet.specs.declared.due.Due.TheVariants as due
-use Rattle.dz_fleet.specs.Core.{Core, state_of, due_of, after_due, ended_of, used_of, screened, tsig_of, verdict_from, verdict_of, after_verdict, settled, failed_core, IsOffered}
+use Rattle.dz_fleet.specs.Core.{Core, state_of, due_of, after_due, ended_of, used_of, screened, tsig_of, verdict_from, verdict_of, after_verdict, settled, failed_core}
+use Rattle.dz_fleet.specs.Answers.{IsOffered}
 use Rattle.dz_fleet.specs.Sound.{IsSound, IsFlying}
 use Rattle.dz_fleet.proofs.HandLemmas.{handed_flies}
 use Rattle.dz_fleet.proofs.TakeLemmas.{screened_refused}

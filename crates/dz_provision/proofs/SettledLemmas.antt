@@ -17,7 +17,8 @@ use Rattle.dz_job.specs.declared.verdict.Verdict.{Verdict}
 use Rattle.dz_job.specs.declared.verdict.Verdict.TheVariants.{Published, Confirmed, Refused, PolicyRefused, Stale, OutOfMemory}
 use Rattle.dz_job.specs.declared.verdict.Failure.{Failure}
 use Rattle.dz_job.specs.declared.verdict.Failure.TheVariants as failures
-use Rattle.dz_fleet.specs.Core.{Core, state_of, ended_of, entry_for, failure_of, is_accepted, screened, tsig_of, verdict_from, verdict_of, settled, IsOffered}
+use Rattle.dz_fleet.specs.Core.{Core, state_of, ended_of, entry_for, failure_of, is_accepted, screened, tsig_of, verdict_from, verdict_of, settled}
+use Rattle.dz_fleet.specs.Answers.{IsOffered}
 use Rattle.dz_fleet.specs.Absence.{AbsentOf}
 use Rattle.dz_fleet.specs.Weighing.{is_taken}
 use Rattle.dz_fleet.proofs.SettleLemmas.{settled_by}
@@ -164,6 +165,12 @@ starved_at (Err u) job octets from list is = rw is tt
 pub starved_last : (r : Result Verdict Unmade) (list : List Entry) → MatchResult r (λ v. v ≡ OutOfMemory) (λ u. u ≡ unmade.LogFault) → IfOk r (λ v. is_taken v ≡ true → IsLastVerdict list v)
 starved_last (Ok v) list is = λ takes. absurd (let e : is_taken OutOfMemory ≡ true = rw is at takes in cc e)
 starved_last (Err u) list is = tt
+
+-- the same of a job that failed, which is then said to have failed
+pub failed_at : (r : Result Failure Unmade) (f : Failure) (job : JobOf) (from : ℕ) (list : List Entry) → f ≡ failures.Failed → IsFailedAt (Ok f) job from list → MatchResult r (λ g. g ≡ failures.Failed) (λ u. u ≡ unmade.LogFault)
+    → IsFailedAt r job from list
+failed_at (Ok g) f job from list own s is = subst (λ x. IsFailedAt (Ok x) job from list) (own ∙ sym is) s
+failed_at (Err u) f job from list own s is = rw is tt
 
 -- ---- an answer holds behind a shorter list too
 pub settled_sooner : (r : Result Verdict Unmade) (job : JobOf) (octets : Octets) (less from : ℕ) (list : List Entry) → less ≤ from → IsSettledAt r job octets from list → IsSettledAt r job octets less list

@@ -21,7 +21,8 @@ use Rattle.dz_notify.specs.declared.notify.Heard.{Heard}
 use Rattle.dz_notify.specs.declared.notify.Heard.TheVariants as heard
 use Rattle.dz_fleet.specs.declared.due.Due.{Due}
 use Rattle.dz_fleet.specs.declared.due.Due.TheVariants as due
-use Rattle.dz_fleet.specs.Core.{Core, state_of, ended_of, entry_for, verdict_of, verdict_from, is_accepted, is_old_serial, screened, tsig_of, settled, after_success, after_verdict, after_end, after_failure, after_refusal, failed_core, IsDue, IsOffered, after_notify}
+use Rattle.dz_fleet.specs.Core.{Core, state_of, ended_of, entry_for, verdict_of, verdict_from, is_accepted, is_old_serial, screened, tsig_of, settled, after_success, after_verdict, after_end, after_failure, after_refusal, failed_core, after_notify}
+use Rattle.dz_fleet.specs.Answers.{IsDue, IsOffered}
 use Rattle.dz_fleet.specs.Sound.{IsSound, IsFlying}
 use Rattle.dz_fleet.specs.Weighing.{Weighing, Renewed, Fits, octets_in, is_taken, renewed_for}
 use Rattle.dz_fleet.proofs.TakeLemmas.{tells, follows, decision_is}

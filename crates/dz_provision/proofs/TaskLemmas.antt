@@ -12,7 +12,8 @@ use Rattle.dz_store.specs.declared.fault.StoreFault.{StoreFault}
 use Rattle.dz_store.specs.declared.fault.StoreFault.TheVariants.{DiskFault, Full, Unfit, OutOfMemory}
 use Rattle.dz_store.specs.Payload.{reads}
 use Rattle.dz_store.specs.Store.{StoreOf, HasFailed}
-use Rattle.dz_provision.specs.Keeping.{Task, record_of, zone_of, IsUnfit, IsWhy, IsStopped}
+use Rattle.dz_provision.specs.Keeping.{Task, record_of, zone_of, IsUnfit}
+use Rattle.dz_provision.specs.KeepingAnswer.{IsWhy, IsStopped}
 use Rattle.dz_provision.specs.inner.Tasks.{AreDone, LeavesTasks}
 use Rattle.dz_provision.proofs.MomentLemmas.{no_call, both_calls, wider}
 

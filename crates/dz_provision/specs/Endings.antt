@@ -1,10 +1,11 @@
--- Meaning: how a call ended a job: which event of the core it made, and which lines were written of it.
-use Rattle.std.specs.Prelude.{◌≡◌, ℕ, Bool, true, Option, Some, None, Result, Ok, Err}
+-- Answer: how a call ended a job: which event of the core it made, and which lines were written of it.
+use Rattle.std.specs.Prelude.{◌≡◌, ◌++◌, ℕ, Bool, true, Option, Some, None, Result, Ok, Err}
 use Rattle.dz_name.specs.Words.{Octets}
 use Rattle.dz_job.specs.Job.{JobOf}
 use Rattle.dz_job.specs.declared.verdict.Verdict.{Verdict}
 use Rattle.dz_job.specs.declared.verdict.Verdict.TheVariants.{OutOfMemory}
 use Rattle.dz_job.specs.declared.verdict.Failure.{Failure}
+use Rattle.dz_job.specs.declared.verdict.Failure.TheVariants as failures
 use Rattle.dz_fleet.specs.Events.{Event}
 use Rattle.dz_fleet.specs.Events as events
 use Rattle.dz_report.specs.Lines.{failure_line, verdict_lines}
@@ -22,6 +23,12 @@ settling job octets now verdict = record { event = events.ended job octets now; 
 abbrev pub failing : JobOf → ℕ → Failure → EndingOf
 failing job now failure = record { event = events.failed job now; lines = failure_line job.flight.zone failure }
 
+-- as one that failed for want of memory, of which `nomemory` is written after its line; where the incarnation had ended it
+-- is stale, and has the line of that alone
+abbrev pub starving : JobOf → ℕ → Failure → EndingOf
+starving job now failures.Failed = record { event = events.failed job now; lines = failure_line job.flight.zone failures.Failed ++ verdict_lines job.flight.zone OutOfMemory }
+starving job now (failures.Stale n) = failing job now (failures.Stale n)
+
 -- by the answer: where it is an error the call made no event, or its lines were not written whole
 abbrev pub settled_ending : JobOf → Octets → ℕ → Result Verdict Unmade → Option EndingOf
 settled_ending job octets now (Ok verdict) = Some (settling job octets now verdict)
@@ -30,6 +37,10 @@ settled_ending job octets now (Err why) = None
 abbrev pub failed_ending : JobOf → ℕ → Result Failure Unmade → Option EndingOf
 failed_ending job now (Ok failure) = Some (failing job now failure)
 failed_ending job now (Err why) = None
+
+abbrev pub starved_ending : JobOf → ℕ → Result Failure Unmade → Option EndingOf
+starved_ending job now (Ok failure) = Some (starving job now failure)
+starved_ending job now (Err why) = None
 
 -- a job ended, at one of these moments
 abbrev pub HappensAmong : (ℕ → Bool) → Event → Type 0

@@ -1,4 +1,4 @@
--- Meaning: what is under the provisioner's lock, and what each call makes of it.
+-- Answer: what is under the provisioner's lock, and what each call makes of it.
 use Rattle.std.specs.Prelude.{◌≡◌, ◌≤◌, ◌⊎◌, ℕ, Bool, true, false, List, Option, Result, Ok, Err, IfOk}
 use Rattle.dz_io.specs.Counts.{HasRisen}
 use Rattle.dz_io.specs.Device.{Gains, GainsPrefix}
@@ -9,9 +9,11 @@ use Rattle.dz_job.specs.Job.{JobOf}
 use Rattle.dz_job.specs.declared.verdict.Verdict.{Verdict}
 use Rattle.dz_job.specs.declared.verdict.Verdict.TheVariants.{OutOfMemory}
 use Rattle.dz_job.specs.declared.verdict.Failure.{Failure}
+use Rattle.dz_job.specs.declared.verdict.Failure.TheVariants as failures
 use Rattle.dz_history.specs.declared.entry.Entry.{Entry}
 use Rattle.dz_fleet.specs.declared.due.Due.{Due}
-use Rattle.dz_fleet.specs.Core.{Core, IsDue, IsOffered, failed_core, failure_of, ended_of, heard_of, after_notify}
+use Rattle.dz_fleet.specs.Core.{Core, failed_core, failure_of, ended_of, heard_of, after_notify}
+use Rattle.dz_fleet.specs.Answers.{IsDue, IsOffered}
 use Rattle.dz_fleet.specs.Sound.{IsFlying}
 use Rattle.dz_fleet.specs.Absence.{AbsentOf, absent_of}
 use Rattle.dz_desk.specs.Seen.{Book, Page}
@@ -107,6 +109,12 @@ IsSettledAloud h job octets now verdict k = (note : Page) × IsSettled h job oct
 
 unfoldable pub IsFailedAloud : Held → JobOf → ℕ → Failure → Held → Type 0
 IsFailedAloud h job now failure k = (note : Page) × IsFailed h job now (Ok (failure, note)) k
+
+-- for want of memory: after its own line the line is said that names the job's zone, but where it is stale
+unfoldable pub IsStarvedAloud : Held → JobOf → ℕ → Failure → Held → Type 0
+IsStarvedAloud h job now failures.Failed k =
+    (between : Held) × IsFailedAloud h job now failures.Failed between × IsSaid between (verdict_lines job.flight.zone OutOfMemory) (Ok tt) k
+IsStarvedAloud h job now (failures.Stale n) k = IsFailedAloud h job now (failures.Stale n) k
 
 -- a NOTIFY
 unfoldable pub IsHeardAloud : Held → Peer → Name → Hearing → Held → Type 0

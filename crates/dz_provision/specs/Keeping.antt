@@ -1,5 +1,5 @@
 -- Meaning: what a store has to do after the last entry of a list, and how far it came.
-use Rattle.std.specs.Prelude.{⊤, ◌≡◌, ◌≢◌, ◌<◌, ◌+◌, ℕ, Bool, true, false, List, [], ◌∷◌, ◌++◌, length, map, filter, Option, Some, None, Result, Ok, option_map}
+use Rattle.std.specs.Prelude.{◌≡◌, ◌+◌, ℕ, Bool, true, false, List, [], ◌∷◌, ◌++◌, map, filter, Option, Some, None, option_map}
 use Rattle.std.specs.Option.{option_and_then, option_to_list}
 use Rattle.dz_name.specs.Words.{Name, Octets}
 use Rattle.dz_zone.specs.Version.{Zone}
@@ -7,7 +7,6 @@ use Rattle.dz_member.specs.declared.change.Change.{Change}
 use Rattle.dz_member.specs.declared.change.What.{What}
 use Rattle.dz_member.specs.declared.change.What.TheVariants.{Removed, Reset, MovedReset}
 use Rattle.dz_history.specs.declared.entry.Entry.{Entry}
-use Rattle.dz_history.specs.declared.aftermath.Aftermath.{Aftermath}
 use Rattle.dz_history.specs.declared.aftermath.Aftermath.TheVariants.{Changes}
 use Rattle.dz_history.specs.State.{State, catalog_at, member_at, held_at}
 use Rattle.dz_history.specs.After.{after}
@@ -18,17 +17,8 @@ use Rattle.dz_fleet.specs.declared.fleet.Last.{Last}
 use Rattle.dz_fleet.specs.Core.{entry_for}
 use Rattle.dz_fleet.specs.Last.{last_of}
 use Rattle.dz_fleet.specs.Weighing.{is_taken}
-use Rattle.dz_disk.specs.RecordLog.{limit}
-use Rattle.dz_disk.specs.Several.{JoinInOrder}
 use Rattle.dz_outward.specs.Stream.{is_fit}
-use Rattle.dz_store.specs.declared.fault.StoreFault.{StoreFault}
-use Rattle.dz_store.specs.declared.fault.StoreFault.TheVariants.{DiskFault, Full, Unfit, OutOfMemory}
 use Rattle.dz_store.specs.Kept.{KeptZone, payload_of, forgotten}
-use Rattle.dz_store.specs.Payload.{reads}
-use Rattle.dz_store.specs.Store.{StoreOf, HasFailed}
-use Rattle.dz_provision.specs.declared.provisioner.LogFault.{LogFault}
-use Rattle.dz_provision.specs.Held.{Held, IsSaid}
-use Rattle.dz_provision.specs.Log.{unkept_text}
 use Rattle.dz_provision.specs.Receipts.{verdict_after}
 
 -- a verdict by which a list's last entry was taken
@@ -103,30 +93,3 @@ tasks list verdict = map forget (gone (changes_of verdict)) ++ map save (option_
 abbrev pub IsUnfit : Task → Type 0
 IsUnfit (forget zone) = ⊥
 IsUnfit (save kept) = is_fit kept.version ≡ false
-
--- why a task met a fault: a call of the disk failed, now or before; its record has no room; its version can't be sent; or
--- memory was wanting
-abbrev pub IsWhy : {D : Type 0} → (D → ℕ) → StoreOf D → StoreOf D → Task → StoreFault → Type 0
-IsWhy faults old new task DiskFault = HasFailed faults old new
-IsWhy faults old new task Full = limit < new.end + 9 + length (record_of task)
-IsWhy faults old new task Unfit = IsUnfit task
-IsWhy faults old new task OutOfMemory = ⊤
-
--- the first of these tasks that met a fault; but for one of the disk, the records of those before it joined and no other
-pub record IsStopped {D : Type 0} (file : D → Option Octets) (faults : D → ℕ) (old new : StoreOf D) (all : List Task) (zone : Name) (fault : StoreFault) : Type 0 where
-  pub done : List Task
-  pub task : Task
-  pub rest : List Task
-  pub are : all ≡ done ++ task ∷ rest
-  pub own : zone ≡ zone_of task
-  pub joined : fault ≢ DiskFault → JoinInOrder reads (file old.disk) (file new.disk) (map record_of done)
-  pub able : fault ≢ DiskFault → new.has_failed ≡ old.has_failed
-  pub why : IsWhy faults old new task fault
-
--- all tasks were done, their records joined and no line was written; or one met a fault, the line of its zone and that fault
--- was said, and none was begun after it
-pub data IsKept {D : Type 0} (file : D → Option Octets) (faults : D → ℕ) (old new : StoreOf D) (all : List Task) (h : Held) (result : Result (Unit {0}) LogFault) (k : Held) : Type 0 where
-  whole : JoinInOrder reads (file old.disk) (file new.disk) (map record_of all) → new.has_failed ≡ old.has_failed → result ≡ Ok tt → k ≡ h
-      → IsKept file faults old new all h result k
-  stopped : (zone : Name) (fault : StoreFault) → IsStopped file faults old new all zone fault → IsSaid h (unkept_text zone fault) result k
-      → IsKept file faults old new all h result k

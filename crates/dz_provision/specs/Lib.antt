@@ -2,6 +2,7 @@ pub mod Endings
 pub mod Held
 pub mod Journal
 pub mod Keeping
+pub mod KeepingAnswer
 pub mod Log
 pub mod Names
 pub mod Receipts

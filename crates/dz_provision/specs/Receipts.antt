@@ -1,4 +1,4 @@
--- Meaning: what calls under the lock answer, by the list that the lock has and that the reading has then seen.
+-- Answer: what calls under the lock answer, by the list that the lock has and that the reading has then seen.
 use Rattle.std.specs.Prelude.{⊤, ◌≡◌, ◌≤◌, ◌<◌, ◌⊎◌, ℕ, ◌-◌, ◌^◌, ◌%◌, Bool, true, List, [], length, take, slice_get, Some, None, IfSome, Result, Ok, Err}
 use mathlib.Core.List.{IsPrefix}
 use Rattle.dz_name.specs.Words.{Name, Octets}

@@ -1,7 +1,7 @@
 //! How jobs ended.
 
 ghost use Rattle.std.specs.Prelude.{◌≡◌};
-ghost use Rattle.dz_provision.specs.Endings.{settled_ending, failed_ending};
+ghost use Rattle.dz_provision.specs.Endings.{settled_ending, failed_ending, starved_ending};
 ghost use Rattle.dz_provision.specs.inner.Ends.{ending_by};
 
 use crate::provisioner::Unmade;
@@ -10,7 +10,7 @@ use dz_take::Finished;
 use std::marker::Model;
 use std::snapshot::Snapshot;
 
-/// The event that ended a job: it was settled, or it failed.
+/// The event that ended a job: it was settled, or it failed, for want of memory or not.
 #[derive(Drop)]
 pub enum End {
     Settled {
@@ -20,6 +20,11 @@ pub enum End {
         moment: u64,
     },
     Failed {
+        job: Snapshot<Job>,
+        failure: Snapshot<Failure>,
+        moment: u64,
+    },
+    Starved {
         job: Snapshot<Job>,
         failure: Snapshot<Failure>,
         moment: u64,
@@ -83,6 +88,26 @@ pub(crate) fn failed(
     let ending = match &answer {
         Err(_) => None,
         Ok(failure) => Some(ending_of(End::Failed {
+            job,
+            failure: Snapshot::of(failure),
+            moment,
+        })),
+    };
+    Ended { answer, ending }
+}
+
+/// The answer for a job that failed for want of memory at a moment.
+pub(crate) fn starved(
+    job: Snapshot<Job>,
+    moment: u64,
+    answer: Result<Failure, Unmade>,
+) -> Ended<Failure>
+    ensures answer { result.answer ≡ answer }
+    ensures ending { result.ending ≡ starved_ending job.value moment answer }
+{
+    let ending = match &answer {
+        Err(_) => None,
+        Ok(failure) => Some(ending_of(End::Starved {
             job,
             failure: Snapshot::of(failure),
             moment,

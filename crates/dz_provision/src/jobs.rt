@@ -3,7 +3,7 @@
 ghost use Rattle.std.specs.Prelude.{◌≡◌, ◌<◌, ◌^◌, false, length, Err, IsErr};
 ghost use mathlib.Core.List.{IsPrefix};
 ghost use Rattle.dz_job.specs.Job.{transfer_for};
-ghost use Rattle.dz_provision.specs.Endings.{settled_ending, failed_ending};
+ghost use Rattle.dz_provision.specs.Endings.{settled_ending, failed_ending, starved_ending};
 ghost use Rattle.dz_provision.specs.Receipts.{IsHandedAt, IsSettledAt, IsFailedAt};
 
 use crate::ending::Ended;
@@ -73,5 +73,21 @@ pub trait Jobs: Ear {
         ensures seen { IsPrefix reading.old.list reading.new.list }
         ensures failed { IsFailedAt result.answer job (length reading.old.list) reading.new.list }
         ensures ending { result.ending ≡ failed_ending job now result.answer }
+        ensures cause { result.answer ≡ Err Unmade.LogFault → Self.may_fail };
+
+    /// Ends a job that failed for want of memory. Its line is written, and after `failed` the line `nomemory` with the zone;
+    /// a job that is stale has no line but its own. It answers how the job ended, as [`Jobs::settle`] does.
+    ///
+    /// # Errors
+    ///
+    /// As those of [`Jobs::settle`]. Where the second line can't be written, the first one was, and the job has failed.
+    fn starve<R: Wait>(&self, rt: &R, reading: &mut Reading, job: Job, now: u64) -> Ended<Failure>
+        requires out { reading.old.is_out ≡ false }
+        requires own { reading.old.book ≡ Self.publisher }
+        requires moment { now < 2 ^ 40 }
+        ensures same { reading.new ≡ record reading.old { list = reading.new.list } }
+        ensures seen { IsPrefix reading.old.list reading.new.list }
+        ensures failed { IsFailedAt result.answer job (length reading.old.list) reading.new.list }
+        ensures ending { result.ending ≡ starved_ending job now result.answer }
         ensures cause { result.answer ≡ Err Unmade.LogFault → Self.may_fail };
 }

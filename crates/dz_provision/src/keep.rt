@@ -9,7 +9,8 @@ ghost use Rattle.dz_disk.specs.Several.{IsLeftAmong};
 ghost use Rattle.dz_history.specs.State.{State, IsState};
 ghost use Rattle.dz_store.specs.Kept.{meaning_of};
 ghost use Rattle.dz_store.specs.Payload.{reads};
-ghost use Rattle.dz_provision.specs.Keeping.{forget, save, record_of, goes, gone, changes_of, membership_at, last_kept, tasks, IsKept, IsLastVerdict, IsStopped};
+ghost use Rattle.dz_provision.specs.Keeping.{forget, save, record_of, goes, gone, changes_of, membership_at, last_kept, tasks, IsLastVerdict};
+ghost use Rattle.dz_provision.specs.KeepingAnswer.{IsKept, IsStopped};
 ghost use Rattle.dz_provision.specs.inner.Tasks.{kept_as, AreDone, LeavesTasks};
 
 use crate::naming::Naming;

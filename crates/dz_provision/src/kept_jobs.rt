@@ -136,4 +136,8 @@ impl<'a, K: Sink, J: Naming, D: Disk + Drop> Jobs
     fn fail<R: Wait>(&self, rt: &R, reading: &mut Reading, job: Job, now: u64) -> Ended<Failure> {
         self.shared.fail(rt, reading, job, now)
     }
+
+    fn starve<R: Wait>(&self, rt: &R, reading: &mut Reading, job: Job, now: u64) -> Ended<Failure> {
+        self.shared.starve(rt, reading, job, now)
+    }
 }

@@ -7,13 +7,13 @@ ghost use Rattle.dz_desk.specs.Hearing.{IsHeard};
 ghost use Rattle.dz_job.specs.Job.{transfer_for};
 ghost use Rattle.dz_fleet.specs.Weighing.{is_taken};
 ghost use Rattle.dz_report.specs.Lines.{verdict_lines};
-ghost use Rattle.dz_provision.specs.Endings.{settled_ending, failed_ending};
-ghost use Rattle.dz_provision.specs.Held.{IsHandedOut, IsSettledAloud, IsFailedAloud, IsHeardAloud, IsSaid};
+ghost use Rattle.dz_provision.specs.Endings.{settled_ending, failed_ending, starved_ending};
+ghost use Rattle.dz_provision.specs.Held.{IsHandedOut, IsSettledAloud, IsFailedAloud, IsStarvedAloud, IsHeardAloud, IsSaid};
 ghost use Rattle.dz_provision.specs.inner.Ready.{is_want};
 ghost use Rattle.dz_provision.specs.Keeping.{IsLastVerdict};
 ghost use Rattle.dz_provision.specs.Receipts.{IsHandedAt, IsSettledAt, IsFailedAt};
 
-use crate::ending::{Ended, failed, settled};
+use crate::ending::{Ended, failed, settled, starved};
 use crate::naming::Naming;
 use crate::provisioner::{LogFault, Provisioner, Unmade};
 use crate::starved::starved_line;
@@ -153,7 +153,7 @@ impl<K: Sink, J: Naming> Provisioner<K, J> {
             Ok((verdict, told)) => {
                 if is_want(&verdict) {
                     drop(told);
-                    return self.say_starved(&zone);
+                    return self.say_starved(&zone, Verdict::OutOfMemory);
                 }
                 show_taken(rt, reading, &verdict, told);
                 Ok(verdict)
@@ -161,9 +161,9 @@ impl<K: Sink, J: Naming> Provisioner<K, J> {
         }
     }
 
-    /// Says that memory ran out for the transfer of a zone.
-    fn say_starved(&mut self, zone: &Name) -> Result<Verdict, Unmade>
-        ensures answer { MatchResult result (λ verdict. verdict ≡ Verdict.OutOfMemory)
+    /// Says that memory ran out for the transfer of a zone, and answers how its job ended.
+    fn say_starved<T: Drop>(&mut self, zone: &Name, how: T) -> Result<T, Unmade>
+        ensures answer { MatchResult result (λ answer. answer ≡ how)
             (λ unmade. unmade ≡ Unmade.LogFault) }
         ensures said { OnOk result
             (IsSaid self.old (verdict_lines zone.now Verdict.OutOfMemory) (Ok tt) self.new) }
@@ -171,7 +171,7 @@ impl<K: Sink, J: Naming> Provisioner<K, J> {
     {
         let line = starved_line(zone);
         match self.say(line.as_slice()) {
-            Ok(()) => Ok(Verdict::OutOfMemory),
+            Ok(()) => Ok(how),
             Err(_) => {
                 self.has_failed();
                 Err(Unmade::LogFault)
@@ -209,6 +209,35 @@ impl<K: Sink, J: Naming> Provisioner<K, J> {
                 drop(told);
                 Ok(failure)
             }
+        }
+    }
+
+    /// Ends a job that failed for want of memory, says so, and answers by the list.
+    pub(crate) fn starve_now(&mut self, job: Job, now: u64) -> Ended<Failure>
+        requires moment { now < 2 ^ 40 }
+        ensures failed { IsFailedAt result.answer job
+            (length self.old.core.list) self.old.core.list }
+        ensures made { IfOk result.answer (λ f. IsStarvedAloud self.old job now f self.new) }
+        ensures ending { result.ending ≡ starved_ending job now result.answer }
+        ensures cause { result.answer ≡ Err Unmade.LogFault → (k : K) × HasRisen 0 (K.faults k) }
+    {
+        let of = Snapshot::of(&job);
+        let answer = self.starve_aloud(job, now);
+        starved(of, now, answer)
+    }
+
+    /// The failure of it. Of one that is stale nothing more is said.
+    fn starve_aloud(&mut self, job: Job, now: u64) -> Result<Failure, Unmade>
+        requires moment { now < 2 ^ 40 }
+        ensures failed { IsFailedAt result job (length self.old.core.list) self.old.core.list }
+        ensures made { IfOk result (λ f. IsStarvedAloud self.old job now f self.new) }
+        ensures cause { result ≡ Err Unmade.LogFault → (k : K) × HasRisen 0 (K.faults k) }
+    {
+        let zone = *job.zone();
+        match self.fail_aloud(job, now) {
+            Ok(Failure::Failed) => self.say_starved(&zone, Failure::Failed),
+            Ok(Failure::Stale(position)) => Ok(Failure::Stale(position)),
+            Err(unmade) => Err(unmade),
         }
     }
 }

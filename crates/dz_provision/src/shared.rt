@@ -94,4 +94,14 @@ impl<K: Sink, J: Naming> Jobs for Locked<Provisioner<K, J>> {
         }
         unreachable!()
     }
+
+    fn starve<R: Wait>(&self, rt: &R, reading: &mut Reading, job: Job, now: u64) -> Ended<Failure> {
+        'locks: for _ in rt.forever() {
+            let mut inside = self.lock.lock(rt);
+            if inside.is_seen(rt, reading) {
+                return inside.starve_now(job, now);
+            }
+        }
+        unreachable!()
+    }
 }

@@ -1,4 +1,4 @@
--- Meaning: what a worker owes for the links that an acceptor gave it, one after the other.
+-- Answer: what a worker owes for the links that an acceptor gave it, one after the other.
 use Rattle.std.specs.Prelude.{◌≡◌, ℕ, Bool, true, false, List, length, map, Option, IfSome, IsSome}
 use Rattle.std.specs.List.{flat_map, list_any, AllByRecursion}
 use mathlib.Core.List.{IsPrefix}

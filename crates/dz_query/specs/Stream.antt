@@ -1,4 +1,4 @@
--- Meaning: what a session over a link owes for the messages that came over it (RFC 1035 section 4.2.2).
+-- Answer: what a session over a link owes for the messages that came over it (RFC 1035 section 4.2.2).
 use Rattle.std.specs.Prelude.{⊤, ◌≡◌, ℕ, Bool, true, List, [], ◌∷◌, ◌++◌, length, map, Option, IsSome}
 use Rattle.dz_name.specs.Words.{Octets}
 use Rattle.dz_io.specs.Counts.{HasRisen, HasRisenBy}

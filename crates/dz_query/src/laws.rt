@@ -1,4 +1,4 @@
-//! Laws of what is sent.
+//! Laws of what is sent. Each is a contract without a call, so its body is empty.
 
 ghost use Rattle.dz_query.specs.Laws.{ComesBack};
 

@@ -1,5 +1,5 @@
 -- Meaning: resource records of class IN (RFC 1035 section 3.2.1, RFC 2181 section 8).
-use Rattle.std.specs.Prelude.{⊤, ◌≡◌, ℕ, ◌-◌, ◌<◌, ◌^◌, Bool, true, false, ◌==◌, ◌&&◌, ◌||◌, nat_le, nat_lt, ◌++◌, length, drop, Option, Some, None, Result, Ok, Err, if◌then◌else◌}
+use Rattle.std.specs.Prelude.{◌≡◌, ℕ, ◌-◌, ◌<◌, ◌^◌, Bool, true, false, ◌==◌, ◌&&◌, ◌||◌, nat_le, nat_lt, ◌++◌, length, drop, Option, Some, None, Result, Ok, Err, if◌then◌else◌}
 use Rattle.std.specs.Str.{bytes_eq}
 use Rattle.std.specs.Ordering.{nat_cmp, on, then_cmp}
 use Rattle.std.specs.Cmp.Lexicographic.{slice_cmp}
@@ -10,8 +10,6 @@ use Rattle.dz_record.specs.Fields.{is_rdata}
 use Rattle.dz_record.specs.declared.rr.Soa.{Soa}
 use Rattle.dz_record.specs.declared.rr.RrFault.{RrFault}
 use Rattle.dz_record.specs.declared.rr.RrFault.TheVariants.{BadRdata, BadType}
-use Rattle.dz_record.specs.declared.rr.RrError.{RrError}
-use Rattle.dz_record.specs.declared.rr.RrError.TheVariants as errors
 use Rattle.dz_name.specs.Words.{Name, Octets, Kind}
 use Rattle.dz_name.specs.declared.dns.TheConstants.{TYPE_NS, TYPE_CNAME, TYPE_SOA, TYPE_PTR, TYPE_SIG, TYPE_NXT, TYPE_A6, TYPE_DNAME, TYPE_OPT, TYPE_TKEY, TYPE_ANY, CLASS_IN}
 
@@ -45,12 +43,6 @@ record_of owner kind ttl rdata =
     if is_bad_type kind then Err BadType
     else if is_rdata kind rdata then Ok (record { owner = owner; kind = kind; ttl = ttl_of ttl; rdata = rdata })
     else Err BadRdata
-
--- what a call made: this record, or why there is none; nothing is known when it runs out of memory
-abbrev pub Makes : Result Record RrError → Result Record RrFault → Type 0
-Makes (Ok r) record_is = record_is ≡ Ok r
-Makes (Err (errors.Fault fault)) record_is = record_is ≡ Err fault
-Makes (Err errors.OutOfMemory) record_is = ⊤
 
 -- two records are the same where owner, type and RDATA agree; the TTL is ignored (RFC 2181 section 5)
 abbrev pub same_record : Record → Record → Bool

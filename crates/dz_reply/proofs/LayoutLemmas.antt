@@ -1,10 +1,12 @@
 -- The pieces of a reply, one after another.
-use Rattle.std.proofs.Common.{◌≡◌, ℕ, zero, suc, ◌+◌, ◌-◌, ◌<◌, ◌≤◌, List, [], ◌∷◌, ◌++◌, length, take, drop, refl, sym, ◌∙◌, ap, arith, length-append, append_assoc, Option, Some, None, get_or}
+use Rattle.std.proofs.Common.{◌≡◌, ℕ, zero, suc, ◌+◌, ◌-◌, ◌<◌, ◌≤◌, List, [], ◌∷◌, ◌++◌, length, take, drop, refl, sym, ◌∙◌, ap, arith, length-append, append_assoc, Option, Some, None, get_or, inl, inr}
 use Rattle.std.specs.Option.{option_map_or}
 use Rattle.std.specs.Prelude.{true, false, ◌==◌, ◌≢◌, not, is_some}
 use Rattle.std.specs.List.{flat_map}
-use Rattle.std.proofs.lemmas.List.{drop_more, drop_all, length-drop, append-nil, take-append-le, take_all}
-use Rattle.dz_name.specs.Name.{is_within, wire_of}
+use Rattle.std.proofs.lemmas.List.{drop_more, drop_all, length-drop, append-nil, take-append-drop, take-append-le, take_all}
+use Rattle.dz_name.specs.Name.{IsWithin, is_within, wire_of}
+use Rattle.dz_name.proofs.PartLemmas.{within_suffix}
+use Rattle.std.proofs.lemmas.Bool.{cases_lt, false_from_ne_true}
 use Rattle.dz_name.specs.Numbers.{two, four}
 use Rattle.dz_record.specs.Record.{Record}
 use Rattle.dz_reply.specs.Layout.{owner_octets, pointer_to, entry_octets, entries_octets}
@@ -69,6 +71,22 @@ owner_further question owner k some h so_far =
     ap (λ xs. xs ++ owner_octets question (drop (k + 1) owner)) (ap (λ n. heads n owner) one ∙ heads_more k owner some)
     ∙ (append_assoc (heads k owner) piece (owner_octets question (drop (k + 1) owner)) ∙ (ap (λ xs. heads k owner ++ xs) (sym (spelled question owner k some h)) ∙ so_far))
 
+-- .. up to the longest suffix that the owner shares with the question's name
+passed_over : (question owner : List (List ℕ)) (skip : ℕ) → skip ≤ length owner → ((k : ℕ) → k < skip → is_within question (drop k owner) ≡ false)
+    → heads skip owner ++ owner_octets question (drop skip owner) ≡ owner_octets question owner
+passed_over question owner zero le apart = refl
+passed_over question owner (suc k) le apart =
+    let e : k + 1 ≡ suc k = omega arith in
+    rw e at (owner_further question owner k (omega arith) (apart k (omega arith)) (passed_over question owner k (omega arith) (λ j lt. apart j (omega arith))))
+
+no_longer_shared : (question owner : List (List ℕ)) (skip : ℕ) → skip ≤ length owner
+    → ((zone : List (List ℕ)) → IsWithin owner zone → IsWithin question zone → IsWithin (drop skip owner) zone)
+    → (k : ℕ) → k < skip → is_within question (drop k owner) ≡ false
+no_longer_shared question owner skip le longest k lt =
+    false_from_ne_true (is_within question (drop k owner)) (λ t.
+    let w = longest (drop k owner) (take k owner, sym (take-append-drop k owner)) ((within_suffix question (drop k owner)).0 t) in
+    absurd (omega (arith, ap length w.1, length-append w.0 (drop k owner), length-drop k owner, length-drop skip owner)))
+
 none_left_of : (question : List (List ℕ)) → owner_octets question [] ≡ wire_of []
 unfolding owner_octets wire_of
 none_left_of question = refl
@@ -79,6 +97,43 @@ owner_whole question owner k wire all so_far is =
     let e : drop k owner ≡ [] = drop_all k owner all in
     let f : owner_octets question (drop k owner) ≡ wire_of (drop k owner) = ap (owner_octets question) e ∙ (none_left_of question ∙ ap wire_of (sym e)) in
     append-nil wire ∙ (is ∙ (sym (heads_wire k owner) ∙ (ap (λ xs. heads k owner ++ xs) (sym f) ∙ so_far)))
+
+wire_some : (name : List (List ℕ)) → 1 ≤ length (wire_of name)
+unfolding wire_of
+wire_some [] = omega arith
+wire_some (label ∷ labels) = omega arith
+
+-- a wire form of one octet is the root's
+root_left : (name : List (List ℕ)) → length (wire_of name) ≤ 1 → length name ≡ 0
+unfolding wire_of
+root_left [] few = refl
+root_left (label ∷ labels) few = absurd (omega (arith, few, length-append label (wire_of labels), wire_some labels))
+
+none_further : (owner : List (List ℕ)) (skip : ℕ) → length (wire_of (drop skip owner)) ≤ 1 → length owner ≤ skip
+none_further owner skip few = omega (arith, root_left (drop skip owner) few, length-drop skip owner)
+
+root_wire : (name : List (List ℕ)) → length name ≡ 0 → length (wire_of name) ≡ 1
+unfolding wire_of
+root_wire [] none = refl
+root_wire (label ∷ labels) none = absurd (omega (arith, none))
+
+some_left : (owner : List (List ℕ)) (skip : ℕ) → skip ≤ length owner → 1 < length (wire_of (drop skip owner)) → skip < length owner
+some_left owner skip le some = elim (cases_lt skip (length owner)) [
+  | inl lt ↦ lt
+  | inr ge ↦ absurd (omega (arith, some, root_wire (drop skip owner) (omega (arith, ge, length-drop skip owner))))
+]
+
+module _ (question owner : List (List ℕ)) (skip : ℕ) (le : skip ≤ length owner) (shares : IsWithin question (drop skip owner))
+    (longest : (zone : List (List ℕ)) → IsWithin owner zone → IsWithin question zone → IsWithin (drop skip owner) zone) (wire shared : List ℕ) (wire_is : wire ≡ wire_of owner) (shared_is : shared ≡ wire_of (drop skip owner)) where
+  so_far : heads skip owner ++ owner_octets question (drop skip owner) ≡ owner_octets question owner
+  so_far = passed_over question owner skip le (no_longer_shared question owner skip le longest)
+
+  pub owner_shared : (size pointer : ℕ) → 1 < length shared → size ≡ length wire - length shared → two pointer ≡ pointer_to question (drop skip owner) → take size wire ++ two pointer ≡ owner_octets question owner
+  owner_shared size pointer some size_is pointer_is =
+      owner_pointed question owner skip wire shared size pointer (some_left owner skip le (omega (arith, some, ap length shared_is))) ((within_suffix question (drop skip owner)).1 shares) so_far wire_is shared_is size_is pointer_is
+
+  pub owner_apart : length shared ≤ 1 → wire ++ [] ≡ owner_octets question owner
+  owner_apart few = owner_whole question owner skip wire (none_further owner skip (omega (arith, few, ap length shared_is))) so_far wire_is
 
 pub front_none : (w : Writing) (xs : List ℕ) → length xs ≡ 0 → w ≡ also w xs
 front_none w [] e = sym (also_nil w)

@@ -10,6 +10,7 @@ ghost use Rattle.dz_reply.specs.Answer.{own_entries};
 ghost use Rattle.dz_reply.specs.Layout.{pointer_to, owner_octets, entry_octets, entries_octets, least_ttl, entry_ttl, entry, entries};
 
 use dz_header::Writer;
+use dz_index::labels_apart;
 use dz_name::dns::{CLASS_IN, HEADER_OCTETS, TYPE_CNAME, TYPE_RRSIG};
 use dz_name::numbers::{four, two};
 use dz_name::{Name, NameRef};
@@ -17,6 +18,9 @@ use dz_record::Rr;
 
 /// The two top bits of a pointer (RFC 1035 section 4.1.4).
 pub(crate) const POINTER: u16 = 0xc000;
+
+/// The octets of the root's wire form.
+const ROOT_OCTETS: usize = 1;
 
 /// The longest TTL in seconds (RFC 2181 section 8).
 pub(crate) const LONGEST_TTL: u32 = 0x7fff_ffff;
@@ -34,21 +38,18 @@ pub fn shown_owner<'a>(question: &Name, owner: &NameRef<'a>) -> Shown<'a>
     ensures { owner_shown result ≡ owner_octets question.now owner.now }
 {
     let wire = owner.wire();
-    let count = owner.label_count();
-    let mut number = 0;
-    'labels: while number < count {
-        if question.as_ref().is_within_part(owner, number) {
-            let front = wire.len().saturating_sub(owner.behind(number).len());
-            return Shown {
-                front: &wire[..front],
-                pointer: Some(pointer_to(question, owner, number)),
-            };
-        }
-        number += 1;
+    let skip = labels_apart(owner, &question.as_ref());
+    let shared = owner.behind(skip).len();
+    if shared <= ROOT_OCTETS {
+        return Shown {
+            front: wire,
+            pointer: None,
+        };
     }
+    let front = wire.len().saturating_sub(shared);
     Shown {
-        front: wire,
-        pointer: None,
+        front: &wire[..front],
+        pointer: Some(pointer_to(question, owner, skip)),
     }
 }
 

@@ -9,7 +9,6 @@ use dz_header::{
     Edns, Header, QUESTION_OCTETS, Question, ResponseCode, Shape, edns_of, read_header,
     read_question, read_shape, skip_records,
 };
-use dz_name::Wire;
 use dz_name::dns::{
     CLASS_IN, HEADER_OCTETS, NAME_OCTETS, OPCODE_NOTIFY, OPCODE_QUERY, TYPE_MAILA, TYPE_OPT,
     TYPE_SOA, TYPE_TKEY,
@@ -165,7 +164,7 @@ fn read_question_in(octets: &[u8]) -> Option<(Question, usize)>
     ensures few { IfSome result
         (λ found. found.1 ≤ HEADER_OCTETS + (NAME_OCTETS + QUESTION_OCTETS)) }
 {
-    match read_question(&Wire::plain(octets), HEADER_OCTETS) {
+    match read_question(octets, HEADER_OCTETS) {
         Err(_) => None,
         Ok((question, end)) => {
             if end == HEADER_OCTETS + (question.name.wire().len() + QUESTION_OCTETS) {

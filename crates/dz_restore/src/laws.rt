@@ -1,4 +1,4 @@
-//! Laws of a core whose zones are restored.
+//! Laws of a core whose zones are restored. Each is a contract without a call, so its body is empty.
 
 ghost use Rattle.dz_restore.specs.Laws.{RestoresExactly};
 ghost use Rattle.dz_restore.specs.Turns.{DueInTurn, FailsInTurn, RefusedInTurn, SucceedsInTurn};

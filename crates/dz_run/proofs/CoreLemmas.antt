@@ -12,7 +12,8 @@ use Rattle.dz_history.specs.State.{key_at}
 use Rattle.dz_job.specs.Job.{JobOf, transfer_for}
 use Rattle.dz_job.specs.declared.verdict.Verdict.{Verdict}
 use Rattle.dz_job.specs.declared.verdict.Verdict.TheVariants.{Published, Confirmed, Refused, PolicyRefused, Stale, OutOfMemory}
-use Rattle.dz_fleet.specs.Core.{Core, ended_of, failure_of, others, after_failure, after_refusal, is_old_serial, after_success, screened, state_of, tsig_of, verdict_from, verdict_of, used_of, after_end, after_verdict, settled, failed_core, IsOffered}
+use Rattle.dz_fleet.specs.Core.{Core, ended_of, failure_of, others, after_failure, after_refusal, is_old_serial, after_success, screened, state_of, tsig_of, verdict_from, verdict_of, used_of, after_end, after_verdict, settled, failed_core}
+use Rattle.dz_fleet.specs.Answers.{IsOffered}
 use Rattle.dz_job.specs.declared.verdict.Failure.{Failure}
 use Rattle.dz_fleet.proofs.TakeLemmas.{screened_refused}
 use Rattle.dz_job.specs.Stream.{IsReadOf}

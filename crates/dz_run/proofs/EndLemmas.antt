@@ -5,7 +5,8 @@ use Rattle.std.proofs.lemmas.List.{append-nil}
 use Rattle.dz_io.specs.Device.{Gains}
 use Rattle.dz_script.specs.Lines.{lines_of, content}
 use Rattle.dz_script.specs.Script.{Turn, goes_on, ends, Said, Rules, behind}
-use Rattle.dz_script.specs.Run.{Place, beginning, Step, further, over, after_turn, step_at, said_from, said_of, place_after, GoesToTheEnd, IsRun}
+use Rattle.dz_script.specs.Run.{Place, beginning, Step, further, over, after_turn, step_at, said_from, said_of, place_after, GoesToTheEnd}
+use Rattle.dz_script.specs.Answers.{IsRun}
 use Rattle.dz_script.specs.declared.lines.TheConstants.{LIMIT}
 use Rattle.dz_script.specs.declared.run.ScriptError.{ScriptError}
 use Rattle.dz_script.specs.declared.run.ScriptError.TheVariants as errors

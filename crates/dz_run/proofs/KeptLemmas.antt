@@ -1,9 +1,9 @@
 -- What `replay` shows before and after each step of a line.
 use Rattle.std.proofs.Common.{◌≡◌, ℕ, Bool, true, false, List, [], ◌∷◌, ◌++◌, length, refl, sym, ◌∙◌, ap, arith, inl, inr, Option, None, Some, Result, Ok, Err}
-use Rattle.std.specs.Prelude.{is_some, ◌==◌, MatchResult, IfSome}
+use Rattle.std.specs.Prelude.{is_some, ◌==◌, MatchResult, OnErr, IfSome}
 use Rattle.std.proofs.lemmas.Bool.{eqb-true, cases_Bool}
 use Rattle.dz_io.specs.Device.{Gains, GainsPrefix, HasCauseOf}
-use Rattle.dz_script.specs.Script.{Turn, goes_on, turn_text, DoesTurn, Said, Says}
+use Rattle.dz_script.specs.Script.{Turn, goes_on, turn_text, turn_state, DoesTurn, Said, Says}
 use Rattle.dz_script.specs.declared.script.TurnError.{TurnError}
 use Rattle.dz_script.specs.declared.script.TurnError.TheVariants as stops
 use Rattle.dz_name.specs.Words.{Name, Octets}
@@ -17,7 +17,7 @@ use Rattle.dz_desk.specs.Seen.{Book, Published, Viewed}
 use Rattle.dz_provision.specs.Held.{Held}
 use Rattle.dz_run.specs.Answering.{bad}
 use Rattle.dz_run.specs.Phase.{IsPut, IsGrouped}
-use Rattle.dz_run.specs.Replaying.{State, opening, running, left, bad_line, catalog_line, group_line, grouped, grouped_with, opened_with, event_line, event_turn, line_turn, replay_finish}
+use Rattle.dz_run.specs.Replaying.{State, opening, running, list_in, IsListBefore, left, bad_line, catalog_line, group_line, grouped, grouped_with, opened_with, event_line, event_turn, line_turn, replay_finish}
 use Rattle.dz_run.specs.Taken.{IsTaken}
 use Rattle.dz_run.specs.Kept.{Shown, shown, state_in, IsKept, IsClosed, HasTurned, HasEnded, HasConfig, HasRun, IsRunning}
 use Rattle.dz_run.specs.declared.answering.End.{End}
@@ -25,15 +25,16 @@ use Rattle.dz_run.specs.declared.answering.End.TheVariants.{Done, BadInput}
 use Rattle.dz_run.specs.declared.events.Took.{Took}
 use Rattle.dz_run.specs.declared.events.Took.TheVariants as took
 use Rattle.dz_run.proofs.StepLemmas.{gains_none, prefix_none}
+use Rattle.dz_run.proofs.LeadLemmas.{state_same}
 
 -- ---- turns
 pub turned_silently : (a b : Shown) (turn : Turn State End) → turn ≡ goes_on [] b.state → b.written ≡ a.written → b.faults ≡ a.faults → b.is_over ≡ false → HasTurned turn a (Ok None) b
 unfolding HasTurned
 turned_silently a b turn is text faults over = (([], is, rw text (gains_none a.written)), (faults, λ none. over))
 
-pub turned_wanting : (a b : Shown) (turn : Turn State End) → b.written ≡ a.written → b.faults ≡ a.faults → HasTurned turn a (Err stops.OutOfMemory) b
+pub turned_wanting : (a b : Shown) (turn : Turn State End) → b.written ≡ a.written → b.faults ≡ a.faults → IsListBefore b.state (turn_state turn) → HasTurned turn a (Err stops.OutOfMemory) b
 unfolding HasTurned
-turned_wanting a b turn text faults = (rw text (prefix_none (turn_text turn) a.written), (omega (arith, faults), λ is. absurd (cc is)))
+turned_wanting a b turn text faults before = (rw text (prefix_none (turn_text turn) a.written), (omega (arith, faults), (λ is. absurd (cc is), before)))
 
 -- it is the same turn from what shows the same
 pub turned_from : (a m b : Shown) (turn other : Turn State End) (r : Result (Option End) TurnError) → other ≡ turn → m.written ≡ a.written → m.faults ≡ a.faults → HasTurned turn m r b → HasTurned other a r b
@@ -49,7 +50,12 @@ turned_done a b turn (Err error) t = t.0
 pub turned_cause : (a b : Shown) (turn : Turn State End) (r : Result (Option End) TurnError) → HasTurned turn a r b → HasCauseOf a.faults b.faults r stops.Write
 unfolding HasTurned
 turned_cause a b turn (Ok ended) t = record { later = omega (arith, t.1.0); kept = t.1.0; failed = λ e. absurd (cc e) }
-turned_cause a b turn (Err error) t = record { later = t.1.0; kept = tt; failed = λ e. t.1.1 (cc e) }
+turned_cause a b turn (Err error) t = record { later = t.1.0; kept = tt; failed = λ e. t.1.1.0 (cc e) }
+
+pub turned_leads : (a b : Shown) (turn : Turn State End) (r : Result (Option End) TurnError) → HasTurned turn a r b → OnErr r (IsListBefore b.state (turn_state turn))
+unfolding HasTurned
+turned_leads a b turn (Ok ended) t = tt
+turned_leads a b turn (Err error) t = t.1.1.1
 
 -- ---- ends
 pub ended_turned : (a m b : Shown) (number : ℕ) (ending : End) → m.state ≡ left a.state → m.written ≡ a.written → m.faults ≡ a.faults → HasEnded (bad number) m (Ok ending) b → HasTurned (bad_line a.state number) a (Ok (Some ending)) b
@@ -57,9 +63,10 @@ unfolding HasTurned HasEnded
 ended_turned a m b number ending state text faults e =
     ((bad number, rw (e.0, e.1.0, state) refl, rw (← text) e.1.1.0), (e.1.1.1 ∙ faults, λ none. absurd (cc none)))
 
-pub stopped_turned : (a m b : Shown) (number : ℕ) (error : TurnError) → m.written ≡ a.written → m.faults ≡ a.faults → HasEnded (bad number) m (Err error) b → HasTurned (bad_line a.state number) a (Err error) b
+pub stopped_turned : (a m b : Shown) (number : ℕ) (error : TurnError) → m.state ≡ left a.state → m.written ≡ a.written → m.faults ≡ a.faults → HasEnded (bad number) m (Err error) b → HasTurned (bad_line a.state number) a (Err error) b
 unfolding HasTurned HasEnded
-stopped_turned a m b number error text faults e = rw (← text, ← faults) e
+stopped_turned a m b number error state text faults e =
+    rw (← text, ← faults) (e.0, (e.1.0, (e.1.1.0, state_same b.state (left a.state) (e.1.1.1 ∙ state))))
 
 pub ended_done : (a b : Shown) (said : Said State End) (r : Result End TurnError) → said.ending ≡ BadInput → said.state ≡ a.state → HasEnded said.text a r b
     → MatchResult r (λ ending. Says said ending b.state a.written b.written) (λ e. GainsPrefix said.text a.written b.written)
@@ -70,7 +77,12 @@ ended_done a b said (Err error) is state e = e.0
 pub ended_cause : (a b : Shown) (text : Octets) (r : Result End TurnError) → HasEnded text a r b → HasCauseOf a.faults b.faults r stops.Write
 unfolding HasEnded
 ended_cause a b text (Ok ending) e = record { later = omega (arith, e.1.1.1); kept = e.1.1.1; failed = λ w. absurd (cc w) }
-ended_cause a b text (Err error) e = record { later = e.1.0; kept = tt; failed = λ w. e.1.1 (cc w) }
+ended_cause a b text (Err error) e = record { later = e.1.0; kept = tt; failed = λ w. e.1.1.0 (cc w) }
+
+pub ended_leads : (a b : Shown) (said : Said State End) (text : Octets) (r : Result End TurnError) → said.state ≡ a.state → HasEnded text a r b → OnErr r (IsListBefore b.state said.state)
+unfolding HasEnded
+ended_leads a b said text (Ok ending) state e = tt
+ended_leads a b said text (Err error) state e = state_same b.state said.state (e.1.1.1 ∙ sym state)
 
 -- ---- before the first event and after it
 fresh_kept : (publisher : Book) (last : Option Core) (p : Option Published) (v : Option Viewed) (told : Option (Option Octets)) (count : Option ℕ) (over : Bool) → IsKept publisher None last p v told count over → over ≡ false → last ≡ None
@@ -166,7 +178,7 @@ pub run_of : (config : List CatalogSettings) (h k : Held) (last : Option Core) (
 unfolding IsTaken HasRun HasTurned
 run_of config h k last told count over turn number (Ok took.Done) before t = (t.does, (t.faults, λ none. before))
 run_of config h k last told count over turn number (Ok took.Bad) before t = (t.0, ap (λ (x : Held). shown config (Some x) last told count over) t.1)
-run_of config h k last told count over turn number (Err error) before t = (t.part, (t.later, t.cause))
+run_of config h k last told count over turn number (Err error) before t = (t.part, (t.later, (t.cause, t.list)))
 
 pub run_done : (a b : Shown) (turn : Turn State End) (number : ℕ) → HasRun turn number a (Ok took.Done) b → HasTurned turn a (Ok None) b
 unfolding HasRun
@@ -180,9 +192,9 @@ pub run_same : (a b : Shown) (turn : Turn State End) (number : ℕ) → HasRun t
 unfolding HasRun
 run_same a b turn number r = r
 
-pub run_still : (a b : Shown) (turn : Turn State End) (number : ℕ) → b.written ≡ a.written → b.faults ≡ a.faults → HasRun turn number a (Err stops.OutOfMemory) b
+pub run_still : (a b : Shown) (turn : Turn State End) (number : ℕ) → b.written ≡ a.written → b.faults ≡ a.faults → b.state ≡ a.state → IsListBefore a.state (turn_state turn) → HasRun turn number a (Err stops.OutOfMemory) b
 unfolding HasRun
-run_still a b turn number text faults = turned_wanting a b turn text faults
+run_still a b turn number text faults state before = turned_wanting a b turn text faults (rw state before)
 
 pub runs_core : (state : State) → IsRunning state → (c : Core) × (state ≡ running c)
 runs_core (opening config) runs = absurd runs
@@ -193,6 +205,12 @@ config_some config (Some x) last some = absurd some
 config_some config None (Some c) some = absurd some
 config_some [] None None some = absurd some
 config_some (settings ∷ config) None None some = elim (cases_Bool (length (settings ∷ config) == 0)) [ inl t ↦ (let e = eqb-true (length (settings ∷ config)) 0 t in absurd (omega (arith, e))) | inr f ↦ f ]
+
+-- before the first event nothing is in the list, whatever configuration is left
+pub fresh_list : (config rest : List CatalogSettings) (h : Option Held) (last : Option Core) → HasConfig (state_in config h last) → list_in (state_in rest h last) ≡ []
+fresh_list config rest (Some x) last some = absurd some
+fresh_list config rest None (Some c) some = absurd some
+fresh_list config rest None None some = refl
 
 pub finish_running : (state : State) (c : Core) (number : ℕ) → state ≡ running c → replay_finish state number ≡ record { text = []; state = state; ending = Done }
 unfolding replay_finish
@@ -211,10 +229,6 @@ finish_none state (settings ∷ config) number is none = let e = eqb-true (lengt
 pub said_done : (a : Shown) (said : Said State End) → said ≡ record { text = []; state = a.state; ending = Done } → Says said Done a.state a.written a.written
 said_done a said is = rw is (refl, refl, gains_none a.written)
 
-pub run_wanting : (a : Shown) (turn : Turn State End) (number : ℕ) → HasRun turn number a (Err stops.OutOfMemory) a
-unfolding HasRun
-run_wanting a turn number = turned_wanting a a turn refl refl
-
 -- ---- the end
 same_state : (config : List CatalogSettings) (last : Option Core) → state_in config None last ≡ state_in config None last
 same_state config last = refl
@@ -224,14 +238,14 @@ pub ended_kept : (config : List CatalogSettings) (last : Option Core) (before af
     → HasEnded text (shown config None last (Some before) (Some n) over) r (shown config None last (Some after) (Some m) true)
 unfolding HasEnded
 ended_kept config last before after n m over text (Ok ending) d c = (d.0, (same_state config last, (d.1, c.kept)))
-ended_kept config last before after n m over text (Err error) d c = (d, (c.later, λ is. c.failed (cc is)))
+ended_kept config last before after n m over text (Err error) d c = (d, (c.later, (λ is. c.failed (cc is), same_state config last)))
 
 pub ended_closed : (config : List CatalogSettings) (h : Held) (last : Option Core) (after : Option Octets) (m : ℕ) (over : Bool) (text : Octets) (r : Result End TurnError) (told : Option (Option Octets)) (count : Option ℕ)
     → last ≡ Some h.core → MatchResult r (λ ending. (ending ≡ BadInput) × Gains text h.written after) (λ e. GainsPrefix text h.written after) → HasCauseOf h.faults m r stops.Write
     → (first : Option Core) → HasEnded text (shown config (Some h) first told count over) r (shown config None last (Some after) (Some m) true)
 unfolding HasEnded
 ended_closed config h last after m over text (Ok ending) told count is d cause first = rw is (d.0, (refl, (d.1, cause.kept)))
-ended_closed config h last after m over text (Err error) told count is d cause first = (d, (cause.later, λ e. cause.failed (cc e)))
+ended_closed config h last after m over text (Err error) told count is d cause first = rw is (d, (cause.later, (λ e. cause.failed (cc e), refl)))
 
 pub end_so : (config : List CatalogSettings) (h : Option Held) (last after_last : Option Core) (told : Option (Option Octets)) (count : Option ℕ) (over : Bool) (text : Octets) (r : Result End TurnError) (before after : Option Octets) (n m : ℕ)
     (publisher : Book) (p : Published) (v : Viewed) → (h ≡ None → (told ≡ Some before) × ((count ≡ Some n) × (after_last ≡ last))) → IfSome h (λ x. IsClosed publisher x before n p v after_last)

@@ -10,3 +10,4 @@ pub mod ReplayLemmas
 pub mod StepLemmas
 pub mod TakingLemmas
 pub mod RehearseLemmas
+pub mod LeadLemmas

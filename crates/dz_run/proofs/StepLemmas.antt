@@ -4,7 +4,7 @@ use Rattle.std.specs.Prelude.{codes}
 use Rattle.std.proofs.lemmas.List.{append-nil, take-append-le}
 use Rattle.std.proofs.Math.Seq.{take-append-add}
 use Rattle.dz_io.specs.Device.{Gains, GainsPrefix}
-use Rattle.dz_script.specs.Script.{Turn, goes_on, turn_text}
+use Rattle.dz_script.specs.Script.{Turn, goes_on, turn_text, turn_state}
 use Rattle.dz_io.specs.declared.peer.Peer.{Peer}
 use Rattle.dz_script.specs.declared.script.TurnError.{TurnError}
 use Rattle.dz_script.specs.declared.script.TurnError.TheVariants as stops
@@ -22,19 +22,22 @@ use Rattle.dz_desk.specs.Seen.{Page}
 use Rattle.dz_fleet.specs.declared.due.Due.{Due}
 use Rattle.dz_fleet.specs.declared.due.Due.TheVariants as due
 use Rattle.dz_fleet.specs.Quiet.{QuietOf}
-use Rattle.dz_fleet.specs.Core.{Core, IsOffered, others, failed_core, failure_of, ended_of, heard_of, after_notify}
+use Rattle.dz_fleet.specs.Core.{Core, others, failed_core, failure_of, ended_of, heard_of, after_notify}
+use Rattle.dz_fleet.specs.Answers.{IsDue, IsOffered}
 use Rattle.dz_fleet.specs.Sound.{IsFlying}
 use Rattle.dz_provision.specs.Held.{Held, Logs, Breaks, Stays, IsHandedOut, IsSettled, IsFailed, IsHeard, IsSaid}
 use Rattle.dz_provision.specs.declared.provisioner.LogFault.{LogFault}
 use Rattle.dz_provision.specs.declared.provisioner.Unmade.{Unmade}
 use Rattle.dz_provision.specs.declared.provisioner.Unmade.TheVariants as unmades
 use Rattle.dz_run.specs.Flight.{job_in}
-use Rattle.dz_run.specs.Replaying.{State, running, bad_line, job_turn, take_turn, fail_turn, notify_turn, reply_text}
+use Rattle.dz_run.specs.Replaying.{State, running, IsListBefore, bad_line, job_turn, take_turn, fail_turn, notify_turn, reply_text}
 use Rattle.dz_run.specs.Taken.{Goes, Stops, IsTaken, IsMade, by_saying, by_failing, by_settling}
 use Rattle.dz_run.specs.declared.answering.End.{End}
 use Rattle.dz_run.specs.declared.events.Took.{Took}
 use Rattle.dz_run.specs.declared.events.Took.TheVariants as took
 use Rattle.dz_run.proofs.CoreLemmas.{failed_flight, offered_flight, taken_turn}
+use Rattle.dz_desk.proofs.PrefixLemmas.{prefix_self}
+use Rattle.dz_run.proofs.LeadLemmas.{list_same, by_list, due_core_list, failed_list, job_leads, take_leads}
 
 -- ---- octets that were written
 pub gains_none : (a : Option Octets) → Gains [] a a
@@ -66,14 +69,15 @@ module _ (h k : Held) where
   goes : (text : Octets) (next : Core) → Logs h next text k → Goes (goes_on text (running next)) h k
   goes text next w = record { does = (text, ap (λ (c : Core). goes_on text (running c)) (sym w.core), w.written); faults = w.faults; failed = w.failed }
 
-  stops_writing : (turn : Turn State End) (next : Core) (lines : Octets) → Breaks h next lines k → GainsPrefix (turn_text turn) h.written k.written → Stops turn stops.Write h k
-  stops_writing turn next lines w part = record { part = part; later = w.later; cause = λ is. w.faults }
+  stops_writing : (turn : Turn State End) (next : Core) (lines : Octets) → Breaks h next lines k → GainsPrefix (turn_text turn) h.written k.written → IsListBefore (running k.core) (turn_state turn) → Stops turn stops.Write h k
+  stops_writing turn next lines w part before = record { part = part; later = w.later; cause = λ is. w.faults; list = before }
 
-  stops_starved : (turn : Turn State End) → k.written ≡ h.written → k.faults ≡ h.faults → Stops turn stops.OutOfMemory h k
-  stops_starved turn text count = record {
+  stops_starved : (turn : Turn State End) → k.written ≡ h.written → k.faults ≡ h.faults → IsListBefore (running k.core) (turn_state turn) → Stops turn stops.OutOfMemory h k
+  stops_starved turn text count before = record {
     part = rw text (prefix_none (turn_text turn) h.written);
     later = omega (arith, count);
     cause = λ is. absurd (cc is);
+    list = before;
   }
 
   unchanged : {A : Type 0} → h.failed ≡ false → Stays h k → A
@@ -83,7 +87,7 @@ module _ (h k : Held) where
   unfolding IsSaid IsTaken
   said_taken line number (Ok done) before w = goes line h.core w
   said_taken line number (Err fault) before (inl stays) = unchanged before stays
-  said_taken line number (Err fault) before (inr w) = stops_writing (goes_on line (running h.core)) h.core line w w.written
+  said_taken line number (Err fault) before (inr w) = stops_writing (goes_on line (running h.core)) h.core line w w.written (list_same k.core h.core w.core)
 
   pub said_core : (line : Octets) (r : Result (Unit {0}) LogFault) → IsSaid h line r k → k.core ≡ h.core
   unfolding IsSaid
@@ -112,7 +116,7 @@ module _ (h k : Held) where
   unheard_taken peer request zone fault number before (inl stays) = unchanged before stays
   unheard_taken peer request zone fault number before (inr w) =
       let how = heard_of h.core peer zone in
-      stops_writing (notify_turn h.core peer request zone) (after_notify h.core zone how) (notify_line zone how) w (prefix_first (notify_line zone how) (reply_text (notify_reply_of request how)) h.written k.written w.written)
+      stops_writing (notify_turn h.core peer request zone) (after_notify h.core zone how) (notify_line zone how) w (prefix_first (notify_line zone how) (reply_text (notify_reply_of request how)) h.written k.written w.written) (list_same k.core _ w.core)
 
   -- ---- a job fails
   pub failed_made : (job : JobOf) (now : ℕ) (r : Result (Failure × Page) Unmade) → IsFlying h.core job → IsFailed h job now r k → IsMade r
@@ -139,7 +143,7 @@ module _ (h k : Held) where
       rw (fail_turn_is number now ticket job there, ← w.1.0) (goes (failure_line job.flight.zone r.0) (failed_core h.core job now) w.1.1)
   fail_taken number now ticket job (Err unmades.LogFault) before there fly (inl stays) = unchanged before stays
   fail_taken number now ticket job (Err unmades.LogFault) before there fly (inr w) =
-      rw (fail_turn_is number now ticket job there) (stops_writing _ (failed_core h.core job now) (failure_line job.flight.zone (failure_of (ended_of h.core job))) w.1 w.1.written)
+      rw (fail_turn_is number now ticket job there) (stops_writing _ (failed_core h.core job now) (failure_line job.flight.zone (failure_of (ended_of h.core job))) w.1 w.1.written (list_same k.core _ w.1.core))
   fail_taken number now ticket job (Err (unmades.NotInFlight absent)) before there fly w = absurd (w.none fly)
 
   -- ---- a job ends with octets
@@ -168,13 +172,22 @@ module _ (h k : Held) where
   stopped_so : (number now ticket : ℕ) (octets read : Octets) (job : JobOf) (verdict : Verdict) → job_in h.core.flight ticket ≡ Some job → IsReadOf (transfer_for job) octets read → IsOffered h.core job read now verdict k.core → verdict ≢ OutOfMemory
       → Breaks h k.core (verdict_lines job.flight.zone verdict) k → Stops (take_turn h.core number now octets (job_in h.core.flight ticket)) stops.Write h k
   stopped_so number now ticket octets read job verdict there is offered room w =
-      rw (take_turn_is number now ticket octets read job verdict there is offered room) (stops_writing (goes_on (verdict_lines job.flight.zone verdict) (running k.core)) k.core (verdict_lines job.flight.zone verdict) w w.written)
+      rw (take_turn_is number now ticket octets read job verdict there is offered room) (stops_writing (goes_on (verdict_lines job.flight.zone verdict) (running k.core)) k.core (verdict_lines job.flight.zone verdict) w w.written (prefix_self k.core.list))
 
   same_text : (a b : Option Octets) → Gains [] a b → b ≡ a
   same_text a b g = g ∙ sym (gains_none a)
 
-  starved_so : (turn : Turn State End) → Logs h k.core [] k → Stops turn stops.OutOfMemory h k
-  starved_so turn w = stops_starved turn (same_text h.written k.written w.written) w.faults
+  starved_so : (turn : Turn State End) → Logs h k.core [] k → IsListBefore (running k.core) (turn_state turn) → Stops turn stops.OutOfMemory h k
+  starved_so turn w before = stops_starved turn (same_text h.written k.written w.written) w.faults before
+
+  -- where memory runs out for a job's octets, the list stays
+  take_starved : (number now : ℕ) (octets : Octets) (job : JobOf) (found : Option JobOf) → k.core ≡ failed_core h.core job now → IsListBefore (running k.core) (turn_state (take_turn h.core number now octets found))
+  take_starved number now octets job found is =
+      by_list h.core k.core (turn_state (take_turn h.core number now octets found)) (failed_list h.core k.core job now is) (take_leads h.core number now octets found)
+
+  -- a job that is asked for leaves the list
+  job_stops : (now : ℕ) (answer : Due) → IsDue h.core now answer k.core → IsListBefore (running k.core) (turn_state (job_turn h.core now))
+  job_stops now answer is = by_list h.core k.core (turn_state (job_turn h.core now)) (due_core_list h.core k.core now answer is) (job_leads h.core now)
 
   pub take_taken : (number now ticket : ℕ) (octets read : Octets) (job : JobOf) (r : Result (Verdict × Page) Unmade) → h.failed ≡ false → job_in h.core.flight ticket ≡ Some job → IsReadOf (transfer_for job) octets read → IsFlying h.core job
       → IsSettled h job read now r k → IsTaken (take_turn h.core number now octets (job_in h.core.flight ticket)) number h (by_settling r) k
@@ -184,14 +197,14 @@ module _ (h k : Held) where
   take_taken number now ticket octets read job (Ok (Refused f, told)) before there is fly w = took_so number now ticket octets read job (Refused f) there is w.1.0 (λ e. cc e) w.1.1
   take_taken number now ticket octets read job (Ok (PolicyRefused d, told)) before there is fly w = took_so number now ticket octets read job (PolicyRefused d) there is w.1.0 (λ e. cc e) w.1.1
   take_taken number now ticket octets read job (Ok (Stale p, told)) before there is fly w = took_so number now ticket octets read job (Stale p) there is w.1.0 (λ e. cc e) w.1.1
-  take_taken number now ticket octets read job (Ok (OutOfMemory, told)) before there is fly w = starved_so _ w.1.1
+  take_taken number now ticket octets read job (Ok (OutOfMemory, told)) before there is fly w = starved_so _ w.1.1 (take_starved number now octets job (job_in h.core.flight ticket) w.1.0)
   take_taken number now ticket octets read job (Err unmades.LogFault) before there is fly (inl stays) = unchanged before stays
   take_taken number now ticket octets read job (Err unmades.LogFault) before there is fly (inr (Published p s a, own, w)) = stopped_so number now ticket octets read job (Published p s a) there is w.0 (λ e. cc e) w.1
   take_taken number now ticket octets read job (Err unmades.LogFault) before there is fly (inr (Confirmed p s, own, w)) = stopped_so number now ticket octets read job (Confirmed p s) there is w.0 (λ e. cc e) w.1
   take_taken number now ticket octets read job (Err unmades.LogFault) before there is fly (inr (Refused f, own, w)) = stopped_so number now ticket octets read job (Refused f) there is w.0 (λ e. cc e) w.1
   take_taken number now ticket octets read job (Err unmades.LogFault) before there is fly (inr (PolicyRefused d, own, w)) = stopped_so number now ticket octets read job (PolicyRefused d) there is w.0 (λ e. cc e) w.1
   take_taken number now ticket octets read job (Err unmades.LogFault) before there is fly (inr (Stale p, own, w)) = stopped_so number now ticket octets read job (Stale p) there is w.0 (λ e. cc e) w.1
-  take_taken number now ticket octets read job (Err unmades.LogFault) before there is fly (inr (OutOfMemory, own, w)) = stops_writing _ k.core [] w.1 (prefix_nothing _ h.written k.written w.1.written)
+  take_taken number now ticket octets read job (Err unmades.LogFault) before there is fly (inr (OutOfMemory, own, w)) = stops_writing _ k.core [] w.1 (prefix_nothing _ h.written k.written w.1.written) (take_starved number now octets job (job_in h.core.flight ticket) w.0)
   take_taken number now ticket octets read job (Err (unmades.NotInFlight absent)) before there is fly w = absurd (w.none fly)
 
   -- ---- a job is asked for
@@ -203,10 +216,10 @@ module _ (h k : Held) where
   pub unhanded_taken : (now : ℕ) (fault : LogFault) (number : ℕ) → h.failed ≡ false → IsHandedOut h now (Err fault) k → IsTaken (job_turn h.core now) number h (Err stops.Write) k
   unfolding IsHandedOut IsTaken
   unhanded_taken now fault number before (inl stays) = unchanged before stays
-  unhanded_taken now fault number before (inr (due.Job job, is, w)) = stops_writing (job_turn h.core now) k.core (job_line job) w (rw (← is.0) w.written)
-  unhanded_taken now fault number before (inr (due.Idle quiet, is, w)) = stops_writing (job_turn h.core now) k.core [] w (prefix_nothing _ h.written k.written w.written)
-  unhanded_taken now fault number before (inr (due.Full quiet, is, w)) = stops_writing (job_turn h.core now) k.core [] w (prefix_nothing _ h.written k.written w.written)
-  unhanded_taken now fault number before (inr (due.OutOfMemory, is, w)) = stops_writing (job_turn h.core now) k.core [] w (prefix_nothing _ h.written k.written w.written)
+  unhanded_taken now fault number before (inr (due.Job job, is, w)) = stops_writing (job_turn h.core now) k.core (job_line job) w (rw (← is.0) w.written) (job_stops now (due.Job job) is)
+  unhanded_taken now fault number before (inr (due.Idle quiet, is, w)) = stops_writing (job_turn h.core now) k.core [] w (prefix_nothing _ h.written k.written w.written) (job_stops now (due.Idle quiet) is)
+  unhanded_taken now fault number before (inr (due.Full quiet, is, w)) = stops_writing (job_turn h.core now) k.core [] w (prefix_nothing _ h.written k.written w.written) (job_stops now (due.Full quiet) is)
+  unhanded_taken now fault number before (inr (due.OutOfMemory, is, w)) = stops_writing (job_turn h.core now) k.core [] w (prefix_nothing _ h.written k.written w.written) (job_stops now due.OutOfMemory is)
 
   pub handed_taken : (now : ℕ) (job : JobOf) (number : ℕ) → IsHandedOut h now (Ok (due.Job job)) k → IsTaken (job_turn h.core now) number h (Ok took.Done) k
   unfolding IsHandedOut IsTaken
@@ -220,7 +233,7 @@ module _ (h k : Held) where
 
   pub starving_taken : (now number : ℕ) → IsHandedOut h now (Ok due.OutOfMemory) k → IsTaken (job_turn h.core now) number h (Err stops.OutOfMemory) k
   unfolding IsHandedOut IsTaken
-  starving_taken now number w = starved_so (job_turn h.core now) w.1
+  starving_taken now number w = starved_so (job_turn h.core now) w.1 (job_stops now due.OutOfMemory w.0)
 
   pub idle_flight : (now : ℕ) (quiet : QuietOf) → IsHandedOut h now (Ok (due.Idle quiet)) k → k.core.flight ≡ h.core.flight
   unfolding IsHandedOut
@@ -256,6 +269,7 @@ then_taken h k l turn first line number (Err error) is written faults w = record
   part = rw is (prefix_second first line h.written k.written l.written written w.part);
   later = omega (arith, w.later, faults);
   cause = λ e. rw (← faults) (w.cause e);
+  list = rw is w.list;
 }
 
 pub idle_then : (h k l : Held) (now number : ℕ) (quiet : QuietOf) (r : Result Took TurnError) → IsHandedOut h now (Ok (due.Idle quiet)) k → IsTaken (goes_on (codes "job idle\n") (running k.core)) number k r l → IsTaken (job_turn h.core now) number h r l
@@ -278,9 +292,9 @@ heard_then h k l peer request zone how told number r w taken =
     then_taken h k l (notify_turn h.core peer request zone) (notify_line zone how) (reply_text (notify_reply_of request how)) number r turn w.1.written w.1.faults taken
 
 -- ---- memory runs out before anything was done, and a bad line
-pub wanting : (h : Held) (turn : Turn State End) (number : ℕ) → IsTaken turn number h (Err stops.OutOfMemory) h
+pub wanting : (h : Held) (turn : Turn State End) (number : ℕ) → IsListBefore (running h.core) (turn_state turn) → IsTaken turn number h (Err stops.OutOfMemory) h
 unfolding IsTaken
-wanting h turn number = stops_starved h h turn refl refl
+wanting h turn number before = stops_starved h h turn refl refl before
 
 pub bad_taken : (h : Held) (turn : Turn State End) (number : ℕ) → turn ≡ bad_line (running h.core) number → IsTaken turn number h (Ok took.Bad) h
 unfolding IsTaken

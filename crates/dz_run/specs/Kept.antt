@@ -2,16 +2,15 @@
 use Rattle.std.specs.Prelude.{⊤, ◌≡◌, ◌≤◌, ℕ, Bool, false, List, [], ◌∷◌, Option, Some, None, Result, Ok, Err}
 use Rattle.dz_io.specs.Counts.{HasRisen}
 use Rattle.dz_io.specs.Device.{Gains, GainsPrefix}
-use Rattle.dz_script.specs.Script.{Turn, turn_text, DoesTurn}
+use Rattle.dz_script.specs.Script.{Turn, turn_text, turn_state, DoesTurn}
 use Rattle.dz_script.specs.declared.script.TurnError.{TurnError}
 use Rattle.dz_script.specs.declared.script.TurnError.TheVariants as stops
 use Rattle.dz_name.specs.Words.{Octets}
 use Rattle.dz_settings.specs.declared.config.CatalogSettings.{CatalogSettings}
-use Rattle.dz_history.specs.declared.entry.Entry.{Entry}
 use Rattle.dz_fleet.specs.Core.{Core, opened_core}
 use Rattle.dz_desk.specs.Seen.{Book, Published, Viewed}
 use Rattle.dz_provision.specs.Held.{Held}
-use Rattle.dz_run.specs.Replaying.{State, opening, running, bad_line}
+use Rattle.dz_run.specs.Replaying.{State, opening, running, list_in, IsListBefore, bad_line}
 use Rattle.dz_run.specs.Taken.{IsAtRest, CanStart}
 use Rattle.dz_run.specs.declared.answering.End.{End}
 use Rattle.dz_run.specs.declared.answering.End.TheVariants.{BadInput}
@@ -47,11 +46,6 @@ faults_in None None = 0
 abbrev pub shown : List CatalogSettings → Option Held → Option Core → Option (Option Octets) → Option ℕ → Bool → Shown
 shown config h last told count over = record { state = state_in config h last; written = written_in h told; faults = faults_in h count; is_over = over }
 
--- the list of taken transfers of a state
-abbrev pub list_in : State → List Entry
-list_in (opening config) = []
-list_in (running c) = c.list
-
 -- a publisher of this list, with nothing staged, and a reading of it
 pub record IsResting (publisher : Book) (state : State) (end : Published) (view : Viewed) : Type 0 where
   pub list : end.list ≡ list_in state
@@ -66,15 +60,16 @@ IsKept publisher None last (Some end) (Some view) (Some told) (Some count) over 
     IsResting publisher (state_in [] None last) end view × (over ≡ false → (last ≡ None) × CanStart publisher told count end view)
 IsKept publisher h last end view told count over = ⊥
 
--- what a turn did: it was done, or stopped after a prefix of its text
+-- what a turn did: it was done, or stopped after a prefix of its text, with a list that begins that of its state
 unfoldable pub HasTurned : Turn State End → Shown → Result (Option End) TurnError → Shown → Type 0
 HasTurned turn a (Ok ended) b = DoesTurn turn ended b.state a.written b.written × ((b.faults ≡ a.faults) × (ended ≡ None → b.is_over ≡ false))
-HasTurned turn a (Err error) b = GainsPrefix (turn_text turn) a.written b.written × ((a.faults ≤ b.faults) × (error ≡ stops.Write → HasRisen a.faults b.faults))
+HasTurned turn a (Err error) b =
+    GainsPrefix (turn_text turn) a.written b.written × ((a.faults ≤ b.faults) × ((error ≡ stops.Write → HasRisen a.faults b.faults) × IsListBefore b.state (turn_state turn)))
 
--- it ended with this text, in the same state
+-- it ended with this text, in the same state; or it stopped there after a prefix of the text
 unfoldable pub HasEnded : Octets → Shown → Result End TurnError → Shown → Type 0
 HasEnded text a (Ok ending) b = (ending ≡ BadInput) × ((b.state ≡ a.state) × (Gains text a.written b.written × (b.faults ≡ a.faults)))
-HasEnded text a (Err error) b = GainsPrefix text a.written b.written × ((a.faults ≤ b.faults) × (error ≡ stops.Write → HasRisen a.faults b.faults))
+HasEnded text a (Err error) b = GainsPrefix text a.written b.written × ((a.faults ≤ b.faults) × ((error ≡ stops.Write → HasRisen a.faults b.faults) × (b.state ≡ a.state)))
 
 -- the first event began with the configuration
 pub record HasBegun (a b : Shown) : Type 0 where

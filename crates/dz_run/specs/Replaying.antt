@@ -1,6 +1,7 @@
 -- Meaning: what `replay` writes: a configuration is read, and then each event at its moment makes a step of the core.
 use Rattle.std.specs.Prelude.{ℕ, zero, suc, Bool, true, false, List, [], ◌∷◌, ◌++◌, codes, Option, Some, None, option_map, if◌then◌else◌}
 use Rattle.std.specs.List.{position}
+use mathlib.Core.List.{IsPrefix}
 use Rattle.hex.specs.Hex.{encode_lower}
 use Rattle.dz_script.specs.Script.{Turn, goes_on, ends, Said, Rules}
 use Rattle.dz_io.specs.declared.peer.Peer.{Peer}
@@ -19,6 +20,7 @@ use Rattle.dz_script.specs.declared.line.Event.{Event}
 use Rattle.dz_script.specs.declared.line.Event.TheVariants.{Job, Take, Fail, Ask}
 use Rattle.dz_script.specs.declared.line.Line.{Line}
 use Rattle.dz_script.specs.declared.line.Line.TheVariants as lines
+use Rattle.dz_history.specs.declared.entry.Entry.{Entry}
 use Rattle.dz_job.specs.Job.{JobOf}
 use Rattle.dz_fleet.specs.Core.{Core, state_of, opened_core, due_of, after_due, verdict_of, settled, ended_of, failure_of, failed_core, heard_of, after_notify}
 use Rattle.dz_fleet.specs.declared.due.Due.{Due}
@@ -33,6 +35,15 @@ use Rattle.dz_run.specs.declared.answering.End.TheVariants.{Done, BadInput}
 pub data State : Type 0 where
   opening : List CatalogSettings → State
   running : Core → State
+
+-- the list of taken transfers of a state
+abbrev pub list_in : State → List Entry
+list_in (opening config) = []
+list_in (running c) = c.list
+
+-- the list of one state begins that of another
+abbrev pub IsListBefore : State → State → Type 0
+IsListBefore a b = IsPrefix (list_in a) (list_in b)
 
 -- no event came yet
 abbrev pub is_opening : State → Bool

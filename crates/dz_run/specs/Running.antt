@@ -1,16 +1,16 @@
--- Meaning: how the program ends.
+-- Answer: how the program ends.
 use Rattle.std.specs.Prelude.{◌≡◌, ◌≢◌, ◌≤◌, ◌⊎◌, ⊤, ℕ, List, [], length, codes, Option, None, Result, Ok, Err}
 use Rattle.dz_io.specs.Counts.{HasRisen}
 use Rattle.dz_io.specs.Device.{Gains, GainsPrefix}
 use Rattle.std.specs.List.{All}
-use Rattle.dz_script.specs.Run.{IsRun, said_of}
+use Rattle.dz_script.specs.Run.{said_of}
+use Rattle.dz_script.specs.Answers.{IsRun}
 use Rattle.dz_history.specs.declared.entry.Entry.{Entry}
 use Rattle.dz_desk.specs.Seen.{Book, Published, Viewed, IsAtRest}
-use Rattle.dz_run.specs.Kept.{list_in}
 use Rattle.dz_script.specs.declared.run.ScriptError.{ScriptError}
 use Rattle.dz_script.specs.declared.run.ScriptError.TheVariants as errors
 use Rattle.dz_run.specs.Answering.{State, answer_rules}
-use Rattle.dz_run.specs.Replaying.{opening, replay_rules}
+use Rattle.dz_run.specs.Replaying.{opening, list_in, replay_rules}
 use Rattle.dz_run.specs.Replaying as replaying
 use Rattle.dz_run.specs.declared.answering.End.{End}
 use Rattle.dz_run.specs.declared.answering.End.TheVariants as endings

@@ -1,8 +1,8 @@
--- Meaning: how an event was taken, and the state before and after it.
+-- Answer: how an event was taken, and the state before and after it.
 use Rattle.std.specs.Prelude.{⊤, ◌≡◌, ◌≤◌, ℕ, false, [], Option, None, Result, Ok, Err, IfSome}
 use Rattle.dz_io.specs.Counts.{HasRisen}
 use Rattle.dz_io.specs.Device.{GainsPrefix}
-use Rattle.dz_script.specs.Script.{Turn, turn_text, DoesTurn}
+use Rattle.dz_script.specs.Script.{Turn, turn_text, turn_state, DoesTurn}
 use Rattle.dz_script.specs.declared.script.TurnError.{TurnError}
 use Rattle.dz_script.specs.declared.script.TurnError.TheVariants as stops
 use Rattle.dz_name.specs.Words.{Octets}
@@ -15,7 +15,7 @@ use Rattle.dz_provision.specs.declared.provisioner.LogFault.{LogFault}
 use Rattle.dz_provision.specs.declared.provisioner.Unmade.{Unmade}
 use Rattle.dz_provision.specs.declared.provisioner.Unmade.TheVariants as unmades
 use Rattle.dz_provision.specs.Held.{Held}
-use Rattle.dz_run.specs.Replaying.{State, running, bad_line}
+use Rattle.dz_run.specs.Replaying.{State, running, IsListBefore, bad_line}
 use Rattle.dz_run.specs.declared.answering.End.{End}
 use Rattle.dz_run.specs.declared.events.Took.{Took}
 use Rattle.dz_run.specs.declared.events.Took.TheVariants as took
@@ -35,11 +35,12 @@ pub record Goes (turn : Turn State End) (h k : Held) : Type 0 where
   pub faults : k.faults ≡ h.faults
   pub failed : k.failed ≡ false
 
--- what a turn did that stopped: a prefix of its text was written
+-- what a turn did that stopped: a prefix of its text was written, and the list begins that of its state
 pub record Stops (turn : Turn State End) (error : TurnError) (h k : Held) : Type 0 where
   pub part : GainsPrefix (turn_text turn) h.written k.written
   pub later : h.faults ≤ k.faults
   pub cause : error ≡ stops.Write → HasRisen h.faults k.faults
+  pub list : IsListBefore (running k.core) (turn_state turn)
 
 -- its text was written and the core goes on; or its line is bad, and nothing changes; or it stopped in its text
 unfoldable pub IsTaken : Turn State End → ℕ → Held → Result Took TurnError → Held → Type 0

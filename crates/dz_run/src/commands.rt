@@ -1,6 +1,7 @@
 //! The program's commands.
 
 ghost use Rattle.std.specs.Prelude.{◌≡◌, ◌≢◌, ◌≤◌, ℕ, [], is_some, true, false, None, Some, Ok, Err, IfSome};
+ghost use mathlib.Core.List.{IsPrefix};
 ghost use Rattle.dz_io.specs.Counts.{HasRisen};
 ghost use Rattle.dz_name.specs.Words.{Octets};
 ghost use Rattle.dz_run.specs.Running.{status_of, status_after, status_of_produce, Answers, Replays, Produces, Says, Decides, IsWithoutFault, HasEnded, HasCauseIn, IsNewDesk, IsBack, list_of_script};
@@ -47,7 +48,7 @@ pub struct Ended<K> {
 ///
 /// `replay` reads lines: first the configuration, and then events at their moments. It writes what each job asks for
 /// and what comes of it, and the reply to each request at the whole list so far. A bad line ends it. What is taken is
-/// published at the desk.
+/// published at the desk; whatever the status, that list is a beginning of the one that the whole input gives.
 ///
 /// `rehearse N` runs `replay` on a generated script with N zones, and writes a summary of what that writes. What is
 /// taken is published at the desk.
@@ -82,6 +83,9 @@ pub fn run<R: Threads + Wait + Sync, S: Source, K: Sink + Send, P: Ports, C: Clo
     ensures published { command_of words.now ≡ Ok Command.Replay →
         (octets : Octets) → S.left input.old ≡ Some octets → result.status ≡ Status.Done →
         result.desk.publisher.list ≡ list_of_script octets }
+    ensures begins { command_of words.now ≡ Ok Command.Replay →
+        (octets : Octets) → S.left input.old ≡ Some octets →
+        IsPrefix result.desk.publisher.list (list_of_script octets) }
     ensures ends_produce { command_of words.now ≡ Ok Command.Produce →
         (octets : Octets) → S.left input.old ≡ Some octets →
         Produces octets result.status (S.left input.new) (K.held output) (K.held result.output) }
@@ -90,6 +94,8 @@ pub fn run<R: Threads + Wait + Sync, S: Source, K: Sink + Send, P: Ports, C: Clo
     ensures rehearsed { (number : ℕ) → command_of words.now ≡ Ok (Command.Rehearse number) →
         result.status ≢ Status.NoMemory
         → result.desk.publisher.list ≡ list_of_script (script number) }
+    ensures begins_rehearsed { (number : ℕ) → command_of words.now ≡ Ok (Command.Rehearse number) →
+        IsPrefix result.desk.publisher.list (list_of_script (script number)) }
     ensures serves { command_of words.now ≡ Ok Command.Serve
         → (how : ServeEnd) × (result.status ≡ status_after how)
         × IsServe false how ((k : K) × HasRisen 0 (K.faults k)) (C.may_give clock.now)
@@ -160,6 +166,9 @@ pub fn run_kept<
     ensures published { command_of words.now ≡ Ok Command.Replay →
         (octets : Octets) → S.left input.old ≡ Some octets → result.status ≡ Status.Done →
         result.desk.publisher.list ≡ list_of_script octets }
+    ensures begins { command_of words.now ≡ Ok Command.Replay →
+        (octets : Octets) → S.left input.old ≡ Some octets →
+        IsPrefix result.desk.publisher.list (list_of_script octets) }
     ensures ends_produce { command_of words.now ≡ Ok Command.Produce →
         (octets : Octets) → S.left input.old ≡ Some octets →
         Produces octets result.status (S.left input.new) (K.held output) (K.held result.output) }
@@ -168,6 +177,8 @@ pub fn run_kept<
     ensures rehearsed { (number : ℕ) → command_of words.now ≡ Ok (Command.Rehearse number) →
         result.status ≢ Status.NoMemory
         → result.desk.publisher.list ≡ list_of_script (script number) }
+    ensures begins_rehearsed { (number : ℕ) → command_of words.now ≡ Ok (Command.Rehearse number) →
+        IsPrefix result.desk.publisher.list (list_of_script (script number)) }
     ensures serves { command_of words.now ≡ Ok Command.Serve
         → (how : ServeEnd) × (result.status ≡ status_after how)
         × IsServe true how ((k : K) × HasRisen 0 (K.faults k)) (C.may_give clock.now)
@@ -246,6 +257,9 @@ fn run_with<
     ensures published { command_of words.now ≡ Ok Command.Replay →
         (octets : Octets) → S.left input.old ≡ Some octets → result.status ≡ Status.Done →
         result.desk.publisher.list ≡ list_of_script octets }
+    ensures begins { command_of words.now ≡ Ok Command.Replay →
+        (octets : Octets) → S.left input.old ≡ Some octets →
+        IsPrefix result.desk.publisher.list (list_of_script octets) }
     ensures ends_produce { command_of words.now ≡ Ok Command.Produce →
         (octets : Octets) → S.left input.old ≡ Some octets →
         Produces octets result.status (S.left input.new) (K.held output) (K.held result.output) }
@@ -254,6 +268,8 @@ fn run_with<
     ensures rehearsed { (number : ℕ) → command_of words.now ≡ Ok (Command.Rehearse number) →
         result.status ≢ Status.NoMemory
         → result.desk.publisher.list ≡ list_of_script (script number) }
+    ensures begins_rehearsed { (number : ℕ) → command_of words.now ≡ Ok (Command.Rehearse number) →
+        IsPrefix result.desk.publisher.list (list_of_script (script number)) }
     ensures serves { command_of words.now ≡ Ok Command.Serve
         → (how : ServeEnd) × (result.status ≡ status_after how)
         × IsServe (is_some disk.entry) how ((k : K) × HasRisen 0 (K.faults k)) (C.may_give clock.now)
@@ -423,6 +439,8 @@ pub fn run_replay<R: Wait, S: Source, K: Sink>(
     ensures published { (octets : Octets) → S.left input.old ≡ Some octets → HasEnded result.status
         →
         result.desk.publisher.list ≡ list_of_script octets }
+    ensures begins { (octets : Octets) → S.left input.old ≡ Some octets →
+        IsPrefix result.desk.publisher.list (list_of_script octets) }
     ensures back { IsBack desk.publisher.book result.desk.publisher result.desk.readings.items }
     ensures other { (result.status ≢ Status.Usage) × (result.status ≢ Status.PortFault) }
     ensures done { (octets : Octets) → S.left input.old ≡ Some octets →
@@ -529,6 +547,8 @@ pub fn replay<R: Wait, S: Source, K: Sink, J: Naming>(
     ensures published { (octets : Octets) → S.left input.old ≡ Some octets → HasEnded result.status
         →
         result.ends.publisher.list ≡ list_of_script octets }
+    ensures begins { (octets : Octets) → S.left input.old ≡ Some octets →
+        IsPrefix result.ends.publisher.list (list_of_script octets) }
     ensures back { (result.ends.publisher.staged ≡ None)
         × (result.ends.publisher.book ≡ J.publisher)
         × IsAtRest J.publisher result.ends.reading }

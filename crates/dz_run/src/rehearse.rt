@@ -1,5 +1,6 @@
 //! The command `rehearse`.
 ghost use Rattle.std.specs.Prelude.{◌≡◌, ◌≢◌, ◌≤◌, []};
+ghost use mathlib.Core.List.{IsPrefix};
 ghost use Rattle.dz_gen.specs.Script.{script};
 ghost use Rattle.dz_run.specs.Rehearsing.{SumsUp, Rehearses};
 ghost use Rattle.dz_run.specs.Replaying.{opening, replay_rules};
@@ -31,6 +32,7 @@ pub(crate) fn rehearse<R: Wait, K: Sink>(
         → (said_of replay_rules (opening []) (script number)).ending ≡ End.Done }
     ensures published { result.status ≢ Status.NoMemory
         → result.desk.publisher.list ≡ list_of_script (script number) }
+    ensures begins { IsPrefix result.desk.publisher.list (list_of_script (script number)) }
     ensures back { IsBack desk.publisher.book result.desk.publisher result.desk.readings.items }
     ensures other { (result.status ≢ Status.Usage) × (result.status ≢ Status.PortFault) }
     ensures read { result.status ≢ Status.ReadFault }

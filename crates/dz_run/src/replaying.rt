@@ -4,7 +4,7 @@ ghost use Rattle.std.specs.Prelude.{◌≡◌, ◌⊎◌, ◌<◌, ◌^◌, ◌�
 ghost use Rattle.dz_fleet.specs.Core.{Core};
 ghost use Rattle.dz_run.specs.Answering.{bad};
 ghost use Rattle.dz_run.specs.Phase.{IsTimed};
-ghost use Rattle.dz_run.specs.Replaying.{State, opening, running, replay_rules, replay_turn, catalog_line, group_line, event_line, event_turn, line_turn, bad_line, left};
+ghost use Rattle.dz_run.specs.Replaying.{State, opening, running, list_in, IsListBefore, replay_rules, replay_turn, catalog_line, group_line, event_line, event_turn, line_turn, bad_line, left};
 ghost use Rattle.dz_run.specs.Kept.{IsResting, IsClosed, HasTurned, HasEnded, HasBegun, HasConfig, HasRun, IsRunning};
 ghost use Rattle.dz_run.specs.Taken.{CanStart};
 
@@ -242,6 +242,7 @@ impl<'a, R: Wait, K: Sink, J: Naming> Replaying<'a, R, K, J> {
         ensures ok { OnOk result (HasBegun self.old self.new) }
         ensures err { OnErr result
             ((self.new.written ≡ self.old.written) × (self.new.faults ≡ self.old.faults)) }
+        ensures none { OnErr result (list_in self.new.state ≡ []) }
     {
         let config = self.opening.take(alloc);
         match Running::start(self.rt, alloc, config, some_of(self.ends.take())) {
@@ -325,6 +326,8 @@ impl<'a, R: Wait, K: Sink, J: Naming> Script for Replaying<'a, R, K, J> {
     ghost Others = { Unit {0} };
 
     ghost beside = { λ _. tt };
+
+    ghost Before = { IsListBefore };
 
     ghost rules = { replay_rules };
 

@@ -2,7 +2,7 @@
 
 ghost use Rattle.std.specs.Prelude.{◌≡◌, Some, MatchResult};
 ghost use Rattle.dz_io.specs.Device.{Gains, GainsPrefix, HasCauseOf};
-ghost use Rattle.dz_script.specs.Run.{IsRun};
+ghost use Rattle.dz_script.specs.Answers.{IsRun};
 ghost use Rattle.dz_name.specs.Words.{Octets};
 ghost use Rattle.dz_run.specs.Answering.{State, answer_rules, bad};
 
@@ -71,6 +71,8 @@ impl<'a, K: Sink> Script for AnswerScript<'a, K> {
     ghost Others = { GName × GName };
 
     ghost beside = { λ s. (s.answering.ghost_name, s.output.ghost_name) };
+
+    ghost Before = { λ _ _. Unit {0} };
 
     ghost rules = { answer_rules };
 

@@ -6,3 +6,4 @@ pub mod LineLemmas
 pub mod SplitLemmas
 pub mod ScriptLemmas
 pub mod RunLemmas
+pub mod LeadLemmas

@@ -5,7 +5,8 @@ use Rattle.std.proofs.Math.Seq.{take-append-add, take-append_seam}
 use Rattle.dz_io.specs.Device.{Gives, Gains, GainsPrefix, IsAtEnd}
 use Rattle.dz_script.specs.Lines.{lines_of, content, ahead, HasNoNewline, IsClosedLine, TakesLine, TakesLast, TakesNone, TakesTooMuch, StopsWithin}
 use Rattle.dz_script.specs.Script.{Turn, goes_on, ends, Said, Rules, behind, turn_text, DoesTurn, Says, last_said}
-use Rattle.dz_script.specs.Run.{beginning, place_after, said_of, IsPrefix, GoesToTheEnd, IsEnded, IsRun, error_of, run_of}
+use Rattle.dz_script.specs.Run.{beginning, place_after, said_of, IsPrefix, GoesToTheEnd}
+use Rattle.dz_script.specs.Answers.{IsEnded, IsRun, error_of, run_of}
 use Rattle.dz_script.specs.declared.script.TurnError.{TurnError}
 use Rattle.dz_script.specs.declared.script.TurnError.TheVariants as turns
 use Rattle.dz_script.specs.declared.run.ScriptError.TheVariants as errors

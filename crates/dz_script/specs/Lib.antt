@@ -1,12 +1,13 @@
+pub mod Answers
 pub mod Event
 pub mod Examples
 pub mod Fields
 pub mod Hex
 pub mod Laws
 pub mod Line
-pub mod Settings
-pub mod inner
-pub mod Lines
 pub mod LineExamples
+pub mod Lines
 pub mod Run
 pub mod Script
+pub mod Settings
+pub mod inner

@@ -1,5 +1,5 @@
 -- Meaning: the lines of a script.
-use Rattle.std.specs.Prelude.{◌≡◌, ⊤, ℕ, ◌-◌, ◌^◌, ◌==◌, ◌||◌, Bool, nat_eq, List, [], ◌∷◌, length, codes, Option, Some, None, option_map, Result, Ok, Err, if◌then◌else◌}
+use Rattle.std.specs.Prelude.{ℕ, ◌-◌, ◌^◌, ◌==◌, ◌||◌, Bool, nat_eq, List, [], ◌∷◌, length, codes, Option, Some, None, option_map, if◌then◌else◌}
 use Rattle.std.specs.List.{starts_with}
 use Rattle.std.specs.Str.{bytes_eq}
 use Rattle.dz_name.specs.Decimal.{number_of}
@@ -10,8 +10,6 @@ use Rattle.dz_script.specs.Settings.{catalog_of, group_of}
 use Rattle.dz_script.specs.declared.line.Event.{Event}
 use Rattle.dz_script.specs.declared.line.Line.{Line}
 use Rattle.dz_script.specs.declared.line.Line.TheVariants as lines
-use Rattle.dz_script.specs.declared.line.LineError.{LineError}
-use Rattle.dz_script.specs.declared.line.LineError.TheVariants.{BadLine, OutOfMemory}
 
 -- an empty line, or one that begins with `#`
 abbrev pub is_skipped : Octets → Bool
@@ -41,9 +39,3 @@ line_in (word ∷ fields) =
 -- what a line says, without its newline; none of a line that has none of the forms
 unfoldable pub line_of : Octets → Option Line
 line_of line = if is_skipped line then Some lines.Skip else line_in (fields_of line)
-
--- the answer of a reader is what the line says
-abbrev pub Reads : Octets → Result Line LineError → Type 0
-Reads text (Ok line) = line_of text ≡ Some line
-Reads text (Err BadLine) = line_of text ≡ None
-Reads text (Err OutOfMemory) = ⊤

@@ -1,14 +1,9 @@
--- Meaning: the whole text that a script writes to an input and how it ends, and what a run of it leaves.
-use Rattle.std.specs.Prelude.{◌≡◌, ◌+◌, ℕ, List, [], ◌∷◌, ◌++◌, length, nat_lt, Option, Some, None, IsSome, Result, Ok, Err, if◌then◌else◌}
+-- Meaning: the whole text that a script writes to an input, and how it ends.
+use Rattle.std.specs.Prelude.{◌≡◌, ◌+◌, ℕ, List, [], ◌∷◌, ◌++◌, length, nat_lt, Option, Some, None, IsSome, if◌then◌else◌}
 use Rattle.std.specs.List.{AllByRecursion}
-use Rattle.dz_io.specs.Device.{Gains}
 use Rattle.dz_script.specs.Lines.{lines_of, octets_of, content, HasNoNewline, IsClosedLine}
-use Rattle.dz_script.specs.Script.{Turn, goes_on, ends, Said, Rules, behind, Says}
+use Rattle.dz_script.specs.Script.{Turn, goes_on, ends, Said, Rules, behind}
 use Rattle.dz_script.specs.declared.lines.TheConstants.{LIMIT}
-use Rattle.dz_script.specs.declared.script.TurnError.{TurnError}
-use Rattle.dz_script.specs.declared.script.TurnError.TheVariants as turns
-use Rattle.dz_script.specs.declared.run.ScriptError.{ScriptError}
-use Rattle.dz_script.specs.declared.run.ScriptError.TheVariants.{Read, Write, OutOfMemory}
 
 -- how far a script has come
 pub record Place (S : Type 0) : Type 0 where
@@ -74,32 +69,3 @@ pub record StopsIn {S E : Type 0} (rules : Rules S E) (start : S) (input unread 
   pub place_is : place_after rules (beginning start) whole ≡ Some place
   pub written_is : place.written ≡ written
   pub state_is : place.state ≡ state
-
--- a step that stops is a run that stops
-abbrev pub error_of : TurnError → ScriptError
-error_of turns.Write = Write
-error_of turns.OutOfMemory = OutOfMemory
-
--- the answer of a step that ends the script, as the run's
-abbrev pub run_of : {E : Type 0} → Result E TurnError → Result E ScriptError
-run_of (Ok ending) = Ok ending
-run_of (Err stopped) = Err (error_of stopped)
-
--- the script ended, in this state and with this text; where no line ended it, nothing is left of the input
-abbrev pub IsEnded : {S E : Type 0} → Rules S E → S → List ℕ → E → S → Option (List ℕ) → Option (List ℕ) → Option (List ℕ) → Type 0
-IsEnded rules start input ending state left before after = Says (said_of rules start input) ending state before after × (GoesToTheEnd rules start input → left ≡ Some [])
-
--- a prefix of the script's text was written
-abbrev pub IsCut : {S E : Type 0} → Rules S E → S → List ℕ → Option (List ℕ) → Option (List ℕ) → Type 0
-IsCut rules start input before after = (written : List ℕ) × Gains written before after × IsPrefix written (said_of rules start input).text
-
--- the source failed: the text of the lines that were read whole was written, and the state is theirs
-abbrev pub IsUnread : {S E : Type 0} → Rules S E → S → List ℕ → S → Option (List ℕ) → Option (List ℕ) → Option (List ℕ) → Type 0
-IsUnread rules start input state left before after = (unread : List ℕ) × (written : List ℕ) × (left ≡ Some unread) × Gains written before after × StopsIn rules start input unread state written
-
--- what a run of a script leaves, by its answer: the last state, what is left of the input, and what was written
-abbrev pub IsRun : {S E : Type 0} → Rules S E → S → List ℕ → Result E ScriptError → S → Option (List ℕ) → Option (List ℕ) → Option (List ℕ) → Type 0
-IsRun rules start input (Ok ending) state left before after = IsEnded rules start input ending state left before after
-IsRun rules start input (Err Read) state left before after = IsUnread rules start input state left before after
-IsRun rules start input (Err Write) state left before after = IsCut rules start input before after
-IsRun rules start input (Err OutOfMemory) state left before after = IsCut rules start input before after

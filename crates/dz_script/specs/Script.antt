@@ -28,6 +28,18 @@ abbrev pub turn_text : {S E : Type 0} → Turn S E → List ℕ
 turn_text (goes_on text state) = text
 turn_text (ends text state ending) = text
 
+-- the state that a line leaves
+abbrev pub turn_state : {S E : Type 0} → Turn S E → S
+turn_state (goes_on text state) = state
+turn_state (ends text state ending) = state
+
+-- the rules never lead back, by an order of the states
+pub record LeadsOn {S E : Type 0} (order : S → S → Type 0) (rules : Rules S E) : Type 0 where
+  pub trans : (a b c : S) → order a b → order b c → order a c
+  pub turn : (state : S) (number : ℕ) (line : List ℕ) → order state (turn_state (rules.turn state number line))
+  pub too_long : (state : S) (number : ℕ) → order state (rules.too_long state number).state
+  pub finish : (state : S) (number : ℕ) → order state (rules.finish state number).state
+
 -- what was written, and then this
 unfoldable pub behind : {S E : Type 0} → List ℕ → Said S E → Said S E
 behind written said = record said { text = written ++ said.text }

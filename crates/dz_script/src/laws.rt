@@ -1,4 +1,4 @@
-//! Laws of the fields of a line, of all lines.
+//! Laws of the fields of a line, of all lines. Each is a contract without a call, so its body is empty.
 
 ghost use Rattle.dz_script.specs.Laws.{FieldsAreTheLine};
 

@@ -2,7 +2,8 @@
 
 ghost use Rattle.std.specs.Prelude.{◌≡◌, IfOk};
 ghost use Rattle.dz_script.specs.Fields.{fields_of};
-ghost use Rattle.dz_script.specs.Line.{is_skipped, line_in, event_line, Reads};
+ghost use Rattle.dz_script.specs.Line.{is_skipped, line_in, event_line};
+ghost use Rattle.dz_script.specs.Answers.{Reads};
 
 use crate::event::read_event;
 use crate::fields::Fields;

@@ -1,8 +1,9 @@
 //! Runs of a script on an input.
-ghost use Rattle.std.specs.Prelude.{◌≡◌, ◌≤◌, ◌+◌, ℕ, List, Some, MatchResult};
+ghost use Rattle.std.specs.Prelude.{◌≡◌, ◌≤◌, ◌+◌, ℕ, List, Some, MatchResult, OnErr};
 ghost use Rattle.dz_io.specs.Device.{GainsPrefix, HasCauseOf};
-ghost use Rattle.dz_script.specs.Script.{Says, last_said};
-ghost use Rattle.dz_script.specs.Run.{IsRun, run_of};
+ghost use Rattle.dz_script.specs.Script.{Says, LeadsOn, last_said};
+ghost use Rattle.dz_script.specs.Answers.{IsRun, run_of};
+ghost use Rattle.dz_script.specs.Run.{said_of};
 
 use crate::lines::{LIMIT, Next, NextError, next_line};
 use crate::script::{Script, TurnError};
@@ -22,7 +23,7 @@ pub enum ScriptError {
 }
 
 impl From<TurnError> for ScriptError {
-    ghost use Rattle.dz_script.specs.Run.{error_of};
+    ghost use Rattle.dz_script.specs.Answers.{error_of};
 
     ghost from_gives = { λ turn error. error ≡ error_of turn };
 
@@ -40,6 +41,7 @@ impl From<TurnError> for ScriptError {
 /// Where it ends, the text that was written is the whole text of the script, and its state is the one that the rules
 /// give after the lines taken. Where all lines go on, the input was read to its end. After `ScriptError::Read` text and
 /// state are those of the lines that were read whole. After the other errors a prefix of the whole text was written.
+/// Where the rules never lead back, the state after an error isn't past the one that the whole input gives.
 pub fn run_script<T: Script, S: Source>(
     alloc: Global,
     script: &mut T,
@@ -48,6 +50,9 @@ pub fn run_script<T: Script, S: Source>(
     ensures ends { (octets : List ℕ) → S.left input.old ≡ Some octets →
         IsRun T.rules (T.state script.old) octets result
         (T.state script.new) (S.left input.new) (T.held script.old) (T.held script.new) }
+    ensures leads { (octets : List ℕ) → S.left input.old ≡ Some octets → LeadsOn T.Before T.rules →
+        OnErr result (T.Before (T.state script.new)
+        (said_of T.rules (T.state script.old) octets).state) }
     ensures beside { T.beside script.new ≡ T.beside script.old }
     ensures read_cause { HasCauseOf (S.faults input.old)
         (S.faults input.new) result ScriptError.Read }
@@ -91,6 +96,8 @@ fn last_turn<T: Script>(
         (T.state script.new) (T.held script.old) (T.held script.new))
         (λ _. GainsPrefix (last_said T.rules (T.state script.old) number line.now).text
         (T.held script.old) (T.held script.new)) }
+    ensures leads { LeadsOn T.Before T.rules → OnErr result (T.Before (T.state script.new)
+        (last_said T.rules (T.state script.old) number line.now).state) }
     ensures beside { T.beside script.new ≡ T.beside script.old }
     ensures cause { HasCauseOf (T.faults script.old) (T.faults script.new) result TurnError.Write }
 {

@@ -1,7 +1,7 @@
 //! Scripts: what takes the lines of an input in turn, writes a text for each and changes its state, until one ends it.
 ghost use Rattle.std.specs.Prelude.{◌≡◌, ℕ, List, Option, MatchResult, IfErr, OnOk, OnErr};
 ghost use Rattle.dz_io.specs.Device.{Gains, GainsPrefix, HasCauseOf};
-ghost use Rattle.dz_script.specs.Script.{Rules, turn_text, DoesTurn, Says};
+ghost use Rattle.dz_script.specs.Script.{Rules, turn_text, turn_state, DoesTurn, Says};
 
 use dz_io::Sink;
 use std::alloc::{AllocError, Global};
@@ -48,11 +48,15 @@ pub trait Script {
 
     ghost beside: { Self → Others };
 
+    /// The order of its states: the first is the second, or comes before it.
+    ghost Before: { States → States → Type 0 };
+
     /// What a line does, what a line past the limit gives, and what the end of the input gives.
     ghost rules: { Rules States Self.Ending };
 
     /// Takes the line with this number, counted from 1, without its newline: writes its text and goes on in a new
-    /// state, or ends the script. Where it stops, a prefix of the line's text was written.
+    /// state, or ends the script. Where it stops, a prefix of the line's text was written, and its state isn't past the
+    /// one that the rules give.
     fn turn(
         &mut self,
         alloc: Global,
@@ -64,6 +68,8 @@ pub trait Script {
             (state self.new) (held self.old) (held self.new))
             (λ _. GainsPrefix (turn_text (rules.turn (state self.old) number line.now))
             (held self.old) (held self.new)) }
+        ensures leads { OnErr result (Before (state self.new)
+            (turn_state (rules.turn (state self.old) number line.now))) }
         ensures beside { beside self.new ≡ beside self.old }
         ensures cause { HasCauseOf (faults self.old) (faults self.new) result TurnError.Write };
 
@@ -74,6 +80,8 @@ pub trait Script {
             (state self.new) (held self.old) (held self.new))
             (λ _. GainsPrefix (rules.too_long (state self.old) number).text
             (held self.old) (held self.new)) }
+        ensures leads { OnErr result (Before (state self.new)
+            (rules.too_long (state self.old) number).state) }
         ensures beside { beside self.new ≡ beside self.old }
         ensures cause { HasCauseOf (faults self.old) (faults self.new) result TurnError.Write };
 
@@ -84,6 +92,8 @@ pub trait Script {
             (state self.new) (held self.old) (held self.new))
             (λ _. GainsPrefix (rules.finish (state self.old) number).text
             (held self.old) (held self.new)) }
+        ensures leads { OnErr result (Before (state self.new)
+            (rules.finish (state self.old) number).state) }
         ensures beside { beside self.new ≡ beside self.old }
         ensures cause { HasCauseOf (faults self.old) (faults self.new) result TurnError.Write };
 }

@@ -1,6 +1,6 @@
 //! Serial numbers, modulo 2^32.
 ghost use Rattle.std.specs.Prelude.{◌≡◌, ◌<◌, ◌^◌};
-ghost use Rattle.dz_serial.specs.Serial.{is_newer, sum, NeverItself, NeitherHalfWay, NeverBoth, SumsAreNewer};
+ghost use Rattle.dz_serial.specs.Serial.{is_newer, sum};
 
 /// Half of the serial number space, 2^31.
 const HALF: u32 = 0x8000_0000;
@@ -20,23 +20,3 @@ pub fn add(serial: u32, n: u32) -> u32
 {
     serial.wrapping_add(n)
 }
-
-/// No serial number is newer than itself.
-pub fn never_itself()
-    ensures { NeverItself }
-{}
-
-/// Of two serial numbers at a distance of exactly 2^31 neither is newer.
-pub fn neither_half_way()
-    ensures { NeitherHalfWay }
-{}
-
-/// Of two serial numbers only one is newer than the other.
-pub fn never_both()
-    ensures { NeverBoth }
-{}
-
-/// Adding at least 1 and less than 2^31 to a serial number makes a newer one.
-pub fn sums_are_newer()
-    ensures { SumsAreNewer }
-{}

@@ -164,19 +164,20 @@ pub linked_risen : (e : LinksEnd) (downstream : List Octets) (may_fail : Type 0)
 linked_risen e downstream may_fail may_give before after old now given told f h is = until_risen e now.is_closed old.faults now.faults f h.until is
 
 -- the count of the ports rises as a device with a fault comes back to them, and falls neither before nor after
-risen_first : (a b c : ℕ) → HasRisen a b → b ≤ c → HasRisen a c
+pub risen_first : (a b c : ℕ) → HasRisen a b → b ≤ c → HasRisen a c
 risen_first a b c (inl h) le = inl (omega (arith, h, le))
 risen_first a b c (inr h) le = inr (omega (arith, h, le))
 
-risen_last : (a b c : ℕ) → a ≤ b → HasRisen b c → HasRisen a c
+pub risen_last : (a b c : ℕ) → a ≤ b → HasRisen b c → HasRisen a c
 risen_last a b c le (inl h) = inl (omega (arith, le, h))
 risen_last a b c le (inr h) = inr h
 
-pub port_risen : {W X Y Z : Type 0} (a b c d : ℕ) → a ≤ b → b ≤ c → d ≡ c → (W → HasRisen a b) → (X → HasRisen a b) → (Y → HasRisen b c) → (Z → HasRisen b c) → W ⊎ (X ⊎ (Y ⊎ Z)) → HasRisen a d
-port_risen a b c d first second same w x y z (inl h) = rw same (risen_first a b c (w h) second)
-port_risen a b c d first second same w x y z (inr (inl h)) = rw same (risen_first a b c (x h) second)
-port_risen a b c d first second same w x y z (inr (inr (inl h))) = rw same (risen_last a b c first (y h))
-port_risen a b c d first second same w x y z (inr (inr (inr h))) = rw same (risen_last a b c first (z h))
+-- what holds by each of four
+pub by_each : {W X Y Z R : Type 0} → (W → R) → (X → R) → (Y → R) → (Z → R) → W ⊎ (X ⊎ (Y ⊎ Z)) → R
+by_each w x y z (inl h) = w h
+by_each w x y z (inr (inl h)) = x h
+by_each w x y z (inr (inr (inl h))) = y h
+by_each w x y z (inr (inr (inr h))) = z h
 
 -- ---- by the list that a run leaves
 seen_one : (first list : List Entry) → 0 < length first → IsPrefix first list → 1 ≤ length list

@@ -1,4 +1,4 @@
--- Meaning: the command `serve`: what its input configures, and what it says where that is nothing.
+-- Answer: the command `serve`: what its input configures, and what it says where that is nothing.
 use Rattle.std.specs.Prelude.{⊤, ◌≡◌, ◌≢◌, ◌≤◌, ◌+◌, ℕ, Bool, true, List, [], ◌∷◌, ◌++◌, length, take, codes, Option, Some, Result, Ok, Err}
 use Rattle.dz_name.specs.Words.{Octets}
 use Rattle.dz_io.specs.Device.{Gains, GainsPrefix, Gives, IsAtEnd, Tells}
@@ -6,7 +6,7 @@ use Rattle.dz_io.specs.declared.peer.Peer.{Peer}
 use Rattle.dz_settings.specs.declared.config.CatalogSettings.{CatalogSettings}
 use Rattle.dz_history.specs.declared.entry.Entry.{Entry}
 use Rattle.dz_provision.specs.Log.{IsLogged}
-use Rattle.dz_config.specs.Config.{Reads, ReadsDownstream}
+use Rattle.dz_config.specs.Answers.{Reads, ReadsDownstream}
 use Rattle.dz_config.specs.Reading.{number_of}
 use Rattle.dz_config.specs.declared.config.TheConstants.{TEXT_OCTETS}
 use Rattle.dz_config.specs.declared.fault.ConfigFault.{ConfigFault}

@@ -1,13 +1,18 @@
 -- Meaning: what workers hand on.
 use Rattle.std.specs.Prelude.{◌≡◌, ℕ, Bool, true, false, List, length, Option}
 use Rattle.std.specs.List.{All}
+use Rattle.std.specs.Mem.{manually_drop_value}
 use mathlib.Core.List.{IsPrefix}
 use Rattle.dz_name.specs.Words.{Octets}
 use Rattle.dz_io.specs.Links.{Dialled}
-use Rattle.dz_io.specs.Ports.{Accepts, Dials}
+use Rattle.dz_io.specs.Ports.{Accepts, Dials, accepts, dials}
+use Rattle.dz_io.specs.declared.acceptor.Acceptor as acceptors
+use Rattle.dz_io.specs.declared.clock.Clock as clocks
+use Rattle.dz_io.specs.declared.datagrams.Datagrams as datagrams
+use Rattle.dz_io.specs.declared.dialer.Dialer as dialers
 use Rattle.dz_history.specs.declared.entry.Entry.{Entry}
 use Rattle.dz_desk.specs.Seen.{Book, Viewed}
-use Rattle.dz_query.specs.Session.{Told, IsSession, HasClosed}
+use Rattle.dz_query.specs.Session.{Told, told, IsSession, HasClosed}
 use Rattle.dz_query.specs.declared.datagrams.SessionEnd.{SessionEnd}
 use Rattle.dz_query.specs.Served.{excused}
 use Rattle.dz_query.specs.Links.{AreVisits, AcceptsUntil, links_told, starved_at, unheard_at}
@@ -16,6 +21,9 @@ use Rattle.dz_provision.specs.Endings.{EndsAmong}
 use Rattle.dz_transfer.specs.Serving.{IsTransfers}
 use Rattle.dz_transfer.specs.declared.serve.Transfers.{Transfers}
 use Rattle.dz_transfer.specs.declared.serve.TransferEnd.TheVariants as transfer_ends
+use Rattle.dz_serve.specs.declared.udp_worker.Listened.{Listened}
+use Rattle.dz_serve.specs.declared.tcp_worker.Linked.{Linked}
+use Rattle.dz_serve.specs.declared.transfer_worker.Transferred.{Transferred}
 
 -- a reading that has seen more, and is at rest
 pub record HasSeenMore (before after : Viewed) : Type 0 where
@@ -41,6 +49,31 @@ pub record HasTransferred (done : Transfers) (may_stop : Bool) (may_give : ℕ �
   pub transfers : IsTransfers done (length before.list) after.list old.links now.links old.faults now.faults
   pub moments : All (EndsAmong may_give) done.endings
   pub stopped : done.end ≡ transfer_ends.Stopped → may_stop ≡ true
+
+-- what a datagram worker shows of what it hands on, by the device, the reading and the clock that it was given
+abbrev pub ShowsListening : {D C : Type 0} → datagrams.Ghosts D → clocks.Ghosts C → Type 0 → D → Viewed → C → Listened D C → Type 0
+ShowsListening d c may_fail device reading clock done =
+    let its_device = manually_drop_value done.device in
+    HasListened done.end (d.is_closed its_device) may_fail (c.may_give clock) reading done.reading
+    (told (d.received device) (d.sent device) (d.faults device) reading.sights (c.given clock))
+    (told (d.received its_device) (d.sent its_device) (d.faults its_device) done.reading.sights (c.given done.clock))
+
+-- what a link worker shows, by the addresses to which zones are sent
+abbrev pub ShowsLinking : {A L C : Type 0} → acceptors.Ghosts A L → clocks.Ghosts C → Type 0 → List Octets → A → Viewed → C → Linked A C → Type 0
+ShowsLinking a c may_fail downstream acceptor reading clock done =
+    let its_acceptor = manually_drop_value done.acceptor in
+    HasLinked done.end downstream may_fail (c.may_give clock) reading done.reading
+    (accepts (a.links acceptor) (a.out acceptor) (a.is_closed acceptor) (a.faults acceptor))
+    (accepts (a.links its_acceptor) (a.out its_acceptor) (a.is_closed its_acceptor) (a.faults its_acceptor))
+    (c.given clock) (c.given done.clock)
+
+-- what a transfer worker shows
+abbrev pub ShowsTransferring : {D L C : Type 0} → dialers.Ghosts D L → clocks.Ghosts C → D → Viewed → C → Transferred D → Type 0
+ShowsTransferring d c dialer reading clock done =
+    let its_dialer = manually_drop_value done.dialer in
+    HasTransferred done.transfers (c.may_stop clock) (c.may_give clock) reading done.reading
+    (dials (d.links dialer) (d.out dialer) (d.faults dialer))
+    (dials (d.links its_dialer) (d.out its_dialer) (d.faults its_dialer))
 
 -- a reading of this book, at rest
 pub record IsSeated (book : Book) (reading : Viewed) : Type 0 where

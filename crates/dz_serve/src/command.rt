@@ -8,7 +8,7 @@ ghost use Rattle.dz_io.specs.declared.peer.Peer.{Peer};
 ghost use Rattle.dz_name.specs.Words.{Octets};
 ghost use Rattle.dz_settings.specs.Config.{IsAllowed};
 ghost use Rattle.dz_settings.specs.declared.config.CatalogSettings.{CatalogSettings};
-ghost use Rattle.dz_config.specs.Config.{Reads};
+ghost use Rattle.dz_config.specs.Answers.{Reads};
 ghost use Rattle.dz_config.specs.declared.fault.ConfigFault.{ConfigFault};
 ghost use Rattle.dz_config.specs.declared.fault.ConfigError.TheVariants.{Fault};
 ghost use Rattle.dz_desk.specs.Seen.{IsAtRest};

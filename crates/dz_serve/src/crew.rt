@@ -4,26 +4,22 @@ ghost use Rattle.std.specs.Prelude.{◌≡◌, None, MatchBool};
 ghost use Rattle.std.specs.Mem.{manually_drop_value};
 ghost use mathlib.Core.List.{IsPrefix};
 ghost use Rattle.dz_io.specs.Counts.{HasRisen};
-ghost use Rattle.dz_io.specs.Ports.{accepts, dials};
 ghost use Rattle.dz_history.specs.Legal.{IsLegal};
 ghost use Rattle.dz_provision.specs.Log.{IsLogged};
-ghost use Rattle.dz_query.specs.Session.{told};
-ghost use Rattle.dz_serve.specs.Workers.{IsMadeOf, IsSeated, HasListened, HasLinked, HasTransferred};
+ghost use Rattle.dz_serve.specs.Workers.{AreSeated, IsMadeOf, IsSeated, ShowsListening, ShowsLinking, ShowsTransferring};
 
 use crate::devices::Devices;
 use crate::pair::Pair;
-use crate::tcp_worker::{Linked, Linking, Links, link};
-use crate::together::{Crew, Task, Tasks, run_together};
+use crate::tcp_worker::{Linked, Linking, link};
+use crate::together::{Crew, run_together};
 use crate::tools::{Tool, Tools};
-use crate::transfer_worker::{Dialling, Transferred, Transferring, transfer};
-use crate::udp_worker::{Listened, Listening, Listens, listen};
+use crate::transfer_worker::{Transferred, Transferring, transfer};
+use crate::udp_worker::{Listened, Listening, listen};
 use dz_config::Downstream;
 use dz_desk::{Publisher, Reading};
 use dz_io::{Acceptor, Clock, Datagrams, Dialer, Sink};
 use dz_provision::{Jobs, Naming, Parts, Provisioner, Shared};
 use std::alloc::Global;
-use std::marker::PhantomData;
-use std::snapshot::Snapshot;
 use std::sync::Wait;
 use std::thread::Threads;
 
@@ -43,8 +39,36 @@ pub(crate) struct Gear<D, A, L, C> {
     pub downstream: Downstream,
 }
 
+/// Shows all readings the list of a provisioner.
+pub(crate) fn teach_all<K: Sink, J: Naming, R: Wait>(
+    rt: &R,
+    provisioner: &Provisioner<K, J>,
+    seats: Seats,
+) -> Seats
+    requires { AreSeated J.publisher seats.listening.first seats.listening.second
+        seats.linking.first seats.linking.second
+        seats.transferring.first seats.transferring.second }
+    ensures seated { AreSeated J.publisher result.listening.first result.listening.second
+        result.linking.first result.linking.second
+        result.transferring.first result.transferring.second }
+    ensures listening_one { IsPrefix provisioner.now.core.list result.listening.first.list }
+    ensures listening_two { IsPrefix provisioner.now.core.list result.listening.second.list }
+    ensures linking_one { IsPrefix provisioner.now.core.list result.linking.first.list }
+    ensures linking_two { IsPrefix provisioner.now.core.list result.linking.second.list }
+    ensures transferring_one { IsPrefix provisioner.now.core.list
+        result.transferring.first.list }
+    ensures transferring_two { IsPrefix provisioner.now.core.list
+        result.transferring.second.list }
+{
+    Seats {
+        listening: teach(rt, provisioner, seats.listening),
+        linking: teach(rt, provisioner, seats.linking),
+        transferring: teach(rt, provisioner, seats.transferring),
+    }
+}
+
 /// Shows two readings the list of a provisioner.
-pub(crate) fn teach<K: Sink, J: Naming, R: Wait>(
+fn teach<K: Sink, J: Naming, R: Wait>(
     rt: &R,
     provisioner: &Provisioner<K, J>,
     pair: Pair<Reading>,
@@ -92,68 +116,24 @@ where
     requires acceptor_two { A.out gear.devices.acceptors.second ≡ None }
     requires dialer_one { L.out gear.devices.dialers.first ≡ None }
     requires dialer_two { L.out gear.devices.dialers.second ≡ None }
-    ensures listening_one { HasListened result.datagrams.first.end
-        (D.is_closed (manually_drop_value result.datagrams.first.device))
-        B.may_fail (C.may_give gear.tools.listening.first.clock) gear.seats.listening.first
-        result.datagrams.first.reading
-        (told (D.received gear.devices.datagrams.first) (D.sent gear.devices.datagrams.first)
-        (D.faults gear.devices.datagrams.first)
-        gear.seats.listening.first.sights (C.given gear.tools.listening.first.clock))
-        (told (D.received (manually_drop_value result.datagrams.first.device))
-        (D.sent (manually_drop_value result.datagrams.first.device))
-        (D.faults (manually_drop_value result.datagrams.first.device))
-        result.datagrams.first.reading.sights
-        (C.given result.datagrams.first.clock)) }
-    ensures listening_two { HasListened result.datagrams.second.end
-        (D.is_closed (manually_drop_value result.datagrams.second.device))
-        B.may_fail (C.may_give gear.tools.listening.second.clock) gear.seats.listening.second
-        result.datagrams.second.reading
-        (told (D.received gear.devices.datagrams.second) (D.sent gear.devices.datagrams.second)
-        (D.faults gear.devices.datagrams.second)
-        gear.seats.listening.second.sights (C.given gear.tools.listening.second.clock))
-        (told (D.received (manually_drop_value result.datagrams.second.device))
-        (D.sent (manually_drop_value result.datagrams.second.device))
-        (D.faults (manually_drop_value result.datagrams.second.device))
-        result.datagrams.second.reading.sights
-        (C.given result.datagrams.second.clock)) }
-    ensures linking_one { HasLinked result.links.first.end gear.downstream
-        B.may_fail (C.may_give gear.tools.linking.first.clock) gear.seats.linking.first
-        result.links.first.reading
-        (accepts (A.links gear.devices.acceptors.first) (A.out gear.devices.acceptors.first)
-        (A.is_closed gear.devices.acceptors.first) (A.faults gear.devices.acceptors.first))
-        (accepts (A.links (manually_drop_value result.links.first.acceptor))
-        (A.out (manually_drop_value result.links.first.acceptor))
-        (A.is_closed (manually_drop_value result.links.first.acceptor))
-        (A.faults (manually_drop_value result.links.first.acceptor)))
-        (C.given gear.tools.linking.first.clock) (C.given result.links.first.clock) }
-    ensures linking_two { HasLinked result.links.second.end gear.downstream
-        B.may_fail (C.may_give gear.tools.linking.second.clock) gear.seats.linking.second
-        result.links.second.reading
-        (accepts (A.links gear.devices.acceptors.second) (A.out gear.devices.acceptors.second)
-        (A.is_closed gear.devices.acceptors.second) (A.faults gear.devices.acceptors.second))
-        (accepts (A.links (manually_drop_value result.links.second.acceptor))
-        (A.out (manually_drop_value result.links.second.acceptor))
-        (A.is_closed (manually_drop_value result.links.second.acceptor))
-        (A.faults (manually_drop_value result.links.second.acceptor)))
-        (C.given gear.tools.linking.second.clock) (C.given result.links.second.clock) }
-    ensures transferring_one { HasTransferred result.transfers.first.transfers
-        (C.may_stop gear.tools.transferring.first)
-        (C.may_give gear.tools.transferring.first) gear.seats.transferring.first
-        result.transfers.first.reading
-        (dials (L.links gear.devices.dialers.first) (L.out gear.devices.dialers.first)
-        (L.faults gear.devices.dialers.first))
-        (dials (L.links (manually_drop_value result.transfers.first.dialer))
-        (L.out (manually_drop_value result.transfers.first.dialer))
-        (L.faults (manually_drop_value result.transfers.first.dialer))) }
-    ensures transferring_two { HasTransferred result.transfers.second.transfers
-        (C.may_stop gear.tools.transferring.second)
-        (C.may_give gear.tools.transferring.second) gear.seats.transferring.second
-        result.transfers.second.reading
-        (dials (L.links gear.devices.dialers.second) (L.out gear.devices.dialers.second)
-        (L.faults gear.devices.dialers.second))
-        (dials (L.links (manually_drop_value result.transfers.second.dialer))
-        (L.out (manually_drop_value result.transfers.second.dialer))
-        (L.faults (manually_drop_value result.transfers.second.dialer))) }
+    ensures listening_one { ShowsListening D.Datagrams C.Clock B.may_fail
+        gear.devices.datagrams.first gear.seats.listening.first
+        gear.tools.listening.first.clock result.datagrams.first }
+    ensures listening_two { ShowsListening D.Datagrams C.Clock B.may_fail
+        gear.devices.datagrams.second gear.seats.listening.second
+        gear.tools.listening.second.clock result.datagrams.second }
+    ensures linking_one { ShowsLinking A.Acceptor C.Clock B.may_fail gear.downstream
+        gear.devices.acceptors.first gear.seats.linking.first
+        gear.tools.linking.first.clock result.links.first }
+    ensures linking_two { ShowsLinking A.Acceptor C.Clock B.may_fail gear.downstream
+        gear.devices.acceptors.second gear.seats.linking.second
+        gear.tools.linking.second.clock result.links.second }
+    ensures transferring_one { ShowsTransferring L.Dialer C.Clock
+        gear.devices.dialers.first gear.seats.transferring.first
+        gear.tools.transferring.first result.transfers.first }
+    ensures transferring_two { ShowsTransferring L.Dialer C.Clock
+        gear.devices.dialers.second gear.seats.transferring.second
+        gear.tools.transferring.second result.transfers.second }
 {
     let Gear {
         seats,
@@ -166,140 +146,23 @@ where
         acceptors,
         dialers,
     } = devices;
-    let Pair {
-        first: one,
-        second: two,
-    } = seat_listeners(seats.listening, datagrams, tools.listening);
-    let Pair {
-        first: three,
-        second: four,
-    } = seat_linkers(seats.linking, acceptors, tools.linking, downstream);
-    let Pair {
-        first: five,
-        second: six,
-    } = seat_transferrers(seats.transferring, dialers, tools.transferring);
-    run_together(
+    let workers = Crew {
+        datagrams: seat_listeners(seats.listening, datagrams, tools.listening),
+        links: seat_linkers(seats.linking, acceptors, tools.linking, downstream),
+        transfers: seat_transferrers(seats.transferring, dialers, tools.transferring),
+    };
+    run_together::<B, _, _, _, _, _, _, _, _, _, _>(
         rt,
-        Crew {
-            datagrams: Tasks {
-                first: Task {
-                    promise: Listens::<B, Listening<D, C>> {
-                        before: Snapshot::of(&one),
-                        of: PhantomData,
-                    },
-                    run: move || -> Listened<D, C>
-                        requires { IsSeated B.publisher one.reading }
-                        ensures { HasListened result.end
-                            (D.is_closed (manually_drop_value result.device))
-                            B.may_fail (C.may_give one.clock) one.reading result.reading
-                            (told (D.received (manually_drop_value one.device))
-                            (D.sent (manually_drop_value one.device))
-                            (D.faults (manually_drop_value one.device)) one.reading.sights
-                            (C.given one.clock))
-                            (told (D.received (manually_drop_value result.device))
-                            (D.sent (manually_drop_value result.device))
-                            (D.faults (manually_drop_value result.device)) result.reading.sights
-                            (C.given result.clock)) }
-                    { listen(rt, jobs, one) },
-                },
-                second: Task {
-                    promise: Listens::<B, Listening<D, C>> {
-                        before: Snapshot::of(&two),
-                        of: PhantomData,
-                    },
-                    run: move || -> Listened<D, C>
-                        requires { IsSeated B.publisher two.reading }
-                        ensures { HasListened result.end
-                            (D.is_closed (manually_drop_value result.device))
-                            B.may_fail (C.may_give two.clock) two.reading result.reading
-                            (told (D.received (manually_drop_value two.device))
-                            (D.sent (manually_drop_value two.device))
-                            (D.faults (manually_drop_value two.device)) two.reading.sights
-                            (C.given two.clock))
-                            (told (D.received (manually_drop_value result.device))
-                            (D.sent (manually_drop_value result.device))
-                            (D.faults (manually_drop_value result.device)) result.reading.sights
-                            (C.given result.clock)) }
-                    { listen(rt, jobs, two) },
-                },
-            },
-            links: Tasks {
-                first: Task {
-                    promise: Links::<B, Linking<A, C>> {
-                        before: Snapshot::of(&three),
-                        of: PhantomData,
-                    },
-                    run: move || -> Linked<A, C>
-                        requires seated { IsSeated B.publisher three.reading }
-                        requires none { A.out (manually_drop_value three.acceptor) ≡ None }
-                        ensures { HasLinked result.end three.downstream B.may_fail
-                            (C.may_give three.clock) three.reading result.reading
-                            (accepts (A.links (manually_drop_value three.acceptor))
-                            (A.out (manually_drop_value three.acceptor))
-                            (A.is_closed (manually_drop_value three.acceptor))
-                            (A.faults (manually_drop_value three.acceptor)))
-                            (accepts (A.links (manually_drop_value result.acceptor))
-                            (A.out (manually_drop_value result.acceptor))
-                            (A.is_closed (manually_drop_value result.acceptor))
-                            (A.faults (manually_drop_value result.acceptor)))
-                            (C.given three.clock) (C.given result.clock) }
-                    { link(rt, jobs, three) },
-                },
-                second: Task {
-                    promise: Links::<B, Linking<A, C>> {
-                        before: Snapshot::of(&four),
-                        of: PhantomData,
-                    },
-                    run: move || -> Linked<A, C>
-                        requires seated { IsSeated B.publisher four.reading }
-                        requires none { A.out (manually_drop_value four.acceptor) ≡ None }
-                        ensures { HasLinked result.end four.downstream B.may_fail
-                            (C.may_give four.clock) four.reading result.reading
-                            (accepts (A.links (manually_drop_value four.acceptor))
-                            (A.out (manually_drop_value four.acceptor))
-                            (A.is_closed (manually_drop_value four.acceptor))
-                            (A.faults (manually_drop_value four.acceptor)))
-                            (accepts (A.links (manually_drop_value result.acceptor))
-                            (A.out (manually_drop_value result.acceptor))
-                            (A.is_closed (manually_drop_value result.acceptor))
-                            (A.faults (manually_drop_value result.acceptor)))
-                            (C.given four.clock) (C.given result.clock) }
-                    { link(rt, jobs, four) },
-                },
-            },
-            transfers: Tasks {
-                first: Task {
-                    promise: Dialling(Snapshot::of(&five)),
-                    run: move || -> Transferred<L>
-                        requires seated { IsSeated B.publisher five.reading }
-                        requires none { L.out (manually_drop_value five.dialer) ≡ None }
-                        ensures { HasTransferred result.transfers
-                            (C.may_stop five.clock) (C.may_give five.clock) five.reading result.reading
-                            (dials (L.links (manually_drop_value five.dialer))
-                            (L.out (manually_drop_value five.dialer))
-                            (L.faults (manually_drop_value five.dialer)))
-                            (dials (L.links (manually_drop_value result.dialer))
-                            (L.out (manually_drop_value result.dialer))
-                            (L.faults (manually_drop_value result.dialer))) }
-                    { transfer(rt, alloc, jobs, five) },
-                },
-                second: Task {
-                    promise: Dialling(Snapshot::of(&six)),
-                    run: move || -> Transferred<L>
-                        requires seated { IsSeated B.publisher six.reading }
-                        requires none { L.out (manually_drop_value six.dialer) ≡ None }
-                        ensures { HasTransferred result.transfers
-                            (C.may_stop six.clock) (C.may_give six.clock) six.reading result.reading
-                            (dials (L.links (manually_drop_value six.dialer))
-                            (L.out (manually_drop_value six.dialer))
-                            (L.faults (manually_drop_value six.dialer)))
-                            (dials (L.links (manually_drop_value result.dialer))
-                            (L.out (manually_drop_value result.dialer))
-                            (L.faults (manually_drop_value result.dialer))) }
-                    { transfer(rt, alloc, jobs, six) },
-                },
-            },
-        },
+        workers,
+        &|work: Listening<D, C>| -> Listened<D, C> { listen(rt, jobs, work) },
+        &|work: Linking<A, C>| -> Linked<A, C>
+            requires seated { IsSeated B.publisher work.reading }
+            requires none { A.out (manually_drop_value work.acceptor) ≡ None }
+        { link(rt, jobs, work) },
+        &|work: Transferring<L, C>| -> Transferred<L>
+            requires seated { IsSeated B.publisher work.reading }
+            requires none { L.out (manually_drop_value work.dialer) ≡ None }
+        { transfer(rt, alloc, jobs, work) },
     )
 }
 

@@ -16,11 +16,11 @@ ghost use Rattle.dz_serve.specs.Workers.{IsSeated, AreSeated, AreBack};
 
 use crate::begin::begin;
 use crate::close::{close_acceptors, close_datagrams, close_dialers};
-use crate::crew::{Gear, Seats, end_crew, run_crew, teach};
+use crate::crew::{Gear, Seats, end_crew, run_crew, teach_all};
 use crate::devices::{Devices, open_devices};
 use crate::pair::Pair;
 use crate::sending::publishers_may_be_sent;
-use crate::status::{Ends, ServeEnd, judge};
+use crate::status::{ServeEnd, judge};
 use crate::tcp_worker::Linked;
 use crate::together::Crew;
 use crate::tools::{Tools, make_tools};
@@ -105,43 +105,27 @@ pub fn serve<
         → HasRisen (P.faults ports.old) (P.faults ports.new) }
     ensures later { P.faults ports.old ≤ P.faults ports.new }
 {
-    let Setting {
-        listen,
-        config,
-        downstream,
-    } = setting;
     let Ok(tools) = make_tools(alloc, clock) else {
         return unserved(ServeEnd::NoMemory, output, desk);
     };
-    let Ok(devices) = open_devices(ports, &listen) else {
+    let Ok(devices) = open_devices(ports, &setting.listen) else {
         return unserved(ServeEnd::PortFault, output, desk);
     };
     let Desk {
         publisher,
         readings,
     } = desk;
-    match Provisioner::<K, J>::start(rt, alloc, config, publisher, output) {
+    match Provisioner::<K, J>::start(rt, alloc, setting.config, publisher, output) {
         Err(unstarted) => {
             close_devices(ports, devices);
-            let Unstarted { publisher, output } = unstarted;
-            let desk = Desk {
-                publisher,
-                readings,
-            };
-            unserved(ServeEnd::NoMemory, output, desk)
+            not_started(unstarted, readings)
         }
-        Ok(mut provisioner) => {
+        Ok(mut begun) => {
             let (mut seats, readings) = seat_all::<J>(readings);
-            match begin(
-                rt,
-                alloc,
-                &mut provisioner,
-                &mut seats.transferring.first,
-                disk,
-            ) {
+            match begin(rt, alloc, &mut begun, &mut seats.transferring.first, disk) {
                 Err(end) => {
                     close_devices(ports, devices);
-                    halted(end, provisioner, seats, readings)
+                    halted(end, begun, seats, readings)
                 }
                 Ok(store) => {
                     let rig = Rig {
@@ -149,13 +133,28 @@ pub fn serve<
                         readings,
                         devices,
                         tools,
-                        downstream,
+                        downstream: setting.downstream,
                     };
-                    serve_over(rt, alloc, provisioner, store, rig, ports, clock)
+                    serve_over(rt, alloc, begun, store, rig, ports, clock)
                 }
             }
         }
     }
+}
+
+/// Memory ran out before the list began.
+fn not_started<K>(unstarted: Unstarted<K>, readings: Vec<Reading>) -> Served<K>
+    ensures end { result.end ≡ ServeEnd.NoMemory }
+    ensures output { result.output ≡ unstarted.output }
+    ensures publisher { result.desk.publisher ≡ unstarted.publisher }
+    ensures readings { result.desk.readings ≡ readings }
+{
+    let Unstarted { publisher, output } = unstarted;
+    let desk = Desk {
+        publisher,
+        readings,
+    };
+    unserved(ServeEnd::NoMemory, output, desk)
 }
 
 /// The list has begun, and no worker was started.
@@ -292,75 +291,102 @@ fn serve_over<
         downstream,
     } = rig;
     let must_dial = store.is_none();
-    let seats = Seats {
-        listening: teach(rt, &provisioner, seats.listening),
-        linking: teach(rt, &provisioner, seats.linking),
-        transferring: teach(rt, &provisioner, seats.transferring),
-    };
+    let seats = teach_all(rt, &provisioner, seats);
     // what the lock guards may be shared
     publishers_may_be_sent();
     let shared = Shared::over(provisioner);
     let store = store.map(|store| Mutex::new(store));
-    let crew = run_crew(
-        rt,
-        alloc,
-        &Keeping::over(&shared, store.as_ref()),
-        Gear {
-            seats,
-            devices,
-            tools,
-            downstream,
-        },
-    );
+    let gear = Gear {
+        seats,
+        devices,
+        tools,
+        downstream,
+    };
+    let crew = run_crew(rt, alloc, &Keeping::over(&shared, store.as_ref()), gear);
     let parts = end_crew(rt, shared, &crew);
-    let Crew {
-        datagrams,
-        links,
-        transfers,
-    } = crew;
-    let end = judge(
-        parts.log_failed,
-        &Ends {
-            sessions: Pair {
-                first: datagrams.first.end,
-                second: datagrams.second.end,
-            },
-            links: Pair {
-                first: links.first.end,
-                second: links.second.end,
-            },
-        },
-        &transfers.first.transfers,
-        &transfers.second.transfers,
-        must_dial,
-    );
-    let (datagrams, listening) = part_listened(datagrams);
-    let (acceptors, linking) = part_linked(links);
-    let (dialers, transferring) = part_transferred(transfers);
-    close_datagrams(ports, datagrams);
-    close_acceptors(ports, acceptors);
-    close_dialers(ports, dialers);
+    let end = judge(parts.log_failed, &crew, must_dial);
+    let readings = give_back(ports, crew, readings);
     let Parts {
         fleet: _,
         publisher,
         output,
         log_failed: _,
     } = parts;
-    Served {
-        end,
-        output,
-        desk: Desk {
-            publisher,
-            readings: unseated(
-                Seats {
-                    listening,
-                    linking,
-                    transferring,
-                },
-                readings,
-            ),
-        },
-    }
+    let desk = Desk {
+        publisher,
+        readings,
+    };
+    Served { end, output, desk }
+}
+
+/// Gives all devices of a crew back, and puts its readings together.
+fn give_back<P: Ports, C: Drop>(
+    ports: &mut P,
+    crew: Crew<Pair<Listened<P::D, C>>, Pair<Linked<P::A, C>>, Pair<Transferred<P::L>>>,
+    readings: Vec<Reading>,
+) -> Vec<Reading>
+    requires out { (2 ≤ (P.datagrams ports.old).out) × (2 ≤ (P.acceptors ports.old).out)
+        × (2 ≤ (P.dialers ports.old).out) }
+    requires empty { length readings.items ≡ 0 }
+    requires room { 6 ≤ vec_capacity readings }
+    ensures readings { result.items ≡ crew.datagrams.first.reading
+        ∷ crew.datagrams.second.reading ∷ crew.links.first.reading ∷ crew.links.second.reading
+        ∷ crew.transfers.first.reading ∷ crew.transfers.second.reading ∷ [] }
+    ensures datagrams { P.datagrams ports.new ≡ both_back
+        (exchange (P.D.received (manually_drop_value crew.datagrams.first.device))
+        (P.D.sent (manually_drop_value crew.datagrams.first.device))
+        (P.D.is_closed (manually_drop_value crew.datagrams.first.device))
+        (P.D.faults (manually_drop_value crew.datagrams.first.device)))
+        (exchange (P.D.received (manually_drop_value crew.datagrams.second.device))
+        (P.D.sent (manually_drop_value crew.datagrams.second.device))
+        (P.D.is_closed (manually_drop_value crew.datagrams.second.device))
+        (P.D.faults (manually_drop_value crew.datagrams.second.device)))
+        (P.datagrams ports.old) }
+    ensures acceptors { P.acceptors ports.new ≡ both_back
+        (accepts (P.A.links (manually_drop_value crew.links.first.acceptor))
+        (P.A.out (manually_drop_value crew.links.first.acceptor))
+        (P.A.is_closed (manually_drop_value crew.links.first.acceptor))
+        (P.A.faults (manually_drop_value crew.links.first.acceptor)))
+        (accepts (P.A.links (manually_drop_value crew.links.second.acceptor))
+        (P.A.out (manually_drop_value crew.links.second.acceptor))
+        (P.A.is_closed (manually_drop_value crew.links.second.acceptor))
+        (P.A.faults (manually_drop_value crew.links.second.acceptor)))
+        (P.acceptors ports.old) }
+    ensures dialers { P.dialers ports.new ≡ both_back
+        (dials (P.L.links (manually_drop_value crew.transfers.first.dialer))
+        (P.L.out (manually_drop_value crew.transfers.first.dialer))
+        (P.L.faults (manually_drop_value crew.transfers.first.dialer)))
+        (dials (P.L.links (manually_drop_value crew.transfers.second.dialer))
+        (P.L.out (manually_drop_value crew.transfers.second.dialer))
+        (P.L.faults (manually_drop_value crew.transfers.second.dialer)))
+        (P.dialers ports.old) }
+    ensures later { P.faults ports.old ≤ P.faults ports.new }
+    ensures datagram_one { HasRisen 0 (P.D.faults (manually_drop_value crew.datagrams.first.device))
+        → HasRisen (P.faults ports.old) (P.faults ports.new) }
+    ensures datagram_two { HasRisen 0 (P.D.faults (manually_drop_value crew.datagrams.second.device))
+        → HasRisen (P.faults ports.old) (P.faults ports.new) }
+    ensures acceptor_one { HasRisen 0 (P.A.faults (manually_drop_value crew.links.first.acceptor))
+        → HasRisen (P.faults ports.old) (P.faults ports.new) }
+    ensures acceptor_two { HasRisen 0 (P.A.faults (manually_drop_value crew.links.second.acceptor))
+        → HasRisen (P.faults ports.old) (P.faults ports.new) }
+{
+    let Crew {
+        datagrams,
+        links,
+        transfers,
+    } = crew;
+    let (datagrams, listening) = part_listened(datagrams);
+    let (acceptors, linking) = part_linked(links);
+    let (dialers, transferring) = part_transferred(transfers);
+    close_datagrams(ports, datagrams);
+    close_acceptors(ports, acceptors);
+    close_dialers(ports, dialers);
+    let seats = Seats {
+        listening,
+        linking,
+        transferring,
+    };
+    unseated(seats, readings)
 }
 
 /// A seat for each worker, and what is left of the readings.

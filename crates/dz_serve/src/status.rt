@@ -5,6 +5,10 @@ ghost use Rattle.dz_query.specs.Links.{starved_at, unheard_at};
 ghost use Rattle.dz_serve.specs.Ends.{has_closed, is_whole, is_write_fault, unheard_in, IsClear};
 
 use crate::pair::Pair;
+use crate::tcp_worker::Linked;
+use crate::together::Crew;
+use crate::transfer_worker::Transferred;
+use crate::udp_worker::Listened;
 use dz_query::{LinksEnd, SessionEnd};
 use dz_transfer::{TransferEnd, Transfers};
 
@@ -25,87 +29,89 @@ pub enum ServeEnd {
     NoMemory,
 }
 
-/// How each worker ended.
-#[derive(Drop)]
-pub(crate) struct Ends {
-    pub sessions: Pair<SessionEnd>,
-    pub links: Pair<LinksEnd>,
-}
-
 /// The end after these: a fault of the log comes before one of the devices, and that before a link that was starved of memory.
 /// Where none of them is there and no dial was made though one must be, there was no memory for it: a catalog of which nothing
 /// was kept is due at each moment until its first job.
-pub(crate) fn judge(
+pub(crate) fn judge<D, A, L, C>(
     log_failed: bool,
-    ends: &Ends,
-    one: &Transfers,
-    two: &Transfers,
+    crew: &Crew<Pair<Listened<D, C>>, Pair<Linked<A, C>>, Pair<Transferred<L>>>,
     must_dial: bool,
 ) -> ServeEnd
     ensures log { is_write_fault result ≡ log_failed }
-    ensures session_one { result ≡ ServeEnd.Done → is_whole ends.now.sessions.first ≡ true }
-    ensures session_two { result ≡ ServeEnd.Done → is_whole ends.now.sessions.second ≡ true }
-    ensures links_one { result ≡ ServeEnd.Done → has_closed ends.now.links.first ≡ true }
-    ensures links_two { result ≡ ServeEnd.Done → has_closed ends.now.links.second ≡ true }
-    ensures fed_one { result ≡ ServeEnd.Done → starved_at ends.now.links.first ≡ false }
-    ensures fed_two { result ≡ ServeEnd.Done → starved_at ends.now.links.second ≡ false }
-    ensures heard_one { result ≡ ServeEnd.Done → unheard_in ends.now.sessions.first ≡ false }
-    ensures heard_two { result ≡ ServeEnd.Done → unheard_in ends.now.sessions.second ≡ false }
-    ensures heard_three { result ≡ ServeEnd.Done → unheard_at ends.now.links.first ≡ false }
-    ensures heard_four { result ≡ ServeEnd.Done → unheard_at ends.now.links.second ≡ false }
-    ensures clear_one { result ≡ ServeEnd.Done → IsClear one.now }
-    ensures clear_two { result ≡ ServeEnd.Done → IsClear two.now }
+    ensures session_one { result ≡ ServeEnd.Done → is_whole crew.now.datagrams.first.end ≡ true }
+    ensures session_two { result ≡ ServeEnd.Done → is_whole crew.now.datagrams.second.end ≡ true }
+    ensures links_one { result ≡ ServeEnd.Done → has_closed crew.now.links.first.end ≡ true }
+    ensures links_two { result ≡ ServeEnd.Done → has_closed crew.now.links.second.end ≡ true }
+    ensures fed_one { result ≡ ServeEnd.Done → starved_at crew.now.links.first.end ≡ false }
+    ensures fed_two { result ≡ ServeEnd.Done → starved_at crew.now.links.second.end ≡ false }
+    ensures heard_one { result ≡ ServeEnd.Done → unheard_in crew.now.datagrams.first.end ≡ false }
+    ensures heard_two { result ≡ ServeEnd.Done → unheard_in crew.now.datagrams.second.end ≡ false }
+    ensures heard_three { result ≡ ServeEnd.Done → unheard_at crew.now.links.first.end ≡ false }
+    ensures heard_four { result ≡ ServeEnd.Done → unheard_at crew.now.links.second.end ≡ false }
+    ensures clear_one { result ≡ ServeEnd.Done → IsClear crew.now.transfers.first.transfers }
+    ensures clear_two { result ≡ ServeEnd.Done → IsClear crew.now.transfers.second.transfers }
     ensures dialed { result ≡ ServeEnd.Done → must_dial ≡ true →
-        (one.now.dialed ≡ true) ⊎ (two.now.dialed ≡ true) }
-    ensures memory { result ≡ ServeEnd.NoMemory → (is_whole ends.now.sessions.first ≡ true)
-        × (is_whole ends.now.sessions.second ≡ true) × (has_closed ends.now.links.first ≡ true)
-        × (has_closed ends.now.links.second ≡ true) }
+        (crew.now.transfers.first.transfers.dialed ≡ true)
+        ⊎ (crew.now.transfers.second.transfers.dialed ≡ true) }
+    ensures memory { result ≡ ServeEnd.NoMemory →
+        (is_whole crew.now.datagrams.first.end ≡ true)
+        × (is_whole crew.now.datagrams.second.end ≡ true)
+        × (has_closed crew.now.links.first.end ≡ true)
+        × (has_closed crew.now.links.second.end ≡ true) }
     ensures input { (result ≢ ServeEnd.BadInput) × (result ≢ ServeEnd.ReadFault) }
     ensures port { result ≡ ServeEnd.PortFault →
-        (is_whole ends.now.sessions.first ≡ false) ⊎ ((is_whole ends.now.sessions.second ≡ false)
-        ⊎ ((has_closed ends.now.links.first ≡ false)
-        ⊎ (has_closed ends.now.links.second ≡ false))) }
+        (is_whole crew.now.datagrams.first.end ≡ false)
+        ⊎ ((is_whole crew.now.datagrams.second.end ≡ false)
+        ⊎ ((has_closed crew.now.links.first.end ≡ false)
+        ⊎ (has_closed crew.now.links.second.end ≡ false))) }
 {
     if log_failed {
         return ServeEnd::WriteFault;
     }
-    if !is_whole(ends.sessions.first) {
+    if !is_whole(crew.datagrams.first.end) {
         return ServeEnd::PortFault;
     }
-    if !is_whole(ends.sessions.second) {
+    if !is_whole(crew.datagrams.second.end) {
         return ServeEnd::PortFault;
     }
-    if !has_closed(ends.links.first) {
+    if !has_closed(crew.links.first.end) {
         return ServeEnd::PortFault;
     }
-    if !has_closed(ends.links.second) {
+    if !has_closed(crew.links.second.end) {
         return ServeEnd::PortFault;
     }
-    if has_starved(ends.links.first) {
+    if has_starved(crew.links.first.end) {
         return ServeEnd::NoMemory;
     }
-    if has_starved(ends.links.second) {
+    if has_starved(crew.links.second.end) {
         return ServeEnd::NoMemory;
     }
-    if !all_heard(ends) {
+    if !all_heard(crew) {
         return ServeEnd::NoMemory;
     }
-    judge_transfers(one, two, must_dial)
+    judge_transfers(
+        &crew.transfers.first.transfers,
+        &crew.transfers.second.transfers,
+        must_dial,
+    )
 }
 
 /// Whether each NOTIFY was heard. None goes unheard while no write to the log has failed, but no clause can say so.
-fn all_heard(ends: &Ends) -> bool
-    ensures one { result ≡ true → unheard_in ends.now.sessions.first ≡ false }
-    ensures two { result ≡ true → unheard_in ends.now.sessions.second ≡ false }
-    ensures three { result ≡ true → unheard_at ends.now.links.first ≡ false }
-    ensures four { result ≡ true → unheard_at ends.now.links.second ≡ false }
+fn all_heard<D, A, L, C>(
+    crew: &Crew<Pair<Listened<D, C>>, Pair<Linked<A, C>>, Pair<Transferred<L>>>,
+) -> bool
+    ensures one { result ≡ true → unheard_in crew.now.datagrams.first.end ≡ false }
+    ensures two { result ≡ true → unheard_in crew.now.datagrams.second.end ≡ false }
+    ensures three { result ≡ true → unheard_at crew.now.links.first.end ≡ false }
+    ensures four { result ≡ true → unheard_at crew.now.links.second.end ≡ false }
 {
-    !unheard_in(ends.sessions.first)
-        && !unheard_in(ends.sessions.second)
-        && !unheard_at(ends.links.first)
-        && !unheard_at(ends.links.second)
+    !unheard_in(crew.datagrams.first.end)
+        && !unheard_in(crew.datagrams.second.end)
+        && !unheard_at(crew.links.first.end)
+        && !unheard_at(crew.links.second.end)
 }
 
+/// The end after these transfers, where nothing else has failed.
 fn judge_transfers(one: &Transfers, two: &Transfers, must_dial: bool) -> ServeEnd
     ensures clear_one { result ≡ ServeEnd.Done → IsClear one.now }
     ensures clear_two { result ≡ ServeEnd.Done → IsClear two.now }

@@ -2,21 +2,17 @@
 
 ghost use Rattle.std.specs.Prelude.{◌≡◌, None};
 ghost use Rattle.std.specs.Mem.{manually_drop_value};
-ghost use Rattle.dz_io.specs.Ports.{accepts};
-ghost use Rattle.dz_serve.specs.Workers.{HasLinked, IsSeated};
+ghost use Rattle.dz_serve.specs.Workers.{IsSeated, ShowsLinking};
 
-use crate::together::held;
+use crate::together::{Work, held};
 use crate::tools::Tool;
 use dz_config::Downstream;
 use dz_desk::{Ear, Reading};
 use dz_header::ReplyBuffer;
 use dz_io::{Acceptor, Clock};
 use dz_query::{LinksEnd, serve_links};
-use std::marker::PhantomData;
 use std::mem::ManuallyDrop;
-use std::snapshot::Snapshot;
 use std::sync::Wait;
-use std::thread::Promise;
 
 /// What a link worker works with; zones are sent to these addresses.
 #[derive(Drop)]
@@ -61,27 +57,12 @@ pub(crate) struct Linked<A, C> {
     pub end: LinksEnd,
 }
 
-/// The promise of a link worker: what it hands on is what its sessions have to show.
-#[derive(Drop)]
-pub(crate) struct Links<E, W> {
-    pub before: Snapshot<W>,
-    pub of: PhantomData<E>,
-}
-
-impl<E: Ear, A: Acceptor, C: Clock> Promise<Linked<A, C>> for Links<E, Linking<A, C>> {
+impl<E: Ear, A: Acceptor, C: Clock> Work<E, Linked<A, C>> for Linking<A, C> {
     ghost use Rattle.std.specs.Mem.{manually_drop_value};
-    ghost use Rattle.dz_io.specs.Ports.{accepts};
-    ghost use Rattle.dz_serve.specs.Workers.{HasLinked};
+    ghost use Rattle.dz_serve.specs.Workers.{ShowsLinking};
 
-    ghost kept_by = { λ p d. HasLinked d.end p.before.value.downstream E.may_fail
-        (C.may_give p.before.value.clock) p.before.value.reading d.reading
-        (accepts (A.links (manually_drop_value p.before.value.acceptor))
-        (A.out (manually_drop_value p.before.value.acceptor))
-        (A.is_closed (manually_drop_value p.before.value.acceptor))
-        (A.faults (manually_drop_value p.before.value.acceptor)))
-        (accepts (A.links (manually_drop_value d.acceptor)) (A.out (manually_drop_value d.acceptor))
-        (A.is_closed (manually_drop_value d.acceptor)) (A.faults (manually_drop_value d.acceptor)))
-        (C.given p.before.value.clock) (C.given d.clock) };
+    ghost shows = { λ w d. ShowsLinking A.Acceptor C.Clock E.may_fail w.downstream
+        (manually_drop_value w.acceptor) w.reading w.clock d };
 }
 
 /// Serves the acceptor's links to its end.
@@ -92,17 +73,8 @@ pub(crate) fn link<E: Ear, A: Acceptor, C: Clock, R: Wait>(
 ) -> Linked<A, C>
     requires seated { IsSeated E.publisher work.reading }
     requires none { A.out (manually_drop_value work.acceptor) ≡ None }
-    ensures { HasLinked result.end work.downstream
-        E.may_fail (C.may_give work.clock) work.reading result.reading
-        (accepts (A.links (manually_drop_value work.acceptor))
-        (A.out (manually_drop_value work.acceptor))
-        (A.is_closed (manually_drop_value work.acceptor))
-        (A.faults (manually_drop_value work.acceptor)))
-        (accepts (A.links (manually_drop_value result.acceptor))
-        (A.out (manually_drop_value result.acceptor))
-        (A.is_closed (manually_drop_value result.acceptor))
-        (A.faults (manually_drop_value result.acceptor)))
-        (C.given work.clock) (C.given result.clock) }
+    ensures { ShowsLinking A.Acceptor C.Clock E.may_fail work.downstream
+        (manually_drop_value work.acceptor) work.reading work.clock result }
 {
     let Linking {
         mut reading,

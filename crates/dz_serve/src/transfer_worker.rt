@@ -2,19 +2,16 @@
 
 ghost use Rattle.std.specs.Prelude.{◌≡◌, None};
 ghost use Rattle.std.specs.Mem.{manually_drop_value};
-ghost use Rattle.dz_io.specs.Ports.{dials};
-ghost use Rattle.dz_serve.specs.Workers.{HasTransferred, IsSeated};
+ghost use Rattle.dz_serve.specs.Workers.{IsSeated, ShowsTransferring};
 
-use crate::together::held;
+use crate::together::{Work, held};
 use dz_desk::Reading;
 use dz_io::{Clock, Dialer};
 use dz_provision::Jobs;
 use dz_transfer::{Transfers, serve_transfers};
 use std::alloc::Global;
 use std::mem::ManuallyDrop;
-use std::snapshot::Snapshot;
 use std::sync::Wait;
-use std::thread::Promise;
 
 /// What a transfer worker works with.
 #[derive(Drop)]
@@ -47,22 +44,12 @@ pub(crate) struct Transferred<D> {
     pub transfers: Transfers,
 }
 
-/// The promise of a transfer worker: what it hands on is what its transfers have to show.
-#[derive(Drop)]
-pub(crate) struct Dialling<W>(pub Snapshot<W>);
-
-impl<D: Dialer, C: Clock> Promise<Transferred<D>> for Dialling<Transferring<D, C>> {
+impl<B: Jobs, D: Dialer, C: Clock> Work<B, Transferred<D>> for Transferring<D, C> {
     ghost use Rattle.std.specs.Mem.{manually_drop_value};
-    ghost use Rattle.dz_io.specs.Ports.{dials};
-    ghost use Rattle.dz_serve.specs.Workers.{HasTransferred};
+    ghost use Rattle.dz_serve.specs.Workers.{ShowsTransferring};
 
-    ghost kept_by = { λ p d. HasTransferred d.transfers
-        (C.may_stop p.0.value.clock) (C.may_give p.0.value.clock) p.0.value.reading d.reading
-        (dials (D.links (manually_drop_value p.0.value.dialer))
-        (D.out (manually_drop_value p.0.value.dialer))
-        (D.faults (manually_drop_value p.0.value.dialer)))
-        (dials (D.links (manually_drop_value d.dialer)) (D.out (manually_drop_value d.dialer))
-        (D.faults (manually_drop_value d.dialer))) };
+    ghost shows = { λ w d. ShowsTransferring D.Dialer C.Clock
+        (manually_drop_value w.dialer) w.reading w.clock d };
 }
 
 /// Makes transfers to the end.
@@ -74,13 +61,8 @@ pub(crate) fn transfer<B: Jobs, D: Dialer, C: Clock + Drop, R: Wait>(
 ) -> Transferred<D>
     requires seated { IsSeated B.publisher work.reading }
     requires none { D.out (manually_drop_value work.dialer) ≡ None }
-    ensures { HasTransferred result.transfers (C.may_stop work.clock) (C.may_give work.clock)
-        work.reading result.reading
-        (dials (D.links (manually_drop_value work.dialer)) (D.out (manually_drop_value work.dialer))
-        (D.faults (manually_drop_value work.dialer)))
-        (dials (D.links (manually_drop_value result.dialer))
-        (D.out (manually_drop_value result.dialer))
-        (D.faults (manually_drop_value result.dialer))) }
+    ensures { ShowsTransferring D.Dialer C.Clock
+        (manually_drop_value work.dialer) work.reading work.clock result }
 {
     let Transferring {
         mut reading,

@@ -2,20 +2,16 @@
 
 ghost use Rattle.std.specs.Prelude.{◌≡◌};
 ghost use Rattle.std.specs.Mem.{manually_drop_value};
-ghost use Rattle.dz_query.specs.Session.{told};
-ghost use Rattle.dz_serve.specs.Workers.{HasListened, IsSeated};
+ghost use Rattle.dz_serve.specs.Workers.{IsSeated, ShowsListening};
 
-use crate::together::held;
+use crate::together::{Work, held};
 use crate::tools::Tool;
 use dz_desk::{Ear, Reading};
 use dz_header::ReplyBuffer;
 use dz_io::{Clock, Datagrams};
 use dz_query::{SessionEnd, serve_datagrams};
-use std::marker::PhantomData;
 use std::mem::ManuallyDrop;
-use std::snapshot::Snapshot;
 use std::sync::Wait;
-use std::thread::Promise;
 
 /// What a datagram worker works with.
 #[derive(Drop)]
@@ -52,26 +48,12 @@ pub(crate) struct Listened<D, C> {
     pub end: SessionEnd,
 }
 
-/// The promise of a datagram worker: what it hands on is what its session has to show.
-#[derive(Drop)]
-pub(crate) struct Listens<E, W> {
-    pub before: Snapshot<W>,
-    pub of: PhantomData<E>,
-}
-
-impl<E: Ear, D: Datagrams, C: Clock> Promise<Listened<D, C>> for Listens<E, Listening<D, C>> {
+impl<E: Ear, D: Datagrams, C: Clock> Work<E, Listened<D, C>> for Listening<D, C> {
     ghost use Rattle.std.specs.Mem.{manually_drop_value};
-    ghost use Rattle.dz_query.specs.Session.{told};
-    ghost use Rattle.dz_serve.specs.Workers.{HasListened};
+    ghost use Rattle.dz_serve.specs.Workers.{ShowsListening};
 
-    ghost kept_by = { λ p d. HasListened d.end (D.is_closed (manually_drop_value d.device))
-        E.may_fail (C.may_give p.before.value.clock) p.before.value.reading d.reading
-        (told (D.received (manually_drop_value p.before.value.device))
-        (D.sent (manually_drop_value p.before.value.device))
-        (D.faults (manually_drop_value p.before.value.device)) p.before.value.reading.sights
-        (C.given p.before.value.clock))
-        (told (D.received (manually_drop_value d.device)) (D.sent (manually_drop_value d.device))
-        (D.faults (manually_drop_value d.device)) d.reading.sights (C.given d.clock)) };
+    ghost shows = { λ w d. ShowsListening D.Datagrams C.Clock E.may_fail
+        (manually_drop_value w.device) w.reading w.clock d };
 }
 
 /// Serves the device to its end.
@@ -81,15 +63,8 @@ pub(crate) fn listen<E: Ear, D: Datagrams, C: Clock, R: Wait>(
     work: Listening<D, C>,
 ) -> Listened<D, C>
     requires { IsSeated E.publisher work.reading }
-    ensures { HasListened result.end (D.is_closed (manually_drop_value result.device))
-        E.may_fail (C.may_give work.clock) work.reading result.reading
-        (told (D.received (manually_drop_value work.device))
-        (D.sent (manually_drop_value work.device))
-        (D.faults (manually_drop_value work.device)) work.reading.sights (C.given work.clock))
-        (told (D.received (manually_drop_value result.device))
-        (D.sent (manually_drop_value result.device))
-        (D.faults (manually_drop_value result.device)) result.reading.sights
-        (C.given result.clock)) }
+    ensures { ShowsListening D.Datagrams C.Clock E.may_fail
+        (manually_drop_value work.device) work.reading work.clock result }
 {
     let Listening {
         mut reading,

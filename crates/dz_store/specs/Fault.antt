@@ -1,4 +1,4 @@
--- Meaning: the fault of a store that an error of its records is.
+-- Answer: the fault of a store that an error of its records is.
 use Rattle.dz_disk.specs.declared.record_error.RecordError.{RecordError}
 use Rattle.dz_disk.specs.declared.record_error.RecordError.TheVariants as errors
 use Rattle.dz_store.specs.declared.fault.StoreFault.{StoreFault}

@@ -1,4 +1,4 @@
-//! Laws of what a store keeps.
+//! Laws of what a store keeps. Each is a contract without a call, so its body is empty.
 
 ghost use Rattle.dz_store.specs.Laws.{SavedIsKept, ForgottenIsGone, CrashKeeps, ReadsStrictly, WrittenReads};
 

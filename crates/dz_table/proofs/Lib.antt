@@ -3,6 +3,5 @@ pub mod Nearest
 pub mod Putting
 pub mod KeptLemmas
 pub mod LastLemmas
-pub mod SharedLemmas
 pub mod AheadLemmas
 pub mod AboveLemmas

@@ -2,7 +2,6 @@
 #![tactic(auto)]
 
 mod ahead;
-mod shared;
 mod shared_slot;
 mod slot;
 mod slots;

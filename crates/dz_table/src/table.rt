@@ -6,12 +6,12 @@ ghost use Rattle.dz_name.specs.Words.{Name};
 ghost use Rattle.dz_table.specs.Table.{closest_for, closest_above, IsTable, IsClosest, put, without, slot_of, closest};
 
 use crate::ahead::Ahead;
-use crate::shared::labels_apart;
 use crate::shared_slot::{SharedSlot, entries_of};
 use crate::slot::Slot;
 use crate::slots::Slots;
 use crate::zone_key::ZoneKey;
 use dz_chunks::{Chunks, Copies};
+use dz_index::labels_apart;
 use dz_name::Name;
 use dz_name::dns::TYPE_DS;
 use dz_steps::Steps;

@@ -5,8 +5,10 @@ use Rattle.std.specs.List.{remove}
 use Rattle.std.proofs.lemmas.Bool.{and_parts, cases_Bool}
 use Rattle.dz_name.specs.Name.{same_name}
 use Rattle.dz_name.specs.Order.{same_decides}
-use Rattle.dz_xfr.specs.declared.fault.ShapeFault.TheVariants.{NotSoaFirst}
-use Rattle.dz_xfr.specs.Apex.{is_apex_soa, apex_serial, serial_of}
+use Rattle.dz_xfr.specs.declared.fault.ShapeFault.TheVariants.{NotSoaFirst, SerialGap}
+use Rattle.dz_xfr.specs.Apex.{is_apex_soa, apex_serial, serial_of, held_serial}
+use Rattle.dz_xfr.specs.Place.{amid, failed, read, said}
+use Rattle.dz_xfr.proofs.ReadingLemmas.{stays_failed}
 use Rattle.dz_take.specs.declared.outcome.TakeFault.TheVariants as faults
 use Rattle.dz_name.specs.Words.{Name}
 use Rattle.dz_record.specs.Record.{Record}
@@ -16,20 +18,20 @@ use Rattle.dz_zone.specs.Version.{Zone}
 use Rattle.dz_zone.specs.declared.fault.ZoneFault.{ZoneFault}
 use Rattle.dz_xfr.specs.declared.fault.FeedError.{FeedError}
 use Rattle.dz_xfr.specs.declared.fault.FeedError.TheVariants.{Shape, OutOfMemory}
-use Rattle.dz_xfr.specs.Feeding.{Says}
+use Rattle.dz_xfr.specs.Answers.{Says}
 use Rattle.dz_xfr.specs.Stands.{Forms, Blaming, IsComplete, Reading, more, complete, misfit, Stands, is_complete}
 use Rattle.dz_axfr.specs.Whole.{IsWhole}
 use Rattle.dz_axfr.specs.Whole as whole
 use Rattle.dz_axfr.specs.Reading as whole_reading
 use Rattle.dz_axfr.specs.Assembly as whole_assembly
 use Rattle.dz_axfr.proofs.WholeLemmas.{whole_stands_once}
-use Rattle.dz_ixfr.specs.Incremental.{IsIncremental}
+use Rattle.dz_ixfr.specs.Incremental.{IsIncremental, others}
 use Rattle.dz_ixfr.specs.Incremental as incremental
 use Rattle.dz_ixfr.specs.Reading as incremental_reading
 use Rattle.dz_ixfr.specs.Assembly as incremental_assembly
 use Rattle.dz_ixfr.proofs.Amids.{form_stands_once}
 use Rattle.dz_take.specs.declared.outcome.Outcome.{Outcome}
-use Rattle.dz_take.specs.Form.{settled, base_of, reading_of, checked, decision_of, form}
+use Rattle.dz_take.specs.Form.{settled, base_of, is_old_soa, reading_of, checked, decision_of, form}
 use Rattle.dz_take.specs.Taken.{meaning_of}
 use Rattle.dz_take.specs.Transfer.{Transfer, Decision, refused}
 use Rattle.dz_take.specs.inner.Following.{begins_differences, Opens, IsWholeKind, IsIncrementalKind, AtWhole, AtDifferences, Refuses, serial_settles}
@@ -214,3 +216,20 @@ second_is (r ∷ records) second e = (records, let k : second ≡ r = cc in rw k
 pub none_first : (records : List Record) → None ≡ slice_get records 0 → records ≡ []
 none_first [] e = refl
 none_first (r ∷ records) e = absurd (cc)
+
+-- differences that begin with another serial than the held one
+gap_reads : (zone : Zone) (first second : Record) (rest : List Record) → is_apex_soa zone.apex first ≡ true → is_apex_soa zone.apex second ≡ true → (serial_of second == held_serial zone) ≡ false
+    → incremental_reading.reading_of zone (first ∷ second ∷ rest) ≡ misfit SerialGap
+gap_reads zone first second rest f s g =
+    let one = incremental_reading.one zone.apex in
+    let begun : one (incremental_reading.start zone) first ≡ amid (incremental_reading.begun first (held_serial zone) (others zone)) = rw f refl in
+    let gap : one (incremental_reading.begun first (held_serial zone) (others zone)) second ≡ failed SerialGap = rw (s, g) refl in
+    ap said (ap (λ p. read one p (second ∷ rest)) begun ∙ (ap (λ p. read one p rest) gap ∙ stays_failed one SerialGap rest))
+
+pub form_gap : (transfer : Transfer) (zone : Zone) (first second : Record) (records : List Record) → Opens transfer first → base_of transfer.ask transfer.held ≡ Some zone → is_old_soa transfer.apex first second ≡ true
+    → zone.apex ≡ transfer.apex → Some second ≡ slice_get records 0 → (serial_of second == held_serial zone) ≡ false → form transfer (first ∷ records) ≡ Some (refused (faults.Shape SerialGap))
+form_gap transfer zone first second records opens base kind same there gap =
+    let w = second_is records second there in
+    let k : IsIncrementalKind transfer zone (first ∷ second ∷ w.0) = record { first = first; second = second; rest = w.0; are = refl; opens = opens; base = base; kind = kind } in
+    let soa = (and_parts (is_apex_soa transfer.apex second) _ kind).0 in
+    rw w.1 (form_incremental transfer zone (first ∷ second ∷ w.0) k ∙ ap (decision_of transfer.apex) (gap_reads zone first second w.0 (rw same opens.soa) (rw same soa) gap))

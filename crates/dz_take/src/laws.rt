@@ -1,5 +1,6 @@
-//! Laws of what comes of a transfer.
+//! Laws of what comes of a transfer. Each is a contract without a call, so its body is empty.
 
+ghost use Rattle.dz_take.specs.Fit.{OutcomesFit};
 ghost use Rattle.dz_take.specs.Laws.{MessagesDecide, FirstDecides, DecidingDecides, NoneDecides, FormDecides, FormStands};
 
 /// The outcome is that of the messages, however their octets were cut; a part of a frame after them doesn't count.
@@ -19,4 +20,10 @@ pub fn first_decides()
 pub fn form_decides()
     ensures decides { FormDecides }
     ensures stands { FormStands }
+{}
+
+/// What comes of a transfer fits it: the held version can be the primary's only where one is held, and a new one is of
+/// the zone that was asked for.
+pub fn outcomes_fit()
+    ensures { OutcomesFit }
 {}

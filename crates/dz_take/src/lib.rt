@@ -3,7 +3,6 @@
 
 mod ask;
 mod finished;
-mod fits;
 mod judge;
 mod laws;
 mod outcome;
@@ -18,7 +17,6 @@ pub use dz_xfr::{Progress, ShapeFault};
 pub use dz_zone::ZoneFault;
 pub use dz_zonemd::Standing;
 pub use finished::Finished;
-pub use fits::outcomes_fit;
-pub use laws::{first_decides, form_decides, messages_decide};
+pub use laws::{first_decides, form_decides, messages_decide, outcomes_fit};
 pub use outcome::{Outcome, TakeFault};
 pub use taking::Taking;

@@ -1,16 +1,16 @@
 //! The answer records of a transfer, message by message.
 
-ghost use Rattle.std.specs.Prelude.{◌≡◌, ◌∷◌, ◌++◌, IfOk, option_map, true};
+ghost use Rattle.std.specs.Prelude.{◌≡◌, ◌==◌, ◌∷◌, ◌++◌, IfOk, option_map, true};
 ghost use Rattle.dz_record.specs.Records.{distinct};
 ghost use Rattle.dz_zone.specs.Valid.{fault_of};
-ghost use Rattle.dz_xfr.specs.Apex.{is_apex_soa};
+ghost use Rattle.dz_xfr.specs.Apex.{is_apex_soa, serial_of, held_serial};
 ghost use Rattle.dz_xfr.specs.Feeding.{IsOpen};
 ghost use Rattle.dz_axfr.specs.Whole.{IsWhole};
 ghost use Rattle.dz_axfr.specs.Whole as whole_form;
 ghost use Rattle.dz_ixfr.specs.Incremental.{IsIncremental};
 ghost use Rattle.dz_ixfr.specs.Incremental as incremental_form;
 ghost use Rattle.dz_take.specs.Form.{is_old_soa, checked};
-ghost use Rattle.dz_xfr.specs.declared.fault.ShapeFault.TheVariants.{NotSoaFirst};
+ghost use Rattle.dz_xfr.specs.declared.fault.ShapeFault.TheVariants.{NotSoaFirst, SerialGap};
 ghost use Rattle.dz_take.specs.declared.outcome.TakeFault.TheVariants as faults;
 ghost use Rattle.dz_take.specs.Taken.{meaning_of};
 ghost use Rattle.dz_take.specs.Transfer.{refused};
@@ -99,7 +99,8 @@ fn settled(transfer: &Transfer, serial: u32) -> Option<Outcome>
     }
 }
 
-/// Begins a form that this SOA opens, and reads the records after it. `AllocError` where memory runs out.
+/// Begins a form that this SOA opens, and reads the records after it. Differences that don't lead on from the held
+/// version are refused before its records are looked at. `AllocError` where memory runs out.
 fn begin_form(
     alloc: Global,
     transfer: &Transfer,
@@ -113,6 +114,9 @@ fn begin_form(
         None => Ok(State::First(first)),
         Some(second) => match differences_base(transfer, &first, second) {
             Some(version) => {
+                if !leads_from(transfer.apex(), version, second) {
+                    return Ok(State::Ended(serial_gap()));
+                }
                 let differences = Differences::start(alloc, version, first)?;
                 feed_differences(alloc, transfer, differences, records)
             }
@@ -144,6 +148,24 @@ fn is_old_soa(apex: &Name, first: &Rr, second: &Rr) -> bool
         (Some(new), Some(old)) => old != new,
         _ => false,
     }
+}
+
+/// Whether an SOA of the apex, with which differences begin, has the serial of the version.
+fn leads_from(apex: &Name, version: &Version, old: &Rr) -> bool
+    requires { is_apex_soa apex.now old.now ≡ true }
+    ensures { result ≡ (serial_of old.now == held_serial version.now) }
+{
+    match apex_serial(apex, old) {
+        Some(serial) => serial == held_serial(version),
+        None => false,
+    }
+}
+
+/// The outcome where an SOA has another serial than it must have at its place.
+fn serial_gap() -> Outcome
+    ensures { meaning_of result ≡ refused (faults.Shape SerialGap) }
+{
+    Outcome::Refused(TakeFault::Shape(ShapeFault::SerialGap))
 }
 
 /// Reads further records of the whole form. `AllocError` where memory runs out.

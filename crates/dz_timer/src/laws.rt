@@ -1,4 +1,4 @@
-//! Laws of the timing of a zone, for all values.
+//! Laws of the timing of a zone, for all values. Each is a contract without a call, so its body is empty.
 
 ghost use Rattle.dz_timer.specs.Laws.{NotifyIsKept, JobWaits};
 

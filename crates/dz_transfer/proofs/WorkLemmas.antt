@@ -22,7 +22,7 @@ use Rattle.dz_desk.proofs.PrefixLemmas.{prefix_length}
 use Rattle.dz_provision.specs.declared.provisioner.LogFault.{LogFault}
 use Rattle.dz_provision.specs.declared.provisioner.Unmade.{Unmade}
 use Rattle.dz_provision.specs.declared.provisioner.Unmade.TheVariants as unmade
-use Rattle.dz_provision.specs.Endings.{EndingOf, EndsAmong, settling, failing, settled_ending, failed_ending}
+use Rattle.dz_provision.specs.Endings.{EndingOf, EndsAmong, settling, failing, starving, settled_ending, failed_ending, starved_ending}
 use Rattle.dz_provision.specs.Receipts.{core_of, verdict_after, IsDueAt, WasDue, IsHandedAt, IsSettledAt, IsFailedAt}
 use Rattle.dz_fetch.specs.Query.{query_of}
 use Rattle.dz_fetch.specs.declared.fetched.Fetched.TheVariants as fetched
@@ -182,6 +182,14 @@ module _ (job : JobOf) (list later : List Entry) (handed : IsDueAt job list) (p 
   failed_worked (Err (unmade.NotInFlight absent)) cause ending moment link own told s = (s, told)
   failed_worked (Err unmade.LogFault) cause ending moment link own told s = told
 
+  -- a job that failed since its fetch ran out of memory
+  starved_worked : (r : Result Failure Unmade) (ending : Option EndingOf) (moment : ℕ) (link : Option Dialled) → ending ≡ starved_ending job moment r → IsFailedAt r job (length list) later
+      → IsWorked (failed_report r report.OutOfMemory) job link ending (length list) later
+  starved_worked (Ok failures.Failed) ending moment link told s = inr (moment, told)
+  starved_worked (Ok (failures.Stale n)) ending moment link told s = record { late = late n s; end = s; told = inr (moment, told) }
+  starved_worked (Err (unmade.NotInFlight absent)) ending moment link told s = (s, told)
+  starved_worked (Err unmade.LogFault) ending moment link told s = told
+
   fault_made : (link : Option Dialled) → IsFetched fetched.LinkFault job link → IsMadeFor job link
   fault_made None is = tt
   fault_made (Some l) is = is
@@ -201,11 +209,11 @@ module _ (job : JobOf) (list later : List Entry) (handed : IsDueAt job list) (p 
   }
 
   pub starved_work : (r : Result Failure Unmade) (ending : Option EndingOf) (moment : ℕ) (before now : Option (List Dialled)) (faults count : ℕ) → IsFetch fetched.OutOfMemory job before now faults count
-      → ending ≡ failed_ending job moment r → IsFailedAt r job (length list) later → HasDialled (failed_report r report.OutOfMemory) ending (length list) later before now faults count
+      → ending ≡ starved_ending job moment r → IsFailedAt r job (length list) later → HasDialled (failed_report r report.OutOfMemory) ending (length list) later before now faults count
   starved_work r ending moment before now faults count f told s = record {
     job = job;
     link = f.link;
-    dial = dialled_by (failed_report r report.OutOfMemory) ending f.link (starved_made f.link f.fetched) (failed_worked r report.OutOfMemory ending moment f.link (λ own. inr (moment, own)) told s);
+    dial = dialled_by (failed_report r report.OutOfMemory) ending f.link (starved_made f.link f.fetched) (starved_worked r ending moment f.link told s);
     gains = f.gains;
     shown = f.shown;
   }
@@ -226,6 +234,11 @@ settled_among may job octets now (Err why) ending told m = rw told tt
 pub failed_among : (may : ℕ → Bool) (job : JobOf) (now : ℕ) (r : Result Failure Unmade) (ending : Option EndingOf) → ending ≡ failed_ending job now r → may now ≡ true → IfSome ending (EndsAmong may)
 failed_among may job now (Ok failure) ending told m = rw told m
 failed_among may job now (Err why) ending told m = rw told tt
+
+pub starved_among : (may : ℕ → Bool) (job : JobOf) (now : ℕ) (r : Result Failure Unmade) (ending : Option EndingOf) → ending ≡ starved_ending job now r → may now ≡ true → IfSome ending (EndsAmong may)
+starved_among may job now (Ok failures.Failed) ending told m = rw told m
+starved_among may job now (Ok (failures.Stale n)) ending told m = rw told m
+starved_among may job now (Err why) ending told m = rw told tt
 
 -- the transfer that was read is the job's
 of_link : (read : Taken) (job : JobOf) (link : Option Dialled) → IsFetched (fetched.Finished read) job link → read.transfer ≡ transfer_for job

@@ -1,4 +1,4 @@
--- Meaning: what a call of a transfer worker came to, and what it shows of the job that it had and the link that it made.
+-- Answer: what a call of a transfer worker came to, and what it shows of the job that it had and the link that it made.
 use Rattle.std.specs.Prelude.{⊤, ◌≡◌, ◌≤◌, ◌<◌, ◌⊎◌, ℕ, ◌-◌, ◌^◌, Bool, true, false, List, [], take, slice_get, Option, None, Some, IfSome, Result, Ok, Err}
 use Rattle.dz_io.specs.Device.{Gains}
 use Rattle.dz_io.specs.Links.{Dialled}
@@ -13,7 +13,7 @@ use Rattle.dz_job.specs.declared.verdict.Failure.TheVariants as failures
 use Rattle.dz_fleet.specs.Core.{entry_for}
 use Rattle.dz_provision.specs.declared.provisioner.Unmade.{Unmade}
 use Rattle.dz_provision.specs.declared.provisioner.Unmade.TheVariants as unmade
-use Rattle.dz_provision.specs.Endings.{EndingOf, settling, failing}
+use Rattle.dz_provision.specs.Endings.{EndingOf, settling, failing, starving}
 use Rattle.dz_provision.specs.Receipts.{verdict_after, WasDue, IsBetween}
 use Rattle.dz_fetch.specs.Fetching.{IsFetchedOver, IsDialledFor, ShowsDial, links_of}
 use Rattle.dz_transfer.specs.declared.report.Report.{Report}
@@ -56,9 +56,13 @@ pub record IsTaken (r : Report) (n : ℕ) (job : JobOf) (link : Dialled) (ending
   pub late : from ≤ n
   pub entry : slice_get list n ≡ Some (entry_for job settled.read.octets)
 
--- as one that failed; and for want of memory, for which it may have failed too
+-- as one that failed; as one that failed since its fetch ran out of memory, of which a line was written; and for want of
+-- memory for what was read
 abbrev pub HasFailed : JobOf → Option EndingOf → Failure → Type 0
 HasFailed job ending failure = (moment : ℕ) × (ending ≡ Some (failing job moment failure))
+
+abbrev pub HasRunOut : JobOf → Option EndingOf → Failure → Type 0
+HasRunOut job ending failure = (moment : ℕ) × (ending ≡ Some (starving job moment failure))
 
 abbrev pub HasStarved : JobOf → Option EndingOf → Type 0
 HasStarved job ending = (moment : ℕ) × (ending ≡ Some (settling job [] moment OutOfMemory))
@@ -85,7 +89,7 @@ IsWorked (report.Stale n) job link ending from list = IsStale n job link ending 
 IsWorked (report.NotInFlight absent) job link ending from list = IsBetween from absent.count list × (ending ≡ None)
 IsWorked report.LinkFault job link ending from list = HasFailed job ending failures.Failed
 IsWorked report.LogFault job link ending from list = ending ≡ None
-IsWorked report.OutOfMemory job link ending from list = HasStarved job ending ⊎ HasFailed job ending failures.Failed
+IsWorked report.OutOfMemory job link ending from list = HasStarved job ending ⊎ HasRunOut job ending failures.Failed
 IsWorked (report.Idle q) job link ending from list = ⊥
 IsWorked (report.Full q) job link ending from list = ⊥
 

@@ -1,4 +1,4 @@
--- Meaning: what a transfer worker shows of all its dials.
+-- Answer: what a transfer worker shows of all its dials.
 use Rattle.std.specs.Prelude.{⊤, ◌≡◌, ◌≤◌, ◌<◌, ◌⊎◌, ◌+◌, ◌-◌, ◌^◌, ℕ, Bool, true, false, List, [], ◌∷◌, ◌++◌, length, take, option_to_list, Option}
 use Rattle.dz_io.specs.Counts.{HasRisen, HasRisenBy}
 use Rattle.dz_io.specs.Device.{Gains}

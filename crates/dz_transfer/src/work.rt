@@ -118,7 +118,7 @@ fn transfer<B: Jobs, D: Dialer, C: Clock, R: Wait>(
         }
         Fetched::OutOfMemory => {
             let now = clock.now();
-            let ended = jobs.fail(rt, reading, job, now);
+            let ended = jobs.starve(rt, reading, job, now);
             reading.count();
             dialled(
                 failed_report(ended.answer, Report::OutOfMemory),

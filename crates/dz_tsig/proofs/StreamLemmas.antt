@@ -18,7 +18,8 @@ use Rattle.dz_message.specs.Reading.{message_of}
 use Rattle.dz_message.proofs.FrameLemmas.{is_cut}
 use Rattle.dz_message.proofs.SpellingLemmas.{spelled}
 use Rattle.dz_tsig.specs.Signing.{with_tsig}
-use Rattle.dz_tsig.specs.Streams.{IsSigned, IsSignedSo, are_messages, is_message, next_mac, signed_from, signed_messages}
+use Rattle.dz_tsig.specs.Streams.{IsSignedSo, are_messages, is_message, next_mac, signed_from, signed_messages}
+use Rattle.dz_tsig.specs.Answers.{IsSigned}
 use Rattle.dz_tsig.specs.inner.Streams.{AreLeft, Appends, IsAppended, ReadsOn, SignsOn}
 use Rattle.dz_tsig.specs.declared.streams.SignError.{SignError}
 use Rattle.dz_tsig.specs.declared.streams.SignError.TheVariants as errors

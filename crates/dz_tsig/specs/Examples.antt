@@ -20,8 +20,8 @@ use Rattle.dz_tsig.specs.declared.fault.TsigFault.TheVariants as faults
 use Rattle.dz_tsig.specs.declared.mac.TheConstants.{BLOCK_OCTETS, IPAD, MAC_OCTETS, OPAD}
 use Rattle.dz_settings.specs.declared.key.Key.{Key}
 use Rattle.dz_tsig.specs.declared.signature.Signature.TheVariants.{Absent, Malformed, Present}
-use Rattle.dz_tsig.specs.declared.signature.TheConstants.{CLASS_ANY, TYPE_TSIG}
-use Rattle.dz_tsig.specs.declared.sign.TheConstants.{FUDGE}
+use Rattle.dz_tsig.specs.declared.signature.TheConstants.{CLASS_ANY, POINTER, TYPE_TSIG}
+use Rattle.dz_tsig.specs.declared.sign.TheConstants.{FUDGE, RDATA_OCTETS}
 
 -- ---- numbers: RFC 8945 sections 4.2, 10 and 5.3.1; RFC 2104 section 2 and FIPS 180-4
 pub tsig_is_250 : TYPE_TSIG ≡ 250
@@ -29,6 +29,12 @@ tsig_is_250 = refl
 
 pub any_is_255 : CLASS_ANY ≡ 255
 any_is_255 = refl
+
+pub pointer_is_192 : POINTER ≡ 192
+pointer_is_192 = refl
+
+pub rdata_octets_is_61 : RDATA_OCTETS ≡ 61
+rdata_octets_is_61 = refl
 
 pub fudge_is_300 : FUDGE ≡ 300
 fudge_is_300 = refl

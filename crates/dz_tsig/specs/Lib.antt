@@ -1,10 +1,11 @@
-pub mod Examples
+pub mod Answers
 pub mod Checking
+pub mod Examples
 pub mod Fault
 pub mod Hmac
 pub mod Laws
-pub mod Signature
 pub mod Numbers
+pub mod Signature
 pub mod Signing
 pub mod Streams
 pub mod Tsig

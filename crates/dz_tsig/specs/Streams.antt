@@ -1,5 +1,5 @@
 -- Meaning: answers of several messages, each of which is signed (RFC 8945 section 5.3.1).
-use Rattle.std.specs.Prelude.{⊤, ◌≡◌, ℕ, Bool, true, false, ◌&&◌, is_ok, List, [], ◌∷◌, ◌++◌, Result, Ok, Err, if◌then◌else◌}
+use Rattle.std.specs.Prelude.{◌≡◌, ℕ, Bool, true, false, ◌&&◌, is_ok, List, [], ◌∷◌, ◌++◌, if◌then◌else◌}
 use Rattle.std.specs.List.{list_all}
 use Rattle.std.specs.Str.{bytes_eq}
 use Rattle.dz_name.specs.Words.{Octets}
@@ -9,8 +9,6 @@ use Rattle.dz_tsig.specs.Hmac.{hmac}
 use Rattle.dz_tsig.specs.Signing.{timers, variables, mac_octets, with_tsig}
 use Rattle.dz_settings.specs.declared.key.Key.{Key}
 use Rattle.dz_tsig.specs.declared.sign.TheConstants.{FUDGE}
-use Rattle.dz_tsig.specs.declared.streams.SignError.{SignError}
-use Rattle.dz_tsig.specs.declared.streams.SignError.TheVariants as errors
 
 -- what is digested after a message that is signed: in the first one the variables, and in a later one the timers
 abbrev pub own_variables_or_timers : Key → ℕ → Bool → Octets
@@ -49,11 +47,3 @@ pub record IsSignedSo (key : Key) (moment : ℕ) (mac octets result : Octets) : 
 pub record IsTooLong (key : Key) (moment : ℕ) (mac octets : Octets) : Type 0 where
   pub messages : are_messages octets ≡ true
   pub long : ¬ (AreShort (signed_messages key moment mac (messages_in octets)))
-
--- what a call gave: the signed messages; or BadFrames, where octets aren't whole frames of messages; or else TooLong.
--- Running out of memory says nothing
-abbrev pub IsSigned : Key → ℕ → Octets → Octets → Result Octets SignError → Type 0
-IsSigned key moment mac octets (Ok out) = IsSignedSo key moment mac octets out
-IsSigned key moment mac octets (Err errors.BadFrames) = are_messages octets ≡ false
-IsSigned key moment mac octets (Err errors.TooLong) = IsTooLong key moment mac octets
-IsSigned key moment mac octets (Err errors.OutOfMemory) = ⊤

@@ -1,4 +1,4 @@
-//! Laws of signed streams.
+//! Laws of signed streams. Each is a contract without a call, so its body is empty.
 ghost use Rattle.dz_tsig.specs.Laws.{ChangedMacIsFound, SignedHasNoFault};
 
 /// What is signed has no fault at its moment.

@@ -6,7 +6,8 @@ ghost use Rattle.dz_message.specs.Frame.{messages_in};
 ghost use Rattle.dz_message.specs.Reading.{message_of};
 ghost use Rattle.dz_settings.specs.Key.{IsKey};
 ghost use Rattle.dz_tsig.specs.Signing.{mac_octets, with_tsig};
-ghost use Rattle.dz_tsig.specs.Streams.{IsSigned, are_messages, is_message, next_mac, own_variables_or_timers, signed_messages};
+ghost use Rattle.dz_tsig.specs.Streams.{are_messages, is_message, next_mac, own_variables_or_timers, signed_messages};
+ghost use Rattle.dz_tsig.specs.Answers.{IsSigned};
 ghost use Rattle.dz_tsig.specs.declared.streams.SignError.TheVariants.{OutOfMemory};
 ghost use Rattle.dz_tsig.specs.inner.Streams.{Appends};
 

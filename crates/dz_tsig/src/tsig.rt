@@ -7,8 +7,8 @@ ghost use Rattle.dz_tsig.specs.Tsig.{after_names};
 
 use crate::signature::CLASS_ANY;
 use dz_header::RecordHead;
+use dz_name::Name;
 use dz_name::numbers::number_of_two;
-use dz_name::{Name, Wire};
 use std::marker::Model;
 
 /// A TSIG record on the octets of its message (RFC 8945 section 4.2): where it begins, its owner name and its RDATA.
@@ -62,12 +62,11 @@ pub(crate) fn tsig_at<'m>(
     if !(head.class == CLASS_ANY && head.ttl == 0) {
         return None;
     }
-    let wire = Wire::plain(message);
-    let key = match Name::read_in(&wire, at) {
+    let key = match Name::read_at(message, at) {
         Ok((key, _)) => key,
         Err(_) => return None,
     };
-    match Name::read_in(&wire, message.len() - rdata.len()) {
+    match Name::read_at(message, message.len() - rdata.len()) {
         Ok((algorithm, end)) => after_names(at, key, algorithm, message.split_at(end).1),
         Err(_) => None,
     }

@@ -6,7 +6,9 @@
 mod apex;
 mod fault;
 mod fed;
+mod room;
 
 pub use apex::{apex_serial, held_serial, is_apex_soa, same_rdata};
 pub use fault::{FeedError, Progress, ShapeFault};
 pub use fed::Fed;
+pub use room::{KEPT_OCTETS, KEPT_RECORDS, Room};

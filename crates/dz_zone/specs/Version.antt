@@ -1,6 +1,6 @@
 -- Meaning: versions of zones, and which records make one (RFC 1034 section 3.6.2, RFC 2181 section 5, RFC 4034 section
 -- 6).
-use Rattle.std.specs.Prelude.{◌≡◌, ℕ, ◌<◌, length, slice_index_or, Bool, ◌==◌, ◌&&◌, ◌||◌, not, List, map, Option, Some, None, Result, Ok, Err, ⊤}
+use Rattle.std.specs.Prelude.{◌≡◌, ℕ, ◌<◌, length, slice_index_or, Bool, ◌==◌, ◌&&◌, ◌||◌, not, List, map, Option, Some, None}
 use Rattle.std.specs.List.{All, find, list_any}
 use Rattle.std.specs.List.Sorted.{IsStrictlySortedBy}
 use Rattle.dz_name.specs.Words.{Name, Kind}
@@ -9,8 +9,6 @@ use Rattle.dz_name.specs.Name.{same_name}
 use Rattle.dz_record.specs.Record.{Record, IsRecord, record_order}
 use Rattle.dz_record.specs.Records.{distinct, in_order}
 use Rattle.dz_zone.specs.Valid.{at_apex, fault_of}
-use Rattle.dz_zone.specs.declared.fault.ZoneError.{ZoneError}
-use Rattle.dz_zone.specs.declared.fault.ZoneError.TheVariants.{Fault, OutOfMemory}
 
 -- a zone: the name of its apex, and its records
 pub record Zone : Type 0 where
@@ -57,13 +55,6 @@ IsLastNsec records place None = (k : ℕ) (d : Record) → k < place → k < len
 IsLastNsec records place (Some last) =
     (last < place) × (last < length records) × ((d : Record) → (slice_index_or records last d).kind ≡ TYPE_NSEC)
     × ((k : ℕ) (d : Record) → last < k → k < place → k < length records → (slice_index_or records k d).kind ≡ TYPE_NSEC → ⊥)
-
--- what `check` answers: that zone, or the first fault of its records; out of memory tells nothing
-abbrev pub IsChecked : Name → List Record → Result Zone ZoneError → Type 0
-IsChecked apex records (Ok zone) =
-    (fault_of apex (distinct records) ≡ None) × (zone ≡ zone_of apex records)
-IsChecked apex records (Err (Fault fault)) = fault_of apex (distinct records) ≡ Some fault
-IsChecked apex records (Err OutOfMemory) = ⊤
 
 -- the SOA record of the apex (RFC 1035 section 3.3.13)
 abbrev pub apex_soa : Zone → Option Record

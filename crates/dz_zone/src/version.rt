@@ -7,7 +7,8 @@ ghost use Rattle.std.specs.List.Sorted.{IsStrictlySortedBy};
 ghost use Rattle.std.specs.Option.{option_and_then};
 ghost use Rattle.dz_record.specs.Record.{soa_of, IsRecord, record_order};
 ghost use Rattle.dz_index.specs.Rows.{IsIndex};
-ghost use Rattle.dz_zone.specs.Version.{IsValid, IsChecked, apex_soa, owners_of, has_cuts, has_dnames, is_secure, IsLastNsec};
+ghost use Rattle.dz_zone.specs.Version.{IsValid, apex_soa, owners_of, has_cuts, has_dnames, is_secure, IsLastNsec};
+ghost use Rattle.dz_zone.specs.Answers.{IsChecked};
 ghost use Rattle.dz_zone.specs.Valid.{at_apex, fault_of};
 ghost use Rattle.dz_zone.specs.inner.Kept.{zone_in, IsRisen, AreNsecs};
 
@@ -176,8 +177,44 @@ fn check_tidied(alloc: Global, apex: &Name, mut records: Vec<Rr>) -> Result<Vers
     }
 }
 
-/// The version of records in canonical order that have no fault.
+/// The version of records in canonical order that have no fault. It gives back the memory that was taken beyond it.
 fn version_of(apex: &Name, records: Vec<Rr>, index: Index, nsecs: Vec<u32>) -> Version
+    requires rises { IsStrictlySortedBy record_order records.items }
+    requires faultless { fault_of apex.now records.items ≡ None }
+    requires indexed { IsIndex (owners_of records.items) index }
+    requires nsecs { AreNsecs records.items nsecs.items }
+    ensures { result ≡ zone_in records.items }
+{
+    fitted(made_of(apex, records, index, nsecs))
+}
+
+/// The same version, which has given back the memory that was taken beyond it.
+fn fitted(version: Version) -> Version
+    ensures { result ≡ version }
+{
+    let Version {
+        mut records,
+        mut index,
+        has_cuts,
+        has_dnames,
+        is_secure,
+        mut nsecs,
+    } = version;
+    records.shrink_to_fit();
+    index.fit();
+    nsecs.shrink_to_fit();
+    Version {
+        records,
+        index,
+        has_cuts,
+        has_dnames,
+        is_secure,
+        nsecs,
+    }
+}
+
+/// The version of such records, made of them.
+fn made_of(apex: &Name, records: Vec<Rr>, index: Index, nsecs: Vec<u32>) -> Version
     requires rises { IsStrictlySortedBy record_order records.items }
     requires faultless { fault_of apex.now records.items ≡ None }
     requires indexed { IsIndex (owners_of records.items) index }

@@ -1,12 +1,11 @@
 -- Inner: what is kept of a whole form while it is fed: the first SOA and the body in one list.
-use Rattle.std.specs.Prelude.{◌≡◌, true, List, [], ◌∷◌, ◌++◌, Result, Ok, Err}
+use Rattle.std.specs.Prelude.{◌≡◌, true, List, [], ◌∷◌, ◌++◌}
 use Rattle.dz_name.specs.Words.{Name}
 use Rattle.dz_record.specs.Record.{Record}
 use Rattle.dz_record.specs.Records.{distinct}
 use Rattle.dz_xfr.specs.declared.fault.Progress.{Progress}
 use Rattle.dz_xfr.specs.declared.fault.Progress.TheVariants.{More, Ended}
-use Rattle.dz_xfr.specs.declared.fault.FeedError.{FeedError}
-use Rattle.dz_xfr.specs.declared.fault.FeedError.TheVariants.{Shape, OutOfMemory}
+use Rattle.dz_xfr.specs.declared.fault.ShapeFault.{ShapeFault}
 use Rattle.dz_xfr.specs.Apex.{is_apex_soa}
 use Rattle.dz_xfr.specs.Place.{Place, amid, ended, failed, read}
 use Rattle.dz_axfr.specs.Reading.{Amid, nothing, opened, one, place_of}
@@ -33,8 +32,16 @@ pub record IsKept (apex : Name) (kept : List Record) (progress : Progress) (fed 
   pub place : place_of apex fed ≡ kept_place progress kept
   pub are : AreKept progress kept fed
 
--- records that were read after those that are kept, and what is kept then; a fault leaves it as it was
-abbrev pub Extends : Name → List Record → List Record → Result Progress FeedError → List Record → Type 0
-Extends apex old records (Ok progress) new = OpensAt apex new × (read (one apex) (kept_place More old) records ≡ kept_place progress new) × AreKept progress new (old ++ records)
-Extends apex old records (Err (Shape fault)) new = (new ≡ old) × (read (one apex) (kept_place More old) records ≡ failed fault)
-Extends apex old records (Err OutOfMemory) new = new ≡ old
+-- what is kept of the records that were fed, of which those that are the same may be kept once
+pub record IsHeld (apex : Name) (kept : List Record) (progress : Progress) (fed : List Record) : Type 0 where
+  pub all : List Record
+  pub same : distinct kept ≡ distinct all
+  pub keeps : IsKept apex all progress fed
+
+-- what of these records belongs to the body of a form that this SOA began, whatever of the body was there before
+abbrev pub Cuts : Name → Record → List Record → Progress → List Record → Type 0
+Cuts apex first records progress cut = (body : List Record) → (read (one apex) (amid (opened first body)) records ≡ kept_place progress (first ∷ (body ++ cut))) × AreKept progress (first ∷ (body ++ cut)) (first ∷ (body ++ records))
+
+-- the fault of these records after the first SOA, whatever of the body was there before
+abbrev pub Misfits : Name → Record → List Record → ShapeFault → Type 0
+Misfits apex first records fault = (body : List Record) → read (one apex) (amid (opened first body)) records ≡ failed fault

@@ -1,5 +1,5 @@
 -- Inner: the places of records in a zone that is kept in order.
-use Rattle.std.specs.Prelude.{◌≡◌, ℕ, ◌≤◌, List, true, false, length, Option, Some, None, slice_get, if◌then◌else◌}
+use Rattle.std.specs.Prelude.{◌≡◌, ℕ, ◌≤◌, nat_le, List, true, false, length, drop, Option, Some, None, slice_get, if◌then◌else◌}
 use Rattle.std.specs.List.Sorted.{IsNonDecreasingBy}
 use Rattle.dz_name.specs.declared.dns.TheConstants.{TYPE_DNAME}
 use Rattle.dz_lookup.specs.Runs.{of_type, records_of, exists}
@@ -7,7 +7,7 @@ use Rattle.std.specs.Ordering.{nat_cmp, ordering_then, is_lt, is_le}
 use Rattle.std.specs.List.Sorted.{IsPartitionPoint}
 use Rattle.std.specs.declared.cmp.Ordering.{Ordering}
 use Rattle.dz_name.specs.Words.{Name, Kind}
-use Rattle.dz_name.specs.Name.{canonical_order, is_within}
+use Rattle.dz_name.specs.Name.{canonical_order}
 use Rattle.dz_record.specs.Record.{Record}
 
 -- where a record comes in relation to an owner
@@ -26,11 +26,9 @@ IsBegin seen zone i = IsPartitionPoint (λ r. is_lt (seen r) ≡ true) (λ r. is
 abbrev pub IsEnd : (Record → Ordering) → List Record → ℕ → Type 0
 IsEnd seen zone i = IsPartitionPoint (λ r. is_le (seen r) ≡ true) (λ r. is_le (seen r) ≡ false) zone i
 
--- a place where a name that is within another begins
-pub record IsPlaceWithin (above : Name) (zone : List Record) (i : ℕ) : Type 0 where
-  pub name : Name
-  pub within : is_within name above ≡ true
-  pub begin : IsBegin (from_owner name) zone i
+-- the names above a name exist from the one on that lacks so many of its first labels
+abbrev pub IsMissing : List Record → Name → ℕ → Type 0
+IsMissing zone name missing = (skip : ℕ) → skip ≤ length name → exists zone (drop skip name) ≡ nat_le missing skip
 
 -- the records of an owner, in order, and the place where they begin or would begin
 pub record IsNodeOf (zone : List Record) (name : Name) (place : ℕ) (records : List Record) : Type 0 where

@@ -35,3 +35,8 @@ HasNoChain m = (at target : ℕ) → LeadsTo m at target → ¬ LeadsOn m target
 -- where pointers lead according to the table, no pointer leads on
 abbrev pub EndsChains : Octets → List ℕ → Type 0
 EndsChains m landings = (at target : ℕ) → LeadsTo m at target → ¬ LeadsOn m (landing_in landings target)
+
+-- a table that tells of each pointer where its chain ends
+pub record IsTable (m : Octets) (landings : List ℕ) : Type 0 where
+  pub are : AreLandings m landings
+  pub ends : EndsChains m landings

@@ -1,6 +1,4 @@
-use Rattle.std.proofs.Common.{◌≡◌, ◌-◌}
-use Rattle.dz_header.specs.Shape.{behind_records}
 use Rattle.dz_header.proofs.shape.skip_records.Given as goal
 
-abbrev pub invariant-records : goal.invariant-records
-invariant-records l = behind_records (l.count - l.counter) l.rest ≡ behind_records l.count l.octets
+abbrev pub ghosts-skip_from : goal.ghosts-skip_from
+ghosts-skip_from a = record { name = a.blank.name; parts = a.blank.parts }

@@ -1,4 +1,4 @@
-use Rattle.std.proofs.Common.{◌≡◌, ◌<◌, length, refl, sym, ◌∙◌, ap, arith}
+use Rattle.std.proofs.Common.{◌<◌, length, refl, sym, ◌∙◌, ap, arith}
 use Rattle.dz_record.specs.Order.{record_total}
 use Rattle.dz_record.specs.Record.{record_order}
 use Rattle.dz_ixfr.specs.inner.Overlay.{first_before}

@@ -7,6 +7,11 @@ use Rattle.dz_job.specs.Stream.{HasRead}
 use Rattle.dz_job.proofs.StreamLemmas.{read_is}
 use Rattle.dz_job.proofs.stream.take_stream.Goals as goal
 
+pub returns-clause-frames : goal.returns-clause-frames
+returns-clause-frames c =
+    let read = subst (λ (t : Transfer). HasRead t c.args.octets.now c.in_ok-finished.finished.octets) c.in_ok-taking.ensures.transfer in
+    read (subst (λ (t : Taken). HasRead c.in_ok-taking.taking.transfer c.args.octets.now t.octets) (sym c.in_ok-finished.ensures) c.in_ok-read_frames.ensures.read)
+
 pub returns-clause-read : goal.returns-clause-read
 returns-clause-read c =
     let finished = c.in_ok-finished.finished in

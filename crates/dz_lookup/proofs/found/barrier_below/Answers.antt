@@ -1,9 +1,9 @@
 use Rattle.std.proofs.Common.{arith, ◌≡◌, ◌∙◌, sym, ap, drop, false, true, ◌+◌, ◌-◌, inl, inr}
 use Rattle.std.specs.Prelude.{Some, None}
-use Rattle.dz_lookup.specs.Runs.{exists, owns, of_type, records_of}
+use Rattle.dz_lookup.specs.Runs.{owns, of_type, records_of}
 use Rattle.dz_lookup.specs.Found.{referral}
 use Rattle.dz_lookup.specs.inner.Places.{renamer_at}
-use Rattle.dz_lookup.proofs.Within.{drop_within}
+use Rattle.dz_lookup.proofs.Walk.{above_missing}
 use Rattle.dz_lookup.proofs.FoundLemmas.{shows_owned, owned_shows, no_renamer, has_renamer, renaming_is}
 use Rattle.dz_lookup.proofs.Barriers.{clear_at_apex, clear_step, renamed_here, cut_is_here, nothing_below, walked_through}
 use Rattle.dz_lookup.proofs.CountedLemmas.{searches_none, searches_add, searches_more}
@@ -20,25 +20,16 @@ labels-init g c =
     record {
       some = c.requires.some;
       within = omega arith;
-      clear = clear_at_apex c.args.version.now.apex c.args.version.now.records c.args.name.now c.args.labels c.records-records.ensures.within c.requires.within c.requires.labels
-          (no_renamer c.args.version.now.records c.args.version.now.apex c.records-records.ensures.valid.rises c.requires.apex);
+      clear = clear_at_apex c.args.version.now.apex c.args.version.now.records c.args.name.now c.args.labels c.records.ensures.within c.requires.within c.requires.labels
+          (no_renamer c.args.version.now.records c.args.version.now.apex c.records.ensures.valid.rises c.requires.apex);
       counted = omega arith;
       cost = searches_none _ _ _ (omega arith);
     }
 
-pub exists_beside-requires-clause-point : goal.exists_beside-requires-clause-point
-exists_beside-requires-clause-point g c = record {
-  name = c.args.name.now;
-  within = rw c.ancestor_ref-above.ensures (drop_within c.args.name.now 0 (c.labels.skip - 1) (omega arith));
-  begin = rw c.records-records.ensures.records c.requires.node.point;
-}
-
-pub returns-then-not-exists_beside-clause-barrier : goal.returns-then-not-exists_beside-clause-barrier
-returns-then-not-exists_beside-clause-barrier g c =
-    let zone = c.args.version.now.records in
-    let missing : exists zone (drop (c.labels.skip - 1) c.args.name.now) ≡ false =
-    ap (exists zone) (sym c.ancestor_ref-above.ensures) ∙ (rw c.records-records.ensures.records at (sym c.exists_beside.ensures) ∙ c.if-not-exists_beside.true) in
-    nothing_below c.args.version.now.apex zone c.args.kind c.args.name.now c.labels.skip c.labels-test.true c.labels.invariant.clear missing
+pub returns-then-skip-sought-clause-barrier : goal.returns-then-skip-sought-clause-barrier
+returns-then-skip-sought-clause-barrier g c =
+    nothing_below c.args.version.now.apex c.args.version.now.records c.args.kind c.args.name.now c.labels.skip c.labels-test.true c.labels.invariant.clear
+    (above_missing c.args.version.now.records c.args.name.now c.args.sought.now.missing c.requires.missing (c.labels.skip - 1) (omega (arith, c.labels.invariant.clear.within)) (omega arith))
 
 pub returns-then-not-is_empty-clause-barrier : goal.returns-then-not-is_empty-clause-barrier
 returns-then-not-is_empty-clause-barrier g c =
@@ -86,7 +77,7 @@ returns-then-is_empty-clause-barrier g c =
     let zone = c.args.version.now.records in
     let one : c.labels.skip ≡ 1 = omega (arith, c.labels.invariant.some, c.labels-test.false) in
     let shown : c.of_type-servers-2.result.now ≡ of_type 2 (records_of zone c.args.name.now) = c.of_type-servers-2.ensures ∙ ap (of_type 2) c.requires.node.records_are in
-    let free : owns zone 2 c.args.name.now ≡ false = shows_owned zone c.args.name.now c.of_type-servers-2.result.now c.records-records.ensures.valid.rises shown c.if-is_empty.ensures in
+    let free : owns zone 2 c.args.name.now ≡ false = shows_owned zone c.args.name.now c.of_type-servers-2.result.now c.records.ensures.valid.rises shown c.if-is_empty.ensures in
     walked_through c.args.version.now.apex zone c.args.kind c.args.name.now (rw one at c.labels.invariant.clear) (inr free)
 
 pub returns-else-is_empty-clause-barrier : goal.returns-else-is_empty-clause-barrier
@@ -94,7 +85,7 @@ returns-else-is_empty-clause-barrier g c =
     let zone = c.args.version.now.records in
     let one : c.labels.skip ≡ 1 = omega (arith, c.labels.invariant.some, c.labels-test.false) in
     let shown : c.of_type-servers-2.result.now ≡ of_type 2 (records_of zone c.args.name.now) = c.of_type-servers-2.ensures ∙ ap (of_type 2) c.requires.node.records_are in
-    let owned : owns zone 2 c.args.name.now ≡ true = owned_shows zone c.args.name.now c.of_type-servers-2.result.now c.records-records.ensures.valid.rises shown c.if-is_empty.ensures in
+    let owned : owns zone 2 c.args.name.now ≡ true = owned_shows zone c.args.name.now c.of_type-servers-2.result.now c.records.ensures.valid.rises shown c.if-is_empty.ensures in
     ap Some (c.at_cut-else-is_empty.ensures ∙ ap referral shown) ∙ cut_is_here c.args.version.now.apex zone c.args.kind c.args.name.now 1 (omega arith) (rw one at c.labels.invariant.clear) owned (inr (other_kind c.args.kind c.if-kind-eq-TYPE_DS.false))
 
 pub returns-then-kind-eq-TYPE_DS-clause-barrier : goal.returns-then-kind-eq-TYPE_DS-clause-barrier

@@ -1,6 +1,4 @@
-use Rattle.std.proofs.Common.{◌≡◌, true, false, length, ap, sym, ◌∙◌, [], Ok, Err}
-use Rattle.std.specs.Prelude.{IfOk}
-use Rattle.dz_message.specs.Piece.{Holds, PieceState}
+use Rattle.std.proofs.Common.{sym, ◌∙◌}
 use Rattle.dz_message.proofs.PieceLemmas.{goes_in, goes_behind, if_ok}
 use Rattle.dz_message.proofs.packed.put.Goals as goal
 

@@ -1,5 +1,5 @@
-use Rattle.std.proofs.Common.{◌≡◌, length, ap, sym, ◌∙◌, subst, [], refl}
-use Rattle.dz_message.specs.Piece.{FitsAlone, IsPacking}
+use Rattle.std.proofs.Common.{sym, subst}
+use Rattle.dz_message.specs.Piece.{FitsAlone}
 use Rattle.dz_message.proofs.PieceLemmas.{packs_next, packs_all, on_ok_from}
 use Rattle.dz_message.proofs.packed.put_all.Goals as goal
 

@@ -1,6 +1,7 @@
 use Rattle.std.proofs.Common.{◌++◌, ◌∷◌, [], ◌+◌, ◌∙◌, List, map, take, drop, sym, subst, arith}
 use Rattle.std.proofs.lemmas.Result.{err_from_is_err_and}
-use Rattle.dz_provision.specs.Keeping.{Task, forget, gone, IsStopped}
+use Rattle.dz_provision.specs.Keeping.{Task, forget, gone}
+use Rattle.dz_provision.specs.KeepingAnswer.{IsStopped}
 use Rattle.dz_provision.specs.inner.Tasks.{AreDone, LeavesTasks}
 use Rattle.dz_provision.proofs.TaskLemmas.{done_none, done_both, stopped_more, stopped_later, left_none, left_more, left_both}
 use Rattle.dz_provision.proofs.TaskListLemmas.{gone_next, gone_same, gone_all}

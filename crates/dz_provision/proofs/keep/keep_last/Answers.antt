@@ -2,8 +2,8 @@ use Rattle.std.proofs.Common.{◌≡◌, ap, ⊎_elim, Result, Ok, Err}
 use Rattle.dz_name.specs.Words.{Octets}
 use Rattle.dz_provision.specs.declared.provisioner.LogFault.{LogFault}
 use Rattle.dz_provision.specs.Held.{Held, IsSaid}
-use Rattle.dz_provision.specs.Keeping.{IsKept}
-use Rattle.dz_provision.specs.Keeping as keeping
+use Rattle.dz_provision.specs.KeepingAnswer.{IsKept}
+use Rattle.dz_provision.specs.KeepingAnswer as keeping
 use Rattle.dz_provision.proofs.keep.keep_last.Goals as goal
 
 -- a line that is said leaves the core as it is

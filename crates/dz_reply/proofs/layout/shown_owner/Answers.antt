@@ -1,17 +1,14 @@
-use Rattle.std.proofs.Common.{arith, ◌∙◌, sym}
-use Rattle.dz_reply.proofs.LayoutLemmas.{owner_pointed, owner_further, owner_whole}
+use Rattle.std.proofs.Common.{arith}
+use Rattle.dz_reply.proofs.LayoutLemmas.{owner_shared, owner_apart}
 use Rattle.dz_reply.proofs.layout.shown_owner.Goals as goal
 
-pub returns-then-is_within_part : goal.returns-then-is_within_part
-returns-then-is_within_part c =
-    owner_pointed c.args.question.now c.args.owner.now c.labels.number _ _ _ _ (omega arith) (sym (rw c.as_ref.ensures at c.is_within_part.ensures.value) ∙ c.if-is_within_part.true) c.labels.invariant.octets
-    c.wire-wire.ensures.wire c.behind.ensures.wire c.saturating_sub-front.ensures c.pointer_to.ensures
-
-pub labels-preserved : goal.labels-preserved
-labels-preserved c = record {
-  within = omega arith;
-  octets = owner_further c.args.question.now c.args.owner.now c.labels.number (omega arith) (sym (rw c.as_ref.ensures at c.is_within_part.ensures.value) ∙ c.if-is_within_part.false) c.labels.invariant.octets;
-}
+pub returns-then-shared-le-ROOT_OCTETS : goal.returns-then-shared-le-ROOT_OCTETS
+returns-then-shared-le-ROOT_OCTETS c =
+    owner_apart c.args.question.now c.args.owner.now c.labels_apart-skip.result c.labels_apart-skip.ensures.within (rw c.as_ref.ensures at c.labels_apart-skip.ensures.encloses)
+    (rw c.as_ref.ensures at c.labels_apart-skip.ensures.longest) _ c.behind-shared.result.now c.wire-wire.ensures.wire c.behind-shared.ensures.wire (omega (arith, c.if-shared-le-ROOT_OCTETS.true))
 
 pub returns : goal.returns
-returns c = owner_whole c.args.question.now c.args.owner.now c.labels.number _ (omega arith) c.labels.invariant.octets c.wire-wire.ensures.wire
+returns c =
+    owner_shared c.args.question.now c.args.owner.now c.labels_apart-skip.result c.labels_apart-skip.ensures.within (rw c.as_ref.ensures at c.labels_apart-skip.ensures.encloses)
+    (rw c.as_ref.ensures at c.labels_apart-skip.ensures.longest) _ c.behind-shared.result.now c.wire-wire.ensures.wire c.behind-shared.ensures.wire
+    _ _ (omega (arith, c.if-shared-le-ROOT_OCTETS.false)) c.saturating_sub-front.ensures c.pointer_to.ensures

@@ -1,6 +1,7 @@
 -- What each way out of the loop, and each line, makes of what is known between two lines.
 use Rattle.std.proofs.Common.{ap, ◌∙◌, refl, Err, arith}
 use Rattle.dz_script.proofs.RunLemmas.{mid_begins, mid_read, mid_memory, run_long, run_end, run_last, mid_line_halts, mid_line_over, mid_line_on, more_than_none}
+use Rattle.dz_script.proofs.LeadLemmas.{mid_leads, halt_leads, end_leads, long_leads, last_leads}
 use Rattle.dz_script.proofs.run.run_script.Goals as goal
 
 pub lines-init : goal.lines-init
@@ -47,3 +48,29 @@ lines-preserved g c =
       c.in-Ok-None.ensures.cause.kept ∙ c.lines.invariant.4,
       λ octets told. mid_line_on g.T.Script.rules (g.T.Script.state c.args.script.now) octets (g.T.Script.state c.lines.script) (g.T.Script.state c.turn.new.self) c.lines.number c.lines.used c.as_slice-text.result.now _ _ _ _ _ (c.lines.invariant.5 octets told) took (rw c.in-Ok-None.field-0-is at c.in-Ok-None.ensures.done),
     )
+
+pub returns-in-Err-Read-clause-leads : goal.returns-in-Err-Read-clause-leads
+returns-in-Err-Read-clause-leads g c octets told leads =
+    mid_leads g.T.Script.Before g.T.Script.rules leads (g.T.Script.state c.args.script.now) octets _ _ _ _ _ _ (c.lines.invariant.5 octets told)
+
+pub returns-in-Err-OutOfMemory-clause-leads : goal.returns-in-Err-OutOfMemory-clause-leads
+returns-in-Err-OutOfMemory-clause-leads g c octets told leads =
+    mid_leads g.T.Script.Before g.T.Script.rules leads (g.T.Script.state c.args.script.now) octets _ _ _ _ _ _ (c.lines.invariant.5 octets told)
+
+pub returns-in-Ok-TooLong-clause-leads : goal.returns-in-Ok-TooLong-clause-leads
+returns-in-Ok-TooLong-clause-leads g c octets told leads =
+    rw c.run_answer.ensures (long_leads g.T.Script.Before g.T.Script.rules leads (g.T.Script.state c.args.script.now) octets _ (g.T.Script.state c.too_long.new.self) _ _ _ _ _ _ _ _ (c.lines.invariant.5 octets told) (rw c.in-Ok-TooLong.field-0-is at c.in-Ok-TooLong.ensures.takes) c.too_long.ensures.leads)
+
+pub returns-in-Ok-End-clause-leads : goal.returns-in-Ok-End-clause-leads
+returns-in-Ok-End-clause-leads g c octets told leads =
+    rw c.run_answer-in-Ok-End.ensures (end_leads g.T.Script.Before g.T.Script.rules leads (g.T.Script.state c.args.script.now) octets _ (g.T.Script.state c.finish.new.self) _ _ _ _ _ _ _ _ (c.lines.invariant.5 octets told) (rw c.in-Ok-End.field-0-is at c.in-Ok-End.ensures.takes) c.finish.ensures.leads)
+
+pub returns-in-Ok-Last-clause-leads : goal.returns-in-Ok-Last-clause-leads
+returns-in-Ok-Last-clause-leads g c octets told leads =
+    let took = rw (← c.deref.ensures.value) at (rw c.in-Ok-Last.field-0-is at c.in-Ok-Last.ensures.takes) in
+    rw c.run_answer-in-Ok-Last.ensures (last_leads g.T.Script.Before g.T.Script.rules leads (g.T.Script.state c.args.script.now) octets (g.T.Script.state c.lines.script) (g.T.Script.state c.last_turn.new.script) c.lines.number c.lines.used c.deref.result.now _ _ _ _ _ (c.lines.invariant.5 octets told) took (c.last_turn.ensures.leads leads))
+
+pub returns-in-Err-clause-leads : goal.returns-in-Err-clause-leads
+returns-in-Err-clause-leads g c octets told leads =
+    let took = rw (← c.as_slice-text.ensures.value) at (rw c.in-Ok-Line.field-0-is at c.in-Ok-Line.ensures.takes) in
+    halt_leads g.T.Script.Before g.T.Script.rules leads (g.T.Script.state c.args.script.now) octets (g.T.Script.state c.lines.script) (g.T.Script.state c.turn.new.self) c.lines.number c.lines.used c.as_slice-text.result.now _ _ _ _ (c.lines.invariant.5 octets told) took c.in-Err.ensures.leads

@@ -21,14 +21,14 @@ returns-in_default-open_devices-clause-logged g c =
 
 pub returns-in-Err-clause-logged : goal.returns-in-Err-clause-logged
 returns-in-Err-clause-logged g c =
-    let u = c.unserved-in-Err.ensures in
-    no_log _ _ _ _ (ap (λ d. d.publisher.list) u.desk ∙ (ap (λ p. p.list) c.in-Err.ensures.err.0 ∙ c.requires.publisher.0))
+    let u = c.not_started.ensures in
+    no_log _ _ _ _ (ap (λ p. p.list) u.publisher ∙ (ap (λ p. p.list) c.in-Err.ensures.err.0 ∙ c.requires.publisher.0))
     (ap (λ o. g.K.Sink.held o) (u.output ∙ c.in-Err.ensures.err.1)) (ap is_write_fault u.end) c.requires.written
 
 pub returns-in-Err-clause-unserved : goal.returns-in-Err-clause-unserved
 returns-in-Err-clause-unserved g c empty =
     let o = c.in-Ok-open_devices.ensures in (
-      c.unserved-in-Err.ensures.output ∙ c.in-Err.ensures.err.1,
+      c.not_started.ensures.output ∙ c.in-Err.ensures.err.1,
       both_used _ _ _ _ _ _ _ _ _ o.datagram_one o.datagram_two o.acceptor_one o.acceptor_two o.dialer_one o.dialer_two
           (rw o.datagrams at c.close_devices.ensures.datagrams) (rw o.acceptors at c.close_devices.ensures.acceptors) (rw o.dialers at c.close_devices.ensures.dialers),
     )

@@ -3,13 +3,13 @@ use mir.Syntax.{named}
 use Rattle.std.proofs.Common.{◌≡◌, refl, sym, ap, ◌∙◌}
 use Rattle.dz_desk.proofs.PrefixLemmas.{prefix_trans}
 use Rattle.dz_serve.proofs.CrossLemmas.{keeping_sync, locked_sync, provisioner_send, store_send}
-use Rattle.dz_serve.proofs.EndLemmas.{listened_risen, linked_risen, port_risen, listened_run, linked_run, transferred_run, is_run, six_back, seated_more}
+use Rattle.dz_serve.proofs.EndLemmas.{listened_risen, linked_risen, by_each, listened_run, linked_run, transferred_run, is_run, six_back, seated_more}
 use Rattle.dz_serve.proofs.RunLemmas.{dials_so}
 use Rattle.dz_serve.proofs.served.serve_over.Goals as goal
 
 pub returns-clause-begins : goal.returns-clause-begins
 returns-clause-begins g c =
-    prefix_trans _ _ _ c.teach.ensures.first_seen
+    prefix_trans _ _ _ c.teach_all-seats.ensures.listening_one
     (prefix_trans _ _ _ c.run_crew-crew.ensures.listening_one.more.seen c.end_crew-parts.ensures.listening_one)
 
 pub returns-clause-logged : goal.returns-clause-logged
@@ -17,30 +17,30 @@ returns-clause-logged g c = rw c.judge-end.ensures.log c.end_crew-parts.ensures.
 
 pub returns-clause-served : goal.returns-clause-served
 returns-clause-served g c some =
+    let t = c.teach_all-seats.ensures in
     let r = c.run_crew-crew.ensures in
     let e = c.end_crew-parts.ensures in
     let j = c.judge-end.ensures in
-    let one = listened_run _ _ _ _ _ _ _ _ _ _ _ _ some c.teach.ensures.first_seen e.listening_one c.requires.listening_one c.requires.datagrams_one r.listening_one in
-    let two = listened_run _ _ _ _ _ _ _ _ _ _ _ _ some c.teach.ensures.second_seen e.listening_two c.requires.listening_two c.requires.datagrams_two r.listening_two in
-    let three = linked_run _ _ _ _ _ _ _ _ _ _ _ _ _ some c.teach-2.ensures.first_seen e.linking_one c.requires.linking_one c.requires.acceptors_one r.linking_one in
-    let four = linked_run _ _ _ _ _ _ _ _ _ _ _ _ _ some c.teach-2.ensures.second_seen e.linking_two c.requires.linking_two c.requires.acceptors_two r.linking_two in
-    let five = transferred_run _ _ _ _ _ _ _ _ _ _ some c.teach-3.ensures.first_seen e.transferring_one c.requires.gives_one c.requires.dialers_one r.transferring_one in
-    let six = transferred_run _ _ _ _ _ _ _ _ _ _ some c.teach-3.ensures.second_seen e.transferring_two c.requires.gives_two c.requires.dialers_two r.transferring_two in
-    let d = c.close_dialers.ensures.datagrams ∙ (c.close_acceptors.ensures.datagrams ∙ (rw (c.part_listened-datagrams.ensures.first, c.part_listened-datagrams.ensures.second) at c.close_datagrams.ensures.back)) in
-    let a = c.close_dialers.ensures.acceptors ∙ (rw (c.part_linked-acceptors.ensures.first, c.part_linked-acceptors.ensures.second, c.close_datagrams.ensures.acceptors) at c.close_acceptors.ensures.back) in
-    let l = rw (c.part_transferred-dialers.ensures.first, c.part_transferred-dialers.ensures.second, c.close_acceptors.ensures.dialers, c.close_datagrams.ensures.dialers) at c.close_dialers.ensures.back in
-    is_run _ _ _ _ _ _ _ _ _ _ _ _ _ _ _ _ _ _ _ _ _ _ _ _ _ _ d a l one two three four five six
+    let b = c.give_back-readings.ensures in
+    let one = listened_run _ _ _ _ _ _ _ _ _ _ _ _ some t.listening_one e.listening_one c.requires.listening_one c.requires.datagrams_one r.listening_one in
+    let two = listened_run _ _ _ _ _ _ _ _ _ _ _ _ some t.listening_two e.listening_two c.requires.listening_two c.requires.datagrams_two r.listening_two in
+    let three = linked_run _ _ _ _ _ _ _ _ _ _ _ _ _ some t.linking_one e.linking_one c.requires.linking_one c.requires.acceptors_one r.linking_one in
+    let four = linked_run _ _ _ _ _ _ _ _ _ _ _ _ _ some t.linking_two e.linking_two c.requires.linking_two c.requires.acceptors_two r.linking_two in
+    let five = transferred_run _ _ _ _ _ _ _ _ _ _ some t.transferring_one e.transferring_one c.requires.gives_one c.requires.dialers_one r.transferring_one in
+    let six = transferred_run _ _ _ _ _ _ _ _ _ _ some t.transferring_two e.transferring_two c.requires.gives_two c.requires.dialers_two r.transferring_two in
+    is_run _ _ _ _ _ _ _ _ _ _ _ _ _ _ _ _ _ _ _ _ _ _ _ _ _ _ b.datagrams b.acceptors b.dialers one two three four five six
     (λ is. (j.session_one is, j.session_two is, j.links_one is, j.links_two is, j.fed_one is, j.fed_two is, j.heard_one is, j.heard_two is, j.heard_three is, j.heard_four is, j.clear_one is, j.clear_two is, λ must. j.dialed is (dials_so c.args.store _ c.is_none-must_dial.ensures must)))
     j.memory
 
 pub returns-clause-port : goal.returns-clause-port
 returns-clause-port g c is =
     let r = c.run_crew-crew.ensures in
-    port_risen _ _ _ _ c.close_datagrams.ensures.later c.close_acceptors.ensures.later c.close_dialers.ensures.faults
-    (λ e. c.close_datagrams.ensures.first (rw c.part_listened-datagrams.ensures.first (listened_risen _ _ _ _ _ _ _ _ c.requires.datagrams_one.faultless r.listening_one e)))
-    (λ e. c.close_datagrams.ensures.second (rw c.part_listened-datagrams.ensures.second (listened_risen _ _ _ _ _ _ _ _ c.requires.datagrams_two.faultless r.listening_two e)))
-    (λ e. c.close_acceptors.ensures.first (rw c.part_linked-acceptors.ensures.first (linked_risen _ _ _ _ _ _ _ _ _ _ c.requires.acceptors_one.faultless r.linking_one e)))
-    (λ e. c.close_acceptors.ensures.second (rw c.part_linked-acceptors.ensures.second (linked_risen _ _ _ _ _ _ _ _ _ _ c.requires.acceptors_two.faultless r.linking_two e)))
+    let b = c.give_back-readings.ensures in
+    by_each
+    (λ e. b.datagram_one (listened_risen _ _ _ _ _ _ _ _ c.requires.datagrams_one.faultless r.listening_one e))
+    (λ e. b.datagram_two (listened_risen _ _ _ _ _ _ _ _ c.requires.datagrams_two.faultless r.listening_two e))
+    (λ e. b.acceptor_one (linked_risen _ _ _ _ _ _ _ _ _ _ c.requires.acceptors_one.faultless r.linking_one e))
+    (λ e. b.acceptor_two (linked_risen _ _ _ _ _ _ _ _ _ _ c.requires.acceptors_two.faultless r.linking_two e))
     (c.judge-end.ensures.port is)
 
 pub run_crew-crew-requires-sync-B : goal.run_crew-crew-requires-sync-B
@@ -52,15 +52,12 @@ run_crew-crew-requires-sync-B g c κs within =
 pub returns-clause-back : goal.returns-clause-back
 returns-clause-back g c =
     let r = c.run_crew-crew.ensures in
-    let l = c.part_listened-datagrams.ensures.readings in
-    let k = c.part_linked-acceptors.ensures.readings in
-    let t = c.part_transferred-dialers.ensures.readings in
-    let items = rw (l.0, l.1, k.0, k.1, t.0, t.1) at c.unseated.ensures in
-    six_back _ _ _ _ _ _ _ _ items record {
-      first = seated_more _ _ _ c.teach.ensures.first r.listening_one.more;
-      second = seated_more _ _ _ c.teach.ensures.second r.listening_two.more;
-      third = seated_more _ _ _ c.teach-2.ensures.first r.linking_one.more;
-      fourth = seated_more _ _ _ c.teach-2.ensures.second r.linking_two.more;
-      fifth = seated_more _ _ _ c.teach-3.ensures.first r.transferring_one.more;
-      sixth = seated_more _ _ _ c.teach-3.ensures.second r.transferring_two.more;
+    let t = c.teach_all-seats.ensures.seated in
+    six_back _ _ _ _ _ _ _ _ c.give_back-readings.ensures.readings record {
+      first = seated_more _ _ _ t.first r.listening_one.more;
+      second = seated_more _ _ _ t.second r.listening_two.more;
+      third = seated_more _ _ _ t.third r.linking_one.more;
+      fourth = seated_more _ _ _ t.fourth r.linking_two.more;
+      fifth = seated_more _ _ _ t.fifth r.transferring_one.more;
+      sixth = seated_more _ _ _ t.sixth r.transferring_two.more;
     }

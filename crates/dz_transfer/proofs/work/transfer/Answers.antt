@@ -1,6 +1,6 @@
 use Rattle.std.proofs.Common.{sym, ◌∙◌, refl}
 use Rattle.dz_transfer.specs.declared.report.Report.TheVariants as report
-use Rattle.dz_transfer.proofs.WorkLemmas.{read_transfer, settled_work, fault_work, starved_work, settled_busy, failed_busy, settled_link, starved_link, fault_memory, settled_log, failed_log, settled_among, failed_among}
+use Rattle.dz_transfer.proofs.WorkLemmas.{read_transfer, settled_work, fault_work, starved_work, settled_busy, failed_busy, settled_link, starved_link, fault_memory, settled_log, failed_log, settled_among, failed_among, starved_among}
 use Rattle.dz_transfer.proofs.work.transfer.Goals as goal
 
 pub settle-ended-requires-clause-transfer : goal.settle-ended-requires-clause-transfer
@@ -44,17 +44,17 @@ returns-in-LinkFault-clause-ended g c = rw c.dialled-in-LinkFault.ensures.ending
 pub returns-in-OutOfMemory-clause-worked : goal.returns-in-OutOfMemory-clause-worked
 returns-in-OutOfMemory-clause-worked g c =
     rw (c.dialled-in-OutOfMemory.ensures.report, c.dialled-in-OutOfMemory.ensures.ending, c.failed_report-in-OutOfMemory.ensures)
-    (starved_work c.args.job _ _ c.requires.due c.fail-ended-in-OutOfMemory.ensures.seen c.count-in-OutOfMemory.ensures.legal c.fail-ended-in-OutOfMemory.result.answer c.fail-ended-in-OutOfMemory.result.ending c.now-now-in-OutOfMemory.result _ _ _ _ c.in-OutOfMemory.ensures.fetched c.fail-ended-in-OutOfMemory.ensures.ending c.fail-ended-in-OutOfMemory.ensures.failed)
+    (starved_work c.args.job _ _ c.requires.due c.starve-ended.ensures.seen c.count-in-OutOfMemory.ensures.legal c.starve-ended.result.answer c.starve-ended.result.ending c.now-now-in-OutOfMemory.result _ _ _ _ c.in-OutOfMemory.ensures.fetched c.starve-ended.ensures.ending c.starve-ended.ensures.failed)
 
 pub returns-in-OutOfMemory-clause-busy : goal.returns-in-OutOfMemory-clause-busy
-returns-in-OutOfMemory-clause-busy g c = rw (c.dialled-in-OutOfMemory.ensures.report, c.failed_report-in-OutOfMemory.ensures) (failed_busy c.fail-ended-in-OutOfMemory.result.answer report.OutOfMemory refl)
+returns-in-OutOfMemory-clause-busy g c = rw (c.dialled-in-OutOfMemory.ensures.report, c.failed_report-in-OutOfMemory.ensures) (failed_busy c.starve-ended.result.answer report.OutOfMemory refl)
 
 pub returns-in-OutOfMemory-clause-link : goal.returns-in-OutOfMemory-clause-link
-returns-in-OutOfMemory-clause-link g c = λ is. starved_link c.fail-ended-in-OutOfMemory.result.answer (sym c.failed_report-in-OutOfMemory.ensures ∙ (sym c.dialled-in-OutOfMemory.ensures.report ∙ is))
+returns-in-OutOfMemory-clause-link g c = λ is. starved_link c.starve-ended.result.answer (sym c.failed_report-in-OutOfMemory.ensures ∙ (sym c.dialled-in-OutOfMemory.ensures.report ∙ is))
 
 pub returns-in-OutOfMemory-clause-log : goal.returns-in-OutOfMemory-clause-log
 returns-in-OutOfMemory-clause-log g c =
-    λ is. c.fail-ended-in-OutOfMemory.ensures.cause (failed_log c.fail-ended-in-OutOfMemory.result.answer report.OutOfMemory (λ bad. cc bad) (sym c.failed_report-in-OutOfMemory.ensures ∙ (sym c.dialled-in-OutOfMemory.ensures.report ∙ is)))
+    λ is. c.starve-ended.ensures.cause (failed_log c.starve-ended.result.answer report.OutOfMemory (λ bad. cc bad) (sym c.failed_report-in-OutOfMemory.ensures ∙ (sym c.dialled-in-OutOfMemory.ensures.report ∙ is)))
 
 pub returns-in-OutOfMemory-clause-ended : goal.returns-in-OutOfMemory-clause-ended
-returns-in-OutOfMemory-clause-ended g c = rw c.dialled-in-OutOfMemory.ensures.ending (failed_among _ c.args.job _ c.fail-ended-in-OutOfMemory.result.answer c.fail-ended-in-OutOfMemory.result.ending c.fail-ended-in-OutOfMemory.ensures.ending c.now-now-in-OutOfMemory.ensures.may)
+returns-in-OutOfMemory-clause-ended g c = rw c.dialled-in-OutOfMemory.ensures.ending (starved_among _ c.args.job _ c.starve-ended.result.answer c.starve-ended.result.ending c.starve-ended.ensures.ending c.now-now-in-OutOfMemory.ensures.may)

@@ -2,7 +2,8 @@ use Rattle.std.proofs.Common.{◌≡◌, ◌<◌, ◌^◌, true, arith, sym, sub
 use Rattle.std.specs.List.{All}
 use Rattle.std.proofs.lemmas.Result.{err_from_is_err_and}
 use Rattle.dz_message.specs.Frame.{messages_in}
-use Rattle.dz_tsig.specs.Streams.{IsSigned, IsSignedSo, are_messages, signed_messages}
+use Rattle.dz_tsig.specs.Streams.{IsSignedSo, are_messages, signed_messages}
+use Rattle.dz_tsig.specs.Answers.{IsSigned}
 use Rattle.dz_tsig.specs.inner.Streams.{SignsOn}
 use Rattle.dz_tsig.proofs.ChainLemmas.{frame_follows}
 use Rattle.dz_tsig.proofs.StreamLemmas.{has_room, left_begin, left_first, refused, signed_so, signs_begin, signs_more}

@@ -2,7 +2,8 @@ use Rattle.std.proofs.Common.{sym, ◌∙◌, ap, subst, arith}
 use Rattle.std.proofs.lemmas.Option.{get_or_from_slice_get}
 use Rattle.dz_job.specs.Job.{JobOf}
 use Rattle.dz_timer.specs.Values.{fresh}
-use Rattle.dz_fleet.specs.Core.{job_at, IsDue}
+use Rattle.dz_fleet.specs.Core.{job_at}
+use Rattle.dz_fleet.specs.Answers.{IsDue}
 use Rattle.dz_fleet.proofs.HandLemmas.{job_moment, late_test}
 use Rattle.dz_fleet.proofs.fleet.Fleet.due_at.Goals as goal
 

@@ -8,13 +8,13 @@ end-requires g c = (has_it c.search-found.result (count c.args.self.now) (key_at
 
 pub returns-then-has_key-clause-begin : goal.returns-then-has_key-clause-begin
 returns-then-has_key-clause-begin g c = λ owners index.
-    first_place c.args.name.now owners c.args.self.now c.octets-key.result.now c.search-found.result c.first-begin.result (c.octets-key.ensures.value ∙ c.of-sort_key.ensures) index
+    first_place c.args.name.now owners c.args.self.now c.octets-key.result.now c.search-found.result c.first-begin.result (c.octets-key.ensures.value ∙ c.set.ensures) index
     (c.search-found.ensures.place index.rise) c.search-found.ensures.within c.first-begin.ensures.first
 
 pub returns-then-has_key-clause-end : goal.returns-then-has_key-clause-end
 returns-then-has_key-clause-end g c = λ owners index.
     let found = has_it c.search-found.result (count c.args.self.now) (key_at c.args.self.now c.search-found.result) c.octets-key.result.now (sym c.has_key.ensures.value ∙ c.if-has_key.true) in
-    let key = c.octets-key.ensures.value ∙ c.of-sort_key.ensures in
+    let key = c.octets-key.ensures.value ∙ c.set.ensures in
     rw c.end.ensures.end (end_of_owner c.args.name.now owners c.args.self.now _ c.search-found.result key index found.1 found.0)
 
 pub returns-then-has_key-clause-cost : goal.returns-then-has_key-clause-cost
@@ -23,12 +23,12 @@ returns-then-has_key-clause-cost g c =
 
 pub returns-else-has_key-clause-begin : goal.returns-else-has_key-clause-begin
 returns-else-has_key-clause-begin g c = λ owners index.
-    first_place c.args.name.now owners c.args.self.now c.octets-key.result.now c.search-found.result c.first-begin.result (c.octets-key.ensures.value ∙ c.of-sort_key.ensures) index
+    first_place c.args.name.now owners c.args.self.now c.octets-key.result.now c.search-found.result c.first-begin.result (c.octets-key.ensures.value ∙ c.set.ensures) index
     (c.search-found.ensures.place index.rise) c.search-found.ensures.within c.first-begin.ensures.first
 
 pub returns-else-has_key-clause-end : goal.returns-else-has_key-clause-end
 returns-else-has_key-clause-end g c = λ owners index.
-    let key = c.octets-key.ensures.value ∙ c.of-sort_key.ensures in
+    let key = c.octets-key.ensures.value ∙ c.set.ensures in
     rw c.first-begin.ensures.first (end_of_none c.args.name.now owners c.args.self.now _ c.search-found.result key index (c.search-found.ensures.place index.rise) c.search-found.ensures.within
     (λ within at. has_other c.search-found.result (count c.args.self.now) (key_at c.args.self.now c.search-found.result) c.octets-key.result.now (sym c.has_key.ensures.value ∙ c.if-has_key.false) within at))
 

@@ -1,4 +1,4 @@
-use Rattle.std.proofs.Common.{arith, ◌≡◌, ◌+◌, ◌-◌, ◌<◌, ◌≤◌, ◌++◌, ◌∙◌, sym, ap, refl, length, take, drop, Some}
+use Rattle.std.proofs.Common.{arith, ◌≡◌, ◌+◌, ◌-◌, ◌<◌, ◌≤◌, ◌++◌, ◌∙◌, sym, ap, refl, length, take, Some}
 use Rattle.dz_name.specs.Name.{wire_of}
 use Rattle.dz_name.proofs.FrontLemmas.{joined_length, joined_name, joined_padded, fits_in, fits_not}
 use Rattle.dz_name.proofs.KeptLemmas.{kept_from, view_from}

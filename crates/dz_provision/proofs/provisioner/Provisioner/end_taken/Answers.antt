@@ -1,5 +1,6 @@
 use Rattle.std.proofs.Common.{◌≡◌, ◌∙◌, ◌∷◌, ◌++◌, [], rules, sym, ap}
-use Rattle.dz_fleet.specs.Core.{Core, IsOffered}
+use Rattle.dz_fleet.specs.Core.{Core}
+use Rattle.dz_fleet.specs.Answers.{IsOffered}
 use Rattle.dz_fleet.specs.Weighing.{octets_in}
 use Rattle.dz_report.specs.Lines.{verdict_lines}
 use Rattle.dz_provision.specs.Journal.{journal}

@@ -2,6 +2,7 @@ use Rattle.std.proofs.Common.{List, ap, sym, ◌∙◌, ◌∷◌, ◌++◌, [],
 use Rattle.dz_job.specs.Job.{JobOf}
 use Rattle.dz_provision.specs.Log as asides
 use Rattle.dz_run.proofs.StepLemmas.{unhanded_failed, unhanded_taken, handed_taken, handed_flight, handed_open, idle_flight, full_flight, idle_then, full_then, starving_flight, starving_taken, wanting}
+use Rattle.dz_run.proofs.LeadLemmas.{job_leads}
 use Rattle.dz_run.proofs.events.Running.hand_out.Goals as goal
 
 pub invariant_of-self-in-Err : goal.invariant_of-self-in-Err
@@ -34,7 +35,7 @@ invariant_of-self-in-OutOfMemory g c =
     (λ still. c.reserve.ensures.items ∙ (c.self.invariant.0 before ∙ sym (starving_flight c.self.inside.provisioner c.hand_out.new.self c.args.moment starving)), c.self.invariant.1)
 
 pub returns-then-is_err : goal.returns-then-is_err
-returns-then-is_err g c number = rw (← c.self.view_is) (wanting c.self.inside.provisioner _ number)
+returns-then-is_err g c number = rw (← c.self.view_is) (wanting c.self.inside.provisioner _ number (job_leads c.self.inside.provisioner.core c.args.moment))
 
 pub say-requires-clause-line : goal.say-requires-clause-line
 say-requires-clause-line g c = (asides.idle, tt, refl)

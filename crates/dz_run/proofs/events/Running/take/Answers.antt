@@ -7,10 +7,11 @@ use Rattle.dz_run.specs.Flight.{job_in}
 use Rattle.dz_run.specs.Replaying.{take_turn}
 use Rattle.dz_run.proofs.FlightLemmas.{none_found, place_is, still_flying}
 use Rattle.dz_run.proofs.StepLemmas.{settled_made, settling_flight, take_taken, bad_taken, wanting}
+use Rattle.dz_run.proofs.LeadLemmas.{take_leads}
 use Rattle.dz_run.proofs.events.Running.take.Goals as goal
 
 pub returns-in-Err : goal.returns-in-Err
-returns-in-Err g c number = wanting c.args.self.now _ number
+returns-in-Err g c number = wanting c.args.self.now _ number (take_leads c.args.self.now.core number c.args.moment c.args.octets.now (job_in c.args.self.now.core.flight c.args.ticket))
 
 pub settle-requires-clause-transfer : goal.settle-requires-clause-transfer
 settle-requires-clause-transfer g c =

@@ -1,12 +1,16 @@
 use Rattle.std.proofs.Common.{◌≡◌, rules, ◌∙◌, ap, Some}
 use Rattle.std.specs.Option.{option_map}
 use Rattle.dz_run.specs.Kept.{Shown}
-use Rattle.dz_run.specs.Replaying.{running}
+use Rattle.dz_script.specs.Script.{turn_state}
+use Rattle.dz_run.specs.Replaying.{running, IsListBefore, event_turn}
 use Rattle.dz_run.proofs.KeptLemmas.{run_of, run_still}
+use Rattle.dz_run.proofs.LeadLemmas.{event_leads}
 use Rattle.dz_run.proofs.replaying.Replaying.run_event.Goals as goal
 
 pub returns-then-has_failed : goal.returns-then-has_failed
-returns-then-has_failed g c d is number = run_still _ _ _ number (search rules) (search rules)
+returns-then-has_failed g c d is number =
+    let leads : IsListBefore c.args.self.now.state (turn_state (event_turn d number c.args.moment c.args.event.now)) = rw is (event_leads d number c.args.moment c.args.event.now) in
+    run_still c.args.self.now _ _ number (search rules) (search rules) (search rules) leads
 
 pub returns : goal.returns
 returns g c d is number =

@@ -2,6 +2,7 @@ use Rattle.std.proofs.Common.{refl, sym, ◌∙◌, ap}
 use Rattle.dz_fleet.specs.Core.{opened_core}
 use Rattle.dz_run.specs.Kept.{Shown}
 use Rattle.dz_run.proofs.KeptLemmas.{opening_by, running_by, event_none, event_first, event_further, has_config, turned_from, turned_wanting}
+use Rattle.dz_run.proofs.LeadLemmas.{none_first}
 use Rattle.dz_run.proofs.replaying.Replaying.take_event.Goals as goal
 
 pub returns-then-is_some : goal.returns-then-is_some
@@ -18,7 +19,7 @@ returns-then-is_empty g c =
     turned_from c.args.self.now c.args.self.now _ _ _ c.end_badly.result (event_none c.args.self.now.state c.self.inside.opening c.args.number c.args.moment c.args.event is (sym c.is_empty.ensures ∙ c.if-is_empty.true)) refl refl c.end_badly.ensures
 
 pub returns-in-Err : goal.returns-in-Err
-returns-in-Err g c = turned_wanting c.args.self.now c.begin.new.self _ c.in-Err.ensures.err.0 c.in-Err.ensures.err.1
+returns-in-Err g c = turned_wanting c.args.self.now c.begin.new.self _ c.in-Err.ensures.err.0 c.in-Err.ensures.err.1 (none_first _ _ c.in-Err.ensures.none)
 
 pub returns-in-Ok : goal.returns-in-Ok
 returns-in-Ok g c =

@@ -1,5 +1,6 @@
 use Rattle.std.proofs.Common.{refl}
 use Rattle.dz_run.proofs.KeptLemmas.{turned_wanting}
+use Rattle.dz_run.proofs.LeadLemmas.{turn_leads}
 use Rattle.dz_run.proofs.MomentLemmas.{timed}
 use Rattle.dz_run.proofs.replaying.Replaying.take_line.Goals as goal
 
@@ -7,4 +8,4 @@ pub take_read-requires-clause-timed : goal.take_read-requires-clause-timed
 take_read-requires-clause-timed g c = timed c.args.line.now c.in-Ok.line c.in-Ok.ensures
 
 pub returns-in-OutOfMemory : goal.returns-in-OutOfMemory
-returns-in-OutOfMemory g c = turned_wanting c.args.self.now c.args.self.now _ refl refl
+returns-in-OutOfMemory g c = turned_wanting c.args.self.now c.args.self.now _ refl refl (turn_leads c.args.self.now.state c.args.number c.args.line.now)
