@@ -158,7 +158,8 @@ def read_all(port, zone, octets, limit=60):
 
 class Steady:
     """Asks over UDP and over some TCP connections in turn, a query of each kind each millisecond, whether replies come or
-    not. A reply's time counts from the moment at which its query was due."""
+    not. A reply's time counts from the moment at which its query was due, also where the server closed the connection and
+    it was asked again."""
     GAP, CONNECTIONS = 0.001, 4
 
     def __init__(self, port, owner):
@@ -172,6 +173,7 @@ class Steady:
         self.due = {}  # the identity of a query over UDP -> when it was due
         self.waiting = {stream: collections.deque() for stream in self.streams}
         self.held = dict.fromkeys(self.streams, b"")
+        self.port, self.renewed = port, 0  # renewed: how many connections the server closed
 
     def run(self, process, grace=2):
         """Asks until a process has ended, and then waits for the last replies. It answers how many never came."""
@@ -194,7 +196,21 @@ class Steady:
         self.due[count & 0xFFFF] = due
         self.waiting[stream].append(due)
         self.datagrams.send(query)
-        stream.sendall(wire.frame(query))
+        try:
+            stream.sendall(wire.frame(query))
+        except ConnectionError:
+            self.renew(stream)
+
+    def renew(self, stream):
+        """Another connection in place of one that the server closed. What had no reply over it is asked again."""
+        stream.close()
+        other = socket.create_connection(("127.0.0.1", self.port))
+        other.setsockopt(socket.IPPROTO_TCP, socket.TCP_NODELAY, 1)
+        self.streams[self.streams.index(stream)] = self.sockets[self.sockets.index(stream)] = other
+        self.waiting[other], self.held[other] = self.waiting.pop(stream), b""
+        del self.held[stream]
+        other.sendall(wire.frame(wire.query(0, self.owner, wire.A)) * len(self.waiting[other]))
+        self.renewed += 1
 
     def read_until(self, moment):
         while True:
@@ -206,7 +222,13 @@ class Steady:
                 return
 
     def read(self, one):
-        octets, now = one.recv(65_536), time.monotonic()
+        try:
+            octets, now = one.recv(65_536), time.monotonic()
+        except ConnectionResetError:
+            octets = b""
+        if not octets:
+            self.renew(one)
+            return
         if one is self.datagrams:
             self.note("UDP", self.due.pop(int.from_bytes(octets[:2], "big"), now), now)
             return

@@ -234,7 +234,7 @@ def new_member(bench):
         settle(server, names)
         asker, times = ask.Asker(server.port), []
         for number in range(rounds):
-            time.sleep(random.uniform(0.2, 1.2))
+            time.sleep(random.uniform(1.1, 2.1))  # a server may act on one NOTIFY a second
             added = zones.member(f"new{number}.test.")
             primary.hold(added)
             with primary.lock:
@@ -277,7 +277,7 @@ def change(server, primary, zone, asker, number):
     def records(offset):
         return [(f"h{4000 * one:06}", wire.A, zones.address(4000 * one + offset)) for one in range(50)]
 
-    time.sleep(random.uniform(0.2, 1.2))
+    time.sleep(random.uniform(1.1, 2.1))  # a server may act on one NOTIFY a second
     with primary.lock:
         zone.change(records(1_000_000 * number), records(1_000_000 * (number + 1)))
     last = zones.address(4000 * 49 + 1_000_000 * (number + 1))

@@ -129,17 +129,18 @@ sys.path.insert(0, sys.argv[1])
 import ask
 steady = ask.Steady(int(sys.argv[2]), sys.argv[3])
 lost = steady.run(subprocess.Popen(["sleep", sys.argv[4]]))
-print(json.dumps([lost, steady.found]))
+print(json.dumps([lost, steady.renewed, steady.found]))
 """
 
 
 def asked(seconds, owner):
-    """Queries, one each millisecond over UDP and over TCP, for some seconds: lost, and the times over UDP and over TCP."""
+    """Queries, one each millisecond over UDP and over TCP, for some seconds: how many were lost, how many connections the
+    server closed, and the times over UDP and over TCP."""
     words = [sys.executable, "-c", ASK, sys.path[0], str(PORT), owner, str(seconds)]
-    lost, found = json.loads(subprocess.run(words, stdout=subprocess.PIPE, check=True).stdout)
+    lost, renewed, found = json.loads(subprocess.run(words, stdout=subprocess.PIPE, check=True).stdout)
     times = {kind: sorted(took for transport, _, took in found if transport == kind)
              for kind in {transport for transport, _, _ in found}}
-    return lost, times
+    return lost, renewed, times
 
 
 def told_times(times):
@@ -207,7 +208,7 @@ def notifies(folder):
             asker.close()
         timer = threading.Timer(2, change)
         timer.start()
-        lost, times = asked(10, "www.b.test.")
+        lost, _, times = asked(10, "www.b.test.")
         timer.join()
         took = seen[0] if seen else 60
         rate = flood.communicate()[0].strip()
@@ -389,14 +390,14 @@ def clients(folder):
                 except OSError:
                     pass
             most = max(most, server.memory()[1])
-        lost, times = asked(2, "www.a.test.")
+        lost, renewed, times = asked(2, "www.a.test.")
         for one in mute:
             one.close()
         time.sleep(13)
         after = server.memory()[1]
         judge(most - before < 120, f"{before:.1f} MB before, {most:.1f} at most meanwhile")
         judge(after - before < 2, f"{after:.1f} MB 13 s after them")
-        judge(lost == 0 and worst(times, 0.99) < 0.05, f"beside them: {told_times(times)}; {lost} lost")
+        judge(lost == 0 and worst(times, 0.99) < 0.05, f"beside them: {told_times(times)}; {lost} lost; {renewed} of the connections closed to make room")
         many = [socket.create_connection(("127.0.0.1", PORT), source_address=("127.0.4.1", 0)) for _ in range(300)]
         time.sleep(1)
         left = sum(is_open(one) for one in many)
@@ -480,7 +481,7 @@ def log(folder):
         wait_answered(names)
         stop.set()
         pester = subprocess.Popen([sys.executable, "-c", PESTER, str(PORT), "20", *notify])
-        lost, times = asked(20, "www.m1.test.")
+        lost, _, times = asked(20, "www.m1.test.")
         pester.wait()
         judge(worst(times, 1) < 0.05 and lost == 0, f"{told_times(times)}; {lost} lost")
         time.sleep(4)

@@ -170,7 +170,7 @@ def clients(kind, folder):
 def beside(seconds, name):
     """Queries beside an attack, one each millisecond over UDP and one over TCP."""
     try:
-        lost, times = asked(seconds, f"www.{name}")
+        lost, _, times = asked(seconds, f"www.{name}")
         return f"{told_times(times)}, {lost} lost"
     except OSError as error:
         return f"a query over TCP failed ({error})"

@@ -5,3 +5,4 @@ pub mod UptoLemmas
 pub mod CutLemmas
 pub mod NumberLemmas
 pub mod MarkLemmas
+pub mod SearchLemmas

@@ -1,10 +1,11 @@
 -- The first octets beside a chunk are those of the keys at their places.
-use Rattle.std.proofs.Common.{◌≡◌, ◌≢◌, ℕ, zero, suc, ◌+◌, ◌-◌, ◌*◌, ◌/◌, ◌%◌, ◌<◌, ◌≤◌, List, [], ◌∷◌, length, get_or, sym, ◌∙◌, ap, arith, subst}
+use Rattle.std.proofs.Common.{◌≡◌, ◌≢◌, ℕ, zero, suc, ◌+◌, ◌-◌, ◌*◌, ◌/◌, ◌%◌, ◌<◌, ◌≤◌, List, [], ◌∷◌, length, get_or, refl, sym, ◌∙◌, ap, arith, subst}
 use Rattle.std.specs.Cmp.Lexicographic.{slice_cmp}
-use Rattle.std.specs.Ordering.{nat_cmp}
+use Rattle.std.specs.Prelude.{not}
+use Rattle.std.specs.Ordering.{nat_cmp, is_gt}
 use Rattle.std.specs.declared.cmp.Ordering.{Ordering}
 use Rattle.std.specs.declared.cmp.Ordering.TheVariants.{Equal}
-use Rattle.dz_chunks.specs.inner.Chunked.{AreMarks}
+use Rattle.dz_chunks.specs.inner.Chunked.{AreMarks, IsLedBy, begins_upto}
 
 module _ {K X : Type 0} (lead : K → List ℕ) where
   pub mark_at : (ms : List (List ℕ)) (place i : ℕ) (es : List (K × X)) (m : List ℕ) (d : K × X) → AreMarks lead ms place es → i < length ms → place + i * 16 < length es
@@ -30,3 +31,12 @@ module _ {K X : Type 0} (R : K → K → Ordering) where
       let led : get_or ms (place / 16 - 1) m ≡ lead (get_or es place d).0 = mark_at lead ms 16 (place / 16 - 1) es m d are low near ∙ ap (λ p. lead (get_or es p d).0) at in
       let same : o ≡ slice_cmp nat_cmp (lead (get_or es place d).0) (lead k) = e ∙ (ap (λ x. slice_cmp nat_cmp x l) led ∙ ap (slice_cmp nat_cmp (lead (get_or es place d).0)) is) in
       decides (get_or es place d).0 k (λ t. apart (same ∙ t)) ∙ sym same
+
+  -- there is a first entry, and the first key tells whether a list begins up to another
+  pub led_some : (lead : K → List ℕ) (octets : List ℕ) (es : List (K × X)) → IsLedBy lead octets es → 0 < length es
+  led_some lead octets [] led = absurd led
+  led_some lead octets (e ∷ es) led = omega arith
+
+  pub begins_first : (k : K) (es : List (K × X)) (d : K × X) → 0 < length es → begins_upto R k es ≡ not (is_gt (R (get_or es 0 d).0 k))
+  begins_first k [] d some = absurd (omega arith)
+  begins_first k (e ∷ es) d some = refl

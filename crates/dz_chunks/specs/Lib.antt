@@ -2,4 +2,5 @@ pub mod Chunked
 pub mod Examples
 pub mod Laws
 pub mod Map
+pub mod Search
 pub mod inner

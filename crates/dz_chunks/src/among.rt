@@ -1,17 +1,19 @@
 //! References to chunks one after another: where a key belongs among them, and copies of them.
 
-ghost use Rattle.std.specs.Prelude.{◌≡◌, ◌+◌, ◌<◌, ◌≤◌, [], ◌∷◌, ◌++◌, length, take, drop, OnOk};
+ghost use Rattle.std.specs.Prelude.{◌≡◌, ◌+◌, ◌-◌, ◌<◌, ◌≤◌, [], ◌∷◌, ◌++◌, length, take, drop, OnOk};
 ghost use Rattle.std.specs.FinMap.{find};
 ghost use Rattle.std.specs.Option.{option_map};
 ghost use Rattle.dz_chunks.specs.Map.{last_upto};
 ghost use Rattle.dz_chunks.specs.Chunked.{flat};
+ghost use Rattle.dz_chunks.specs.Search.{IsSearch, TakesAtMost};
 ghost use Rattle.dz_chunks.specs.inner.Chunked.{AllBefore, AllBehind, length_at, length_before, IsChunked};
 
-use crate::chunk::{CHUNK, Chunk};
+use crate::chunk::{BeginsUpto, CHUNK, Chunk, EndsBefore};
 use crate::entries::value_of;
 use crate::entry::Entry;
 use crate::keyed::Keyed;
 use crate::lead::Lead;
+use crate::search::count_of;
 use dz_steps::Steps;
 use std::alloc::{AllocError, Global};
 use std::sync::ledger::Ledger;
@@ -39,58 +41,72 @@ pub(crate) fn length_before<K: Lead + Copy, V: Keyed<K>>(chunks: &[Chunk<K, V>],
 }
 
 /// How many chunks end before a key.
-fn count_before<K: Lead + Copy, V: Keyed<K>>(chunks: &[Chunk<K, V>], key: &K) -> usize
+fn count_before<K: Lead + Copy, V: Keyed<K>, L: Ledger>(
+    chunks: &[Chunk<K, V>],
+    key: &K,
+    steps: &mut Steps<L>,
+) -> usize
     requires { IsChunked K.cmp chunks.now }
     ensures within { result ≤ length chunks.now }
     ensures before { AllBefore K.cmp key.now (flat (take result chunks.now)) }
     ensures behind { AllBehind K.cmp key.now (flat (drop (result + 1) chunks.now)) }
+    ensures cost { IsSearch (length chunks.now) (steps.new - steps.old) }
 {
-    chunks.partition_point(|chunk| chunk.ends_before(key))
+    count_of(chunks, &EndsBefore { key }, steps)
 }
 
 /// The value at a key among chunks.
-pub(crate) fn value_among<'a, K: Lead + Copy, V: Keyed<K>>(
+pub(crate) fn value_among<'a, K: Lead + Copy, V: Keyed<K>, L: Ledger>(
     chunks: &'a [Chunk<K, V>],
     key: &K,
+    steps: &mut Steps<L>,
 ) -> Option<&'a V>
     requires { IsChunked K.cmp chunks.now }
-    ensures { option_map (λ value. value.now) result
+    ensures value { option_map (λ value. value.now) result
         ≡ find K.cmp key.now (flat chunks.now) }
+    ensures cost { TakesAtMost (length (flat chunks.now)) 9 (steps.new - steps.old) }
 {
-    let at = count_before(chunks, key);
+    let at = count_before(chunks, key, steps);
     if at < chunks.len() {
-        value_of(chunks[at].entries(), key)
+        value_of(chunks[at].entries(), key, steps)
     } else {
         None
     }
 }
 
 /// The value of the last entry among chunks whose key doesn't come after a key.
-pub(crate) fn last_among<'a, K: Lead + Copy, V: Keyed<K>>(
+pub(crate) fn last_among<'a, K: Lead + Copy, V: Keyed<K>, L: Ledger>(
     chunks: &'a [Chunk<K, V>],
     key: &K,
+    steps: &mut Steps<L>,
 ) -> Option<&'a V>
     requires { IsChunked K.cmp chunks.now }
-    ensures { option_map (λ value. (V.key value.now, value.now)) result
+    ensures value { option_map (λ value. (V.key value.now, value.now)) result
         ≡ last_upto K.cmp key.now (flat chunks.now) }
+    ensures cost { TakesAtMost (length (flat chunks.now)) 22 (steps.new - steps.old) }
 {
-    let count = chunks.partition_point(|chunk| chunk.begins_upto(key));
+    let count = count_of(chunks, &BeginsUpto { key }, steps);
     if count == 0 {
         None
     } else {
-        Some(chunks[count - 1].last_upto(key))
+        Some(chunks[count - 1].last_upto(key, steps))
     }
 }
 
 /// The place of the chunk that a key belongs to: the first that doesn't end before it, or the last.
-pub(crate) fn chunk_for<K: Lead + Copy, V: Keyed<K>>(chunks: &[Chunk<K, V>], key: &K) -> usize
+pub(crate) fn chunk_for<K: Lead + Copy, V: Keyed<K>, L: Ledger>(
+    chunks: &[Chunk<K, V>],
+    key: &K,
+    steps: &mut Steps<L>,
+) -> usize
     requires chunked { IsChunked K.cmp chunks.now }
     requires some { 0 < length chunks.now }
     ensures within { result < length chunks.now }
     ensures before { AllBefore K.cmp key.now (flat (take result chunks.now)) }
     ensures behind { AllBehind K.cmp key.now (flat (drop (result + 1) chunks.now)) }
+    ensures cost { IsSearch (length chunks.now) (steps.new - steps.old) }
 {
-    let at = count_before(chunks, key);
+    let at = count_before(chunks, key, steps);
     if at < chunks.len() {
         at
     } else {

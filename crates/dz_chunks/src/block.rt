@@ -8,9 +8,11 @@ ghost use Rattle.dz_chunks.specs.inner.Chunked.{AreMarks, IsUptoAt, IsBehindAt, 
 use crate::entries::{RUN, last_from};
 use crate::entry::Entry;
 use crate::keyed::Keyed;
-use crate::lead::{Lead, compare_leads};
+use crate::lead::{Lead, compare_lead};
+use dz_steps::Steps;
 use std::cmp::Ordering;
 use std::marker::Model;
+use std::sync::ledger::Ledger;
 
 /// How many keys after the first have their first octets before the entries.
 const MARKS: usize = 7;
@@ -51,50 +53,55 @@ impl<K: Lead + Copy, V: Keyed<K>> Block<K, V> {
         self.entries.as_slice()
     }
 
-    /// How the key at a mark compares with a key. The entries are read only where the first octets are alike.
-    fn compare_mark(&self, place: usize, key: &K) -> Ordering
+    /// How the key at a mark compares with a key. The entries are read only where the first octets are alike. It is one step.
+    fn compare_mark<L: Ledger>(&self, place: usize, key: &K, steps: &mut Steps<L>) -> Ordering
         requires behind { 0 < place }
         requires mark { place % 16 ≡ 0 }
         requires within { place < length self.now }
         requires short { length self.now ≤ 128 }
-        ensures { (d : K × V) → K.Ord.cmp (slice_index_or self.now place d).0 key.now ≡ result }
+        ensures value { (d : K × V)
+            → K.Ord.cmp (slice_index_or self.now place d).0 key.now ≡ result }
+        ensures counted { steps.new ≡ steps.old + 1 }
     {
-        match compare_leads(&self.marks[place / RUN - 1], &key.lead()) {
-            Ordering::Equal => self.entries[place].compare(key),
+        match compare_lead(&self.marks[place / RUN - 1], key, steps) {
+            Ordering::Equal => self.entries[place].compare(key, steps),
             order => order,
         }
     }
 
-    /// The last of the places 0, 16, 32 and so on whose key doesn't come after a key.
-    fn last_run(&self, key: &K) -> usize
+    /// The last of the places 0, 16, 32 and so on whose key doesn't come after a key. It takes a step for each but the first.
+    fn last_run<L: Ledger>(&self, key: &K, steps: &mut Steps<L>) -> usize
         requires short { length self.now ≤ 128 }
         requires upto { begins_upto K.cmp key.now self.now ≡ true }
         ensures within { result < length self.now }
         ensures upto { IsUptoAt K.cmp key.now self.now result }
         ensures last { result + 16 < length self.now
             → IsBehindAt K.cmp key.now self.now (result + 16) }
+        ensures cost { steps.new ≤ steps.old + 7 }
     {
         let end = self.entries().len();
         let mut found = 0;
         let mut place = 0;
         'marks: while RUN < end - place {
             place += RUN;
-            if !self.compare_mark(place, key).is_gt() {
+            if !self.compare_mark(place, key, steps).is_gt() {
                 found = place;
             }
         }
         found
     }
 
-    /// The value of the last entry whose key doesn't come after a key, where the first doesn't.
-    pub(crate) fn last_upto(&self, key: &K) -> &V
+    /// The value of the last entry whose key doesn't come after a key, where the first doesn't. It takes at most seven marks
+    /// and fifteen entries.
+    pub(crate) fn last_upto<L: Ledger>(&self, key: &K, steps: &mut Steps<L>) -> &V
         requires sorted { T (is_sorted K.cmp self.now) }
         requires short { length self.now ≤ 128 }
         requires upto { begins_upto K.cmp key.now self.now ≡ true }
-        ensures { Some (V.key result.now, result.now) ≡ last_upto K.cmp key.now self.now }
+        ensures value { Some (V.key result.now, result.now) ≡ last_upto K.cmp key.now self.now }
+        ensures cost { steps.new ≤ steps.old + 22 }
     {
-        let run = self.last_run(key);
-        last_from(self.entries.as_slice(), key, run)
+        let run = self.last_run(key, steps);
+        last_from(self.entries.as_slice(), key, run, steps)
     }
 }
 

@@ -8,7 +8,8 @@ ghost use Rattle.dz_chunks.specs.inner.Chunked.{ends_before, begins_upto};
 use crate::block::Block;
 use crate::entry::Entry;
 use crate::keyed::Keyed;
-use crate::lead::{Lead, compare_leads};
+use crate::lead::{Lead, compare_lead};
+use crate::search::Question;
 use dz_steps::Steps;
 use std::alloc::{AllocError, Global};
 use std::cmp::Ordering;
@@ -73,39 +74,74 @@ impl<K: Lead + Copy, V: Keyed<K>> Chunk<K, V> {
     }
 
     /// The value of the last entry whose key doesn't come after a key, where the first doesn't.
-    pub(crate) fn last_upto(&self, key: &K) -> &V
+    pub(crate) fn last_upto<L: Ledger>(&self, key: &K, steps: &mut Steps<L>) -> &V
         requires sorted { T (is_sorted K.cmp self.now) }
         requires short { length self.now ≤ 128 }
         requires upto { begins_upto K.cmp key.now self.now ≡ true }
-        ensures { Some (V.key result.now, result.now) ≡ last_upto K.cmp key.now self.now }
+        ensures value { Some (V.key result.now, result.now) ≡ last_upto K.cmp key.now self.now }
+        ensures cost { steps.new ≤ steps.old + 22 }
     {
-        self.block.last_upto(key)
+        self.block.last_upto(key, steps)
     }
 
-    /// Whether the last key comes before a key.
-    pub(crate) fn ends_before(&self, key: &K) -> bool
-        ensures { result ≡ ends_before K.cmp key.now self.now }
+    /// Whether the last key comes before a key. It is one step.
+    fn ends_before<L: Ledger>(&self, key: &K, steps: &mut Steps<L>) -> bool
+        ensures value { result ≡ ends_before K.cmp key.now self.now }
+        ensures counted { steps.new ≡ steps.old + 1 }
     {
+        let _ = &self.lead;
         let entries = self.entries();
         let len = entries.len();
-        0 < len && entries[len - 1].compare(key).is_lt()
+        entries[len - 1].compare(key, steps).is_lt()
     }
 
-    /// Whether the first key doesn't come after a key. The entries are read only where the first octets are alike.
-    pub(crate) fn begins_upto(&self, key: &K) -> bool
-        ensures { result ≡ begins_upto K.cmp key.now self.now }
+    /// Whether the first key doesn't come after a key. The entries are read only where the first octets are alike. It is one
+    /// step.
+    fn begins_upto<L: Ledger>(&self, key: &K, steps: &mut Steps<L>) -> bool
+        ensures value { result ≡ begins_upto K.cmp key.now self.now }
+        ensures counted { steps.new ≡ steps.old + 1 }
     {
-        match compare_leads(&self.lead, &key.lead()) {
-            Ordering::Equal => self.first_is_upto(key),
+        match compare_lead(&self.lead, key, steps) {
+            Ordering::Equal => self.first_is_upto(key, steps),
             order => !order.is_gt(),
         }
     }
 
     /// The same by the first key.
-    fn first_is_upto(&self, key: &K) -> bool
-        ensures { result ≡ begins_upto K.cmp key.now self.now }
+    fn first_is_upto<L: Ledger>(&self, key: &K, steps: &mut Steps<L>) -> bool
+        ensures value { result ≡ begins_upto K.cmp key.now self.now }
+        ensures counted { steps.new ≡ steps.old + 1 }
     {
+        let _ = &self.lead;
         let entries = self.entries();
-        0 < entries.len() && !entries[0].compare(key).is_gt()
+        !entries[0].compare(key, steps).is_gt()
+    }
+}
+
+/// Whether a chunk ends before a key.
+#[derive(Drop)]
+pub(crate) struct EndsBefore<'a, K: Lead> {
+    pub(crate) key: &'a K,
+}
+
+impl<'a, K: Lead + Copy, V: Keyed<K>> Question<Chunk<K, V>> for EndsBefore<'a, K> {
+    ghost holds = { λ question chunk. ends_before K.cmp question.key.now chunk };
+
+    fn ask<L: Ledger>(&self, chunk: &Chunk<K, V>, steps: &mut Steps<L>) -> bool {
+        chunk.ends_before(self.key, steps)
+    }
+}
+
+/// Whether a chunk begins with a key that doesn't come after a key.
+#[derive(Drop)]
+pub(crate) struct BeginsUpto<'a, K: Lead> {
+    pub(crate) key: &'a K,
+}
+
+impl<'a, K: Lead + Copy, V: Keyed<K>> Question<Chunk<K, V>> for BeginsUpto<'a, K> {
+    ghost holds = { λ question chunk. begins_upto K.cmp question.key.now chunk };
+
+    fn ask<L: Ledger>(&self, chunk: &Chunk<K, V>, steps: &mut Steps<L>) -> bool {
+        chunk.begins_upto(self.key, steps)
     }
 }

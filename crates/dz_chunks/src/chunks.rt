@@ -5,6 +5,7 @@ ghost use Rattle.std.specs.FinMap.{is_sorted, find, put};
 ghost use Rattle.std.specs.Option.{option_map};
 ghost use Rattle.dz_chunks.specs.Map.{last_upto, without_key};
 ghost use Rattle.dz_chunks.specs.Chunked.{flat};
+ghost use Rattle.dz_chunks.specs.Search.{TakesAtMost};
 ghost use Rattle.dz_chunks.specs.inner.Chunked.{IsChunked};
 
 use crate::among::{chunk_for, last_among, push_chunk, value_among};
@@ -17,6 +18,7 @@ use crate::joins::rebuilt;
 use crate::keyed::Keyed;
 use crate::lead::Lead;
 use crate::walk::Walk;
+use dz_steps::Steps;
 use std::alloc::{AllocError, Global};
 use std::marker::Model;
 use std::sync::Arc;
@@ -37,11 +39,11 @@ fn first_chunk<K: Lead + Copy, V: Keyed<K> + Drop>(
 }
 
 /// The chunks with a value at its key.
-fn chunks_with<K: Lead + Copy, V: Keyed<K> + Drop, E: Ledger, R: Ledger>(
+fn chunks_with<K: Lead + Copy, V: Keyed<K> + Drop, E: Ledger, R: Ledger, C: Ledger>(
     alloc: Global,
     chunks: &[Chunk<K, V>],
     value: V,
-    copies: &mut Copies<E, R>,
+    copies: &mut Copies<E, R, C>,
 ) -> Result<Vec<Chunk<K, V>>, AllocError>
     requires { IsChunked K.cmp chunks.now }
     ensures map { IfOk result (λ v.
@@ -49,28 +51,24 @@ fn chunks_with<K: Lead + Copy, V: Keyed<K> + Drop, E: Ledger, R: Ledger>(
     ensures chunked { IfOk result (λ v. IsChunked K.cmp v.items) }
     ensures entry_cost { copies.new.entries ≤ copies.old.entries + 256 }
     ensures reference_cost { copies.new.references ≤ copies.old.references + length chunks.now }
+    ensures comparisons { TakesAtMost (length (flat chunks.now)) 9
+        (copies.new.comparisons - copies.old.comparisons) }
 {
     if chunks.is_empty() {
         return first_chunk(alloc, value);
     }
     let key = value.key();
-    let at = chunk_for(chunks, &key);
-    let entries = with_entry(
-        alloc,
-        chunks[at].entries(),
-        &key,
-        value,
-        &mut copies.entries,
-    )?;
+    let at = chunk_for(chunks, &key, &mut copies.comparisons);
+    let entries = with_entry(alloc, chunks[at].entries(), &key, value, copies)?;
     rebuilt(alloc, chunks, at, entries, copies)
 }
 
 /// The chunks but the entry at a key.
-fn chunks_without<K: Lead + Copy, V: Keyed<K> + Drop, E: Ledger, R: Ledger>(
+fn chunks_without<K: Lead + Copy, V: Keyed<K> + Drop, E: Ledger, R: Ledger, C: Ledger>(
     alloc: Global,
     chunks: &[Chunk<K, V>],
     key: &K,
-    copies: &mut Copies<E, R>,
+    copies: &mut Copies<E, R, C>,
 ) -> Result<Vec<Chunk<K, V>>, AllocError>
     requires { IsChunked K.cmp chunks.now }
     ensures map { IfOk result (λ v.
@@ -79,12 +77,14 @@ fn chunks_without<K: Lead + Copy, V: Keyed<K> + Drop, E: Ledger, R: Ledger>(
     ensures chunked { IfOk result (λ v. IsChunked K.cmp v.items) }
     ensures entry_cost { copies.new.entries ≤ copies.old.entries + 256 }
     ensures reference_cost { copies.new.references ≤ copies.old.references + length chunks.now }
+    ensures comparisons { TakesAtMost (length (flat chunks.now)) 9
+        (copies.new.comparisons - copies.old.comparisons) }
 {
     if chunks.is_empty() {
         return Ok(Vec::new(alloc));
     }
-    let at = chunk_for(chunks, key);
-    let entries = without_entry(alloc, chunks[at].entries(), key, &mut copies.entries)?;
+    let at = chunk_for(chunks, key, &mut copies.comparisons);
+    let entries = without_entry(alloc, chunks[at].entries(), key, copies)?;
     rebuilt(alloc, chunks, at, entries, copies)
 }
 
@@ -139,52 +139,59 @@ impl<K: Lead + Copy, V: Keyed<K>> Chunks<K, V> {
         Walk::over(self.chunks.as_slice())
     }
 
-    /// The value at a key, and None exactly where the key isn't there.
-    pub fn get(&self, key: &K) -> Option<&V>
-        ensures { option_map (λ value. value.now) result ≡ find K.cmp key.now self.now }
+    /// The value at a key, and None exactly where the key isn't there. In the chunk it compares at most nine keys.
+    pub fn get<L: Ledger>(&self, key: &K, steps: &mut Steps<L>) -> Option<&V>
+        ensures value { option_map (λ value. value.now) result ≡ find K.cmp key.now self.now }
+        ensures cost { TakesAtMost (length self.now) 9 (steps.new - steps.old) }
     {
-        value_among(self.chunks.as_slice(), key)
+        value_among(self.chunks.as_slice(), key, steps)
     }
 
-    /// The value of the last key that doesn't come after a key, and None exactly where all keys come after it.
-    pub fn last_upto(&self, key: &K) -> Option<&V>
-        ensures { option_map (λ value. (V.key value.now, value.now)) result
+    /// The value of the last key that doesn't come after a key, and None exactly where all keys come after it. In the chunk
+    /// it compares at most 22 keys: seven marks, and fifteen of sixteen entries, which are read without waiting.
+    pub fn last_upto<L: Ledger>(&self, key: &K, steps: &mut Steps<L>) -> Option<&V>
+        ensures value { option_map (λ value. (V.key value.now, value.now)) result
             ≡ last_upto K.cmp key.now self.now }
+        ensures cost { TakesAtMost (length self.now) 22 (steps.new - steps.old) }
     {
-        last_among(self.chunks.as_slice(), key)
+        last_among(self.chunks.as_slice(), key, steps)
     }
 }
 
 impl<K: Lead + Copy, V: Keyed<K> + Drop> Chunks<K, V> {
     /// The map with a value at its key, in place of the one that is there. The error is want of memory. It copies at most
-    /// 256 entries, and one reference at most for each chunk.
-    pub fn with<E: Ledger, R: Ledger>(
+    /// 256 entries, and one reference at most for each chunk, and compares no more keys than [`Chunks::get`].
+    pub fn with<E: Ledger, R: Ledger, C: Ledger>(
         &self,
         alloc: Global,
         value: V,
-        copies: &mut Copies<E, R>,
+        copies: &mut Copies<E, R, C>,
     ) -> Result<Chunks<K, V>, AllocError>
         ensures map { IfOk result (λ changed. changed ≡ put K.cmp (V.key value) value self.now) }
         ensures entries { copies.new.entries ≤ copies.old.entries + 256 }
         ensures references { copies.new.references
             ≤ copies.old.references + (length self.now / 64 + 1) }
+        ensures comparisons { TakesAtMost (length self.now) 9
+            (copies.new.comparisons - copies.old.comparisons) }
     {
         let chunks = chunks_with(alloc, self.chunks.as_slice(), value, copies)?;
         Ok(Chunks { chunks })
     }
 
-    /// The map without a key. Where the key isn't there it is an equal map. The error is want of memory. It copies no
-    /// more than [`Chunks::with`].
-    pub fn without<E: Ledger, R: Ledger>(
+    /// The map without a key. Where the key isn't there it is an equal map. The error is want of memory. It copies and
+    /// compares no more than [`Chunks::with`].
+    pub fn without<E: Ledger, R: Ledger, C: Ledger>(
         &self,
         alloc: Global,
         key: &K,
-        copies: &mut Copies<E, R>,
+        copies: &mut Copies<E, R, C>,
     ) -> Result<Chunks<K, V>, AllocError>
         ensures map { IfOk result (λ changed. changed ≡ without_key K.cmp key.now self.now) }
         ensures entries { copies.new.entries ≤ copies.old.entries + 256 }
         ensures references { copies.new.references
             ≤ copies.old.references + (length self.now / 64 + 1) }
+        ensures comparisons { TakesAtMost (length self.now) 9
+            (copies.new.comparisons - copies.old.comparisons) }
     {
         let chunks = chunks_without(alloc, self.chunks.as_slice(), key, copies)?;
         Ok(Chunks { chunks })

@@ -3,12 +3,16 @@
 ghost use Rattle.std.specs.Prelude.{◌≡◌, ℕ, ◌+◌, ◌-◌, ◌<◌, ◌≤◌, List, [], ◌∷◌, ◌++◌, length, take, drop, T, true, Some, OnOk, IfOk};
 ghost use Rattle.std.specs.FinMap.{is_sorted, find, put};
 ghost use Rattle.std.specs.Option.{option_map};
+ghost use Rattle.std.specs.Ordering.{is_lt};
 ghost use Rattle.dz_chunks.specs.Map.{last_upto, without_key};
+ghost use Rattle.dz_chunks.specs.Search.{IsSearch};
 ghost use Rattle.dz_chunks.specs.inner.Chunked.{AllBefore, NotBefore, begins_at, IsUptoAt, IsBehindAt};
 
+use crate::copies::Copies;
 use crate::entry::Entry;
 use crate::keyed::Keyed;
 use crate::lead::Lead;
+use crate::search::{Question, count_of};
 use dz_steps::Steps;
 use std::alloc::{AllocError, Global};
 use std::sync::ledger::Ledger;
@@ -32,33 +36,61 @@ pub(crate) fn copy_entries<K: Lead + Copy, V: Keyed<K> + Drop, L: Ledger>(
     Ok(())
 }
 
+/// Whether an entry comes before a key.
+#[derive(Drop)]
+struct IsBefore<'a, K: Lead> {
+    key: &'a K,
+}
+
+impl<'a, K: Lead + Copy, V: Keyed<K>> Question<Entry<K, V>> for IsBefore<'a, K> {
+    ghost holds = { λ question entry. is_lt (K.Ord.cmp entry.0 question.key.now) };
+
+    fn ask<L: Ledger>(&self, entry: &Entry<K, V>, steps: &mut Steps<L>) -> bool {
+        entry.compare(self.key, steps).is_lt()
+    }
+}
+
 /// The place of the first entry whose key doesn't come before a key.
-fn place_of<K: Lead + Copy, V: Keyed<K>>(entries: &[Entry<K, V>], key: &K) -> usize
+fn place_of<K: Lead + Copy, V: Keyed<K>, L: Ledger>(
+    entries: &[Entry<K, V>],
+    key: &K,
+    steps: &mut Steps<L>,
+) -> usize
     requires { T (is_sorted K.cmp entries.now) }
     ensures within { result ≤ length entries.now }
     ensures before { AllBefore K.cmp key.now (take result entries.now) }
     ensures here { NotBefore K.cmp key.now (drop result entries.now) }
+    ensures cost { IsSearch (length entries.now) (steps.new - steps.old) }
 {
-    entries.partition_point(|entry| entry.compare(key).is_lt())
+    count_of(entries, &IsBefore { key }, steps)
 }
 
 /// Whether a key is at a place.
-fn is_at<K: Lead + Copy, V: Keyed<K>>(entries: &[Entry<K, V>], place: usize, key: &K) -> bool
-    ensures { result ≡ begins_at K.cmp key.now (drop place entries.now) }
+fn is_at<K: Lead + Copy, V: Keyed<K>, L: Ledger>(
+    entries: &[Entry<K, V>],
+    place: usize,
+    key: &K,
+    steps: &mut Steps<L>,
+) -> bool
+    ensures value { result ≡ begins_at K.cmp key.now (drop place entries.now) }
+    ensures cost { steps.new ≤ steps.old + 1 }
 {
-    place < entries.len() && entries[place].compare(key).is_eq()
+    place < entries.len() && entries[place].compare(key, steps).is_eq()
 }
 
 /// The value at a key.
-pub(crate) fn value_of<'a, K: Lead + Copy, V: Keyed<K>>(
+pub(crate) fn value_of<'a, K: Lead + Copy, V: Keyed<K>, L: Ledger>(
     entries: &'a [Entry<K, V>],
     key: &K,
+    steps: &mut Steps<L>,
 ) -> Option<&'a V>
-    requires { T (is_sorted K.cmp entries.now) }
-    ensures { option_map (λ value. value.now) result ≡ find K.cmp key.now entries.now }
+    requires sorted { T (is_sorted K.cmp entries.now) }
+    requires short { length entries.now ≤ 128 }
+    ensures value { option_map (λ value. value.now) result ≡ find K.cmp key.now entries.now }
+    ensures cost { steps.new ≤ steps.old + 9 }
 {
-    let place = place_of(entries, key);
-    if is_at(entries, place, key) {
+    let place = place_of(entries, key, steps);
+    if is_at(entries, place, key, steps) {
         Some(entries[place].value())
     } else {
         None
@@ -66,12 +98,14 @@ pub(crate) fn value_of<'a, K: Lead + Copy, V: Keyed<K>>(
 }
 
 /// The last of the places from `begin` up to `end` whose key doesn't come after a key. It reads all of them,
-/// without waiting for one to know which comes next: what is not in the cache comes at once.
-fn last_between<K: Lead + Copy, V: Keyed<K>>(
+/// without waiting for one to know which comes next: what is not in the cache comes at once. It takes a step for each but
+/// the first.
+fn last_between<K: Lead + Copy, V: Keyed<K>, L: Ledger>(
     entries: &[Entry<K, V>],
     key: &K,
     begin: usize,
     end: usize,
+    steps: &mut Steps<L>,
 ) -> usize
     requires begin { begin < end }
     requires end { end ≤ length entries.now }
@@ -80,12 +114,13 @@ fn last_between<K: Lead + Copy, V: Keyed<K>>(
     ensures from { begin ≤ result }
     ensures upto { IsUptoAt K.cmp key.now entries.now result }
     ensures last { result + 1 < end → IsBehindAt K.cmp key.now entries.now (result + 1) }
+    ensures counted { steps.new + (begin + 1) ≡ steps.old + end }
 {
     let mut found = begin;
     let mut place = begin;
     'steps: while 1 < end - place {
         place += 1;
-        if !entries[place].compare(key).is_gt() {
+        if !entries[place].compare(key, steps).is_gt() {
             found = place;
         }
     }
@@ -93,20 +128,22 @@ fn last_between<K: Lead + Copy, V: Keyed<K>>(
 }
 
 /// The value of the last entry whose key doesn't come after a key, where it is one of the sixteen from a place on.
-pub(crate) fn last_from<'a, K: Lead + Copy, V: Keyed<K>>(
+pub(crate) fn last_from<'a, K: Lead + Copy, V: Keyed<K>, L: Ledger>(
     entries: &'a [Entry<K, V>],
     key: &K,
     run: usize,
+    steps: &mut Steps<L>,
 ) -> &'a V
     requires sorted { T (is_sorted K.cmp entries.now) }
     requires within { run < length entries.now }
     requires upto { IsUptoAt K.cmp key.now entries.now run }
     requires last { run + 16 < length entries.now
         → IsBehindAt K.cmp key.now entries.now (run + 16) }
-    ensures { Some (V.key result.now, result.now) ≡ last_upto K.cmp key.now entries.now }
+    ensures value { Some (V.key result.now, result.now) ≡ last_upto K.cmp key.now entries.now }
+    ensures cost { steps.new ≤ steps.old + 15 }
 {
     let end = run + RUN.min(entries.len() - run);
-    let last = last_between(entries, key, run, end);
+    let last = last_between(entries, key, run, end, steps);
     entries[last].value()
 }
 
@@ -185,42 +222,47 @@ fn unchanged<K: Lead + Copy, V: Keyed<K> + Drop, L: Ledger>(
 }
 
 /// The entries with a value at its key.
-pub(crate) fn with_entry<K: Lead + Copy, V: Keyed<K> + Drop, L: Ledger>(
+pub(crate) fn with_entry<K: Lead + Copy, V: Keyed<K> + Drop, E: Ledger, R: Ledger, C: Ledger>(
     alloc: Global,
     entries: &[Entry<K, V>],
     key: &K,
     value: V,
-    steps: &mut Steps<L>,
+    copies: &mut Copies<E, R, C>,
 ) -> Result<Vec<Entry<K, V>>, AllocError>
     requires sorted { T (is_sorted K.cmp entries.now) }
     requires short { length entries.now ≤ 128 }
     requires own { key.now ≡ V.key value }
     ensures put { IfOk result (λ v. v.items ≡ put K.cmp key.now value entries.now) }
-    ensures cost { steps.new ≤ steps.old + length entries.now }
+    ensures cost { copies.new.entries ≤ copies.old.entries + length entries.now }
+    ensures references { copies.new.references ≡ copies.old.references }
+    ensures comparisons { copies.new.comparisons ≤ copies.old.comparisons + 9 }
 {
-    let place = place_of(entries, key);
-    if is_at(entries, place, key) {
-        replaced(alloc, entries, place, value, steps)
+    let place = place_of(entries, key, &mut copies.comparisons);
+    if is_at(entries, place, key, &mut copies.comparisons) {
+        replaced(alloc, entries, place, value, &mut copies.entries)
     } else {
-        inserted(alloc, entries, place, value, steps)
+        inserted(alloc, entries, place, value, &mut copies.entries)
     }
 }
 
 /// The entries but the one at a key.
-pub(crate) fn without_entry<K: Lead + Copy, V: Keyed<K> + Drop, L: Ledger>(
+pub(crate) fn without_entry<K: Lead + Copy, V: Keyed<K> + Drop, E: Ledger, R: Ledger, C: Ledger>(
     alloc: Global,
     entries: &[Entry<K, V>],
     key: &K,
-    steps: &mut Steps<L>,
+    copies: &mut Copies<E, R, C>,
 ) -> Result<Vec<Entry<K, V>>, AllocError>
     requires sorted { T (is_sorted K.cmp entries.now) }
+    requires short { length entries.now ≤ 128 }
     ensures left { IfOk result (λ v. v.items ≡ without_key K.cmp key.now entries.now) }
-    ensures cost { steps.new ≤ steps.old + length entries.now }
+    ensures cost { copies.new.entries ≤ copies.old.entries + length entries.now }
+    ensures references { copies.new.references ≡ copies.old.references }
+    ensures comparisons { copies.new.comparisons ≤ copies.old.comparisons + 9 }
 {
-    let place = place_of(entries, key);
-    if is_at(entries, place, key) {
-        removed(alloc, entries, place, steps)
+    let place = place_of(entries, key, &mut copies.comparisons);
+    if is_at(entries, place, key, &mut copies.comparisons) {
+        removed(alloc, entries, place, &mut copies.entries)
     } else {
-        unchanged(alloc, entries, steps)
+        unchanged(alloc, entries, &mut copies.entries)
     }
 }

@@ -3,7 +3,7 @@
 ghost use Rattle.std.specs.Prelude.{◌≡◌, ◌+◌, IfOk};
 
 use crate::keyed::Keyed;
-use crate::lead::{Lead, compare_leads};
+use crate::lead::{Lead, compare_lead};
 use dz_steps::Steps;
 use std::alloc::{AllocError, Global};
 use std::cmp::Ordering;
@@ -73,22 +73,24 @@ impl<K: Lead + Copy, V: Keyed<K>> Entry<K, V> {
         &self.value
     }
 
-    /// How the key compares with another one. The value is read only where the first octets are alike.
+    /// How the key compares with another one. The value is read only where the first octets are alike. It is one step.
     #[inline(always)]
-    pub(crate) fn compare(&self, key: &K) -> Ordering
-        ensures { result ≡ K.Ord.cmp self.now.0 key.now }
+    pub(crate) fn compare<L: Ledger>(&self, key: &K, steps: &mut Steps<L>) -> Ordering
+        ensures value { result ≡ K.Ord.cmp self.now.0 key.now }
+        ensures counted { steps.new ≡ steps.old + 1 }
     {
-        match compare_leads(&self.lead, &key.lead()) {
-            Ordering::Equal => self.compare_value(key),
+        match compare_lead(&self.lead, key, steps) {
+            Ordering::Equal => self.compare_value(key, steps),
             order => order,
         }
     }
 
     /// The same by the value. It is apart, so that a loop over first octets is short.
     #[inline(never)]
-    fn compare_value(&self, key: &K) -> Ordering
-        ensures { result ≡ K.Ord.cmp self.now.0 key.now }
+    fn compare_value<L: Ledger>(&self, key: &K, steps: &mut Steps<L>) -> Ordering
+        ensures value { result ≡ K.Ord.cmp self.now.0 key.now }
+        ensures counted { steps.new ≡ steps.old + 1 }
     {
-        self.value.compare(key)
+        self.value.compare(key, steps)
     }
 }

@@ -135,12 +135,12 @@ fn without_chunk<K: Lead + Copy, V: Keyed<K> + Drop, L: Ledger>(
 }
 
 /// The chunks with these entries in place of one, joined with its neighbours where they are few.
-fn with_chunk<K: Lead + Copy, V: Keyed<K> + Drop, E: Ledger, R: Ledger>(
+fn with_chunk<K: Lead + Copy, V: Keyed<K> + Drop, E: Ledger, R: Ledger, C: Ledger>(
     alloc: Global,
     chunks: &[Chunk<K, V>],
     at: usize,
     entries: Vec<Entry<K, V>>,
-    copies: &mut Copies<E, R>,
+    copies: &mut Copies<E, R, C>,
 ) -> Result<Vec<Chunk<K, V>>, AllocError>
     requires within { at < length chunks.now }
     requires sized { AreChunks chunks.now }
@@ -153,6 +153,7 @@ fn with_chunk<K: Lead + Copy, V: Keyed<K> + Drop, E: Ledger, R: Ledger>(
     ensures sized { IfOk result (λ v. AreChunks v.items) }
     ensures entry_cost { copies.new.entries ≤ copies.old.entries + 128 }
     ensures reference_cost { copies.new.references ≤ copies.old.references + length chunks.now }
+    ensures comparisons { copies.new.comparisons ≡ copies.old.comparisons }
 {
     let before = joined_before(alloc, chunks, at, entries, &mut copies.entries)?;
     let behind = joined_behind(chunks, at + 1, before.entries, &mut copies.entries)?;
@@ -165,12 +166,12 @@ fn with_chunk<K: Lead + Copy, V: Keyed<K> + Drop, E: Ledger, R: Ledger>(
 
 /// The chunks with 129 entries in place of one: split into 64 and 65, each of which is joined with its neighbour where
 /// they are few.
-fn with_split<K: Lead + Copy, V: Keyed<K> + Drop, E: Ledger, R: Ledger>(
+fn with_split<K: Lead + Copy, V: Keyed<K> + Drop, E: Ledger, R: Ledger, C: Ledger>(
     alloc: Global,
     chunks: &[Chunk<K, V>],
     at: usize,
     entries: Vec<Entry<K, V>>,
-    copies: &mut Copies<E, R>,
+    copies: &mut Copies<E, R, C>,
 ) -> Result<Vec<Chunk<K, V>>, AllocError>
     requires within { at < length chunks.now }
     requires sized { AreChunks chunks.now }
@@ -182,6 +183,7 @@ fn with_split<K: Lead + Copy, V: Keyed<K> + Drop, E: Ledger, R: Ledger>(
     ensures sized { IfOk result (λ v. AreChunks v.items) }
     ensures entry_cost { copies.new.entries ≤ copies.old.entries + 128 }
     ensures reference_cost { copies.new.references ≤ copies.old.references + length chunks.now }
+    ensures comparisons { copies.new.comparisons ≡ copies.old.comparisons }
 {
     let (first, second) = halves(entries)?;
     let before = joined_before(alloc, chunks, at, first, &mut copies.entries)?;
@@ -210,12 +212,12 @@ fn halves<K: Lead + Copy, V: Keyed<K> + Drop>(
 }
 
 /// The chunks with these entries in place of those of one.
-pub(crate) fn rebuilt<K: Lead + Copy, V: Keyed<K> + Drop, E: Ledger, R: Ledger>(
+pub(crate) fn rebuilt<K: Lead + Copy, V: Keyed<K> + Drop, E: Ledger, R: Ledger, C: Ledger>(
     alloc: Global,
     chunks: &[Chunk<K, V>],
     at: usize,
     entries: Vec<Entry<K, V>>,
-    copies: &mut Copies<E, R>,
+    copies: &mut Copies<E, R, C>,
 ) -> Result<Vec<Chunk<K, V>>, AllocError>
     requires within { at < length chunks.now }
     requires sized { AreChunks chunks.now }
@@ -228,6 +230,7 @@ pub(crate) fn rebuilt<K: Lead + Copy, V: Keyed<K> + Drop, E: Ledger, R: Ledger>(
     ensures sized { IfOk result (λ v. AreChunks v.items) }
     ensures entry_cost { copies.new.entries ≤ copies.old.entries + 128 }
     ensures reference_cost { copies.new.references ≤ copies.old.references + length chunks.now }
+    ensures comparisons { copies.new.comparisons ≡ copies.old.comparisons }
 {
     if entries.is_empty() {
         without_chunk(alloc, chunks, at, &mut copies.references)

@@ -13,6 +13,7 @@ mod joins;
 mod keyed;
 mod laws;
 mod lead;
+mod search;
 mod share;
 mod walk;
 

@@ -4,8 +4,9 @@ ghost use Rattle.std.specs.Prelude.{◌≤◌, length, IfOk};
 
 use dz_io::Peer;
 use libc::net::{
-    _SS_SIZE, AF_INET, MSG_DONTWAIT, MSG_NOSIGNAL, POLLOUT, SO_REUSEADDR, SOCK_CLOEXEC,
-    SOCK_NONBLOCK, SOCK_STREAM, SOL_SOCKET, bind, connect, poll, sendto, setsockopt, socket,
+    _SS_SIZE, AF_INET, MSG_DONTWAIT, MSG_NOSIGNAL, POLLOUT, SO_REUSEADDR, SOCK_CLOEXEC, SOCK_DGRAM,
+    SOCK_NONBLOCK, SOCK_STREAM, SOL_SOCKET, bind, connect, getsockname, poll, sendto, setsockopt,
+    socket,
 };
 use libc::types::pollfd;
 use os::FromRawFd;
@@ -51,7 +52,9 @@ pub(crate) fn send_at_once(socket: &UdpSocket, peer: &Peer, packet: &[u8]) -> Re
     }
 }
 
-/// Begins a connection to a peer, from this address where there is one. Its calls don't wait.
+/// Begins a connection to a peer, from this address where there is one. Its calls don't wait. A socket gets an address only
+/// where the system would choose another one: the search for a port that no other connection from an address has takes the
+/// longer, the more of them have just ended.
 pub(crate) fn begin_dial(from: Option<[u8; 4]>, peer: &Peer) -> Result<TcpStream> {
     let kind = SOCK_STREAM | SOCK_NONBLOCK | SOCK_CLOEXEC;
     let fd = unsafe { socket(AF_INET, kind, 0) };
@@ -60,13 +63,30 @@ pub(crate) fn begin_dial(from: Option<[u8; 4]>, peer: &Peer) -> Result<TcpStream
     }
     let owned = unsafe { OwnedFd::from_raw_fd(fd) };
     if let Some(address) = from {
-        bind_to(&owned, address)?;
+        if source_to(peer) != from {
+            bind_to(&owned, address)?;
+        }
     }
     let raw = raw_address(peer);
     match check(unsafe { connect(owned.as_raw_fd(), &raw, ADDRESS_OCTETS) }) {
         Err(error) if error.raw_os_error() != Some(libc::EINPROGRESS) => Err(error),
         _ => Ok(TcpStream::from(owned)),
     }
+}
+
+/// The address from which the system reaches a peer: that of a datagram socket which is connected to it. Nothing is sent.
+fn source_to(peer: &Peer) -> Option<[u8; 4]> {
+    let fd = unsafe { socket(AF_INET, SOCK_DGRAM | SOCK_CLOEXEC, 0) };
+    if fd < 0 {
+        return None;
+    }
+    let owned = unsafe { OwnedFd::from_raw_fd(fd) };
+    let raw = raw_address(peer);
+    check(unsafe { connect(owned.as_raw_fd(), &raw, ADDRESS_OCTETS) }).ok()?;
+    let mut own = [0; _SS_SIZE];
+    let mut octets = ADDRESS_OCTETS;
+    check(unsafe { getsockname(owned.as_raw_fd(), &mut own, &mut octets) }).ok()?;
+    Some([own[4], own[5], own[6], own[7]])
 }
 
 /// Gives a socket this address, and a port that the system chooses.

@@ -10,7 +10,7 @@ ghost use Rattle.dz_fetch.specs.inner.Frames.{IsFrame, AreFrames, HasTaken, HasC
 use crate::Fetched;
 use crate::frames::{ReadError, read_frame};
 use dz_io::Source;
-use dz_job::{Job, start_taking};
+use dz_job::{Job, finish_taking, start_taking};
 use dz_name::dns::LENGTH_OCTETS;
 use dz_take::{Finished, Progress, Taking};
 use std::alloc::{AllocError, Global};
@@ -42,7 +42,7 @@ fn take<S: Source>(alloc: Global, source: &mut S, job: &Job) -> Result<Finished,
         return Err(ReadError::OutOfMemory);
     };
     read_messages(alloc, source, &mut taking)?;
-    match taking.finish() {
+    match finish_taking(job, taking) {
         Ok(finished) => {
             finished.octets();
             Ok(finished)

@@ -19,7 +19,7 @@ use dz_io::Peer;
 use dz_job::{Flight, Job};
 use dz_name::Name;
 use dz_notify::Heard;
-use dz_settings::Key;
+use dz_settings::{Key, Policy};
 use dz_take::Ask;
 use dz_zone::Version;
 use std::alloc::AllocError;
@@ -120,7 +120,8 @@ impl Fleet {
             primary: self.primary(&zone, values.turn()),
             moment: now,
         };
-        Ok(Job::new(flight, held, key))
+        let job = Job::new(flight, held, key);
+        Ok(prepared(job, self.holdings.policy(&zone)))
     }
 
     /// The primary of this number.
@@ -242,5 +243,15 @@ fn ask_of(held: &Option<Arc<Version>>, whole: bool) -> Ask
     match held {
         None => Ask::Axfr,
         Some(_) => { if whole { Ask::Axfr } else { Ask::Ixfr } }
+    }
+}
+
+/// A job of a zone with this policy: one that asks for digests has them computed as its transfer ends.
+fn prepared(job: Job, policy: Option<Policy>) -> Job
+    ensures { result ≡ job }
+{
+    match policy {
+        None | Some(Policy::Off) => job,
+        Some(Policy::Present | Policy::Require) => job.digesting(),
     }
 }

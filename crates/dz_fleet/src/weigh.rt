@@ -24,6 +24,7 @@ use crate::weighed::{Renewal, Weighed};
 use dz_history::{Aftermath, Entry, Holdings, Taken};
 use dz_job::{Job, Verdict};
 use dz_name::{Name, Octets};
+use dz_settings::Policy;
 use dz_take::{Finished, Outcome, TakeFault};
 use dz_tsig::{TsigFault, check_stream, request_mac};
 use dz_zone::Version;
@@ -212,8 +213,8 @@ impl Fleet {
         ensures renewed { IfOk result
             (λ r. renewed_by r.1 ≡ renewed_for self.now job.now finished.now.octets r.0) }
     {
-        let standing = standing_of(finished, version);
-        if !self.approves(job.zone(), standing) {
+        if !self.approves(job.zone(), finished, version) {
+            let standing = standing_of(finished, version);
             return Ok((Verdict::PolicyRefused(standing), Renewal::Same));
         }
         let (aftermath, renewal) = self.take(alloc, job, finished)?;
@@ -225,14 +226,16 @@ impl Fleet {
         Ok((verdict, renewal))
     }
 
-    /// Whether the policy of a zone accepts a new version of this standing.
-    fn approves(&self, zone: &Name, standing: Standing) -> bool
-        ensures { result ≡ option_map_or (λ p. accepts p standing)
-            (policy_at (state_of self.now) zone.now) false }
+    /// Whether the policy of a zone accepts a new version. One that accepts whatever the ZONEMD records say doesn't ask
+    /// what they say.
+    fn approves(&self, zone: &Name, finished: &Finished, version: &Version) -> bool
+        requires { outcome finished.now.transfer finished.now.octets ≡ new version.now }
+        ensures { result ≡ is_accepted (policy_at (state_of self.now) zone.now) version.now }
     {
         match self.holdings.policy(zone) {
             None => false,
-            Some(policy) => accepts(policy, standing),
+            Some(Policy::Off) => true,
+            Some(policy) => accepts(policy, standing_of(finished, version)),
         }
     }
 

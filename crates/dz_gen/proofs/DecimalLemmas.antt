@@ -27,7 +27,7 @@ record IsSpelled (n : ℕ) (text : List ℕ) : Type 0 where
   some : 0 < length text
   value : value_of text ≡ n
 
-digits-append : (xs ys : List ℕ) → AreDigits xs → AreDigits ys → AreDigits (xs ++ ys)
+pub digits-append : (xs ys : List ℕ) → AreDigits xs → AreDigits ys → AreDigits (xs ++ ys)
 digits-append [] ys p q = q
 digits-append (x ∷ xs) ys p q = (p.0, digits-append xs ys p.1 q)
 
@@ -77,7 +77,7 @@ digit_tested c t =
     let high : c < 58 = grind (arith, nat_tests) in
     (low, high)
 
-digits_from_test : (text : List ℕ) → list_all is_ascii_digit text ≡ true → AreDigits text
+pub digits_from_test : (text : List ℕ) → list_all is_ascii_digit text ≡ true → AreDigits text
 digits_from_test [] t = tt
 digits_from_test (c ∷ text) t =
     let parts = and_parts (is_ascii_digit c) (list_all is_ascii_digit text) t in

@@ -5,3 +5,11 @@ pub mod NameLemmas
 pub mod MessageLemmas
 pub mod LineLemmas
 pub mod ReadingLemmas
+pub mod SpelledLemmas
+pub mod ZoneLemmas
+pub mod SentLemmas
+pub mod SmallLemmas
+pub mod ComesLemmas
+pub mod CanonicalLemmas
+pub mod CatalogLemmas
+pub mod ChangedLemmas

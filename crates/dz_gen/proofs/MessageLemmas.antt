@@ -243,7 +243,7 @@ unfolding question_octets
 length_question q =
     omega (arith, length-append (wire_of q.name) (two q.kind ++ two q.class), length-append (two q.kind) (two q.class), length_two q.kind, length_two q.class)
 
-length_header : (id flags a b c d : ℕ) → length (header_octets (record { id = id; flags = flags; counts = a ∷ b ∷ c ∷ d ∷ [] })) ≡ 12
+pub length_header : (id flags a b c d : ℕ) → length (header_octets (record { id = id; flags = flags; counts = a ∷ b ∷ c ∷ d ∷ [] })) ≡ 12
 unfolding header_octets two
 length_header id flags a b c d = refl
 

@@ -211,7 +211,7 @@ zones_all n few = λ i d inside.
     let is = get_or-range_with_len 1 n i d small in
     record { some = omega (arith, is); few = omega (arith, is) }
 
-zones : (n : ℕ) → n ≤ 1000 → AllByRecursion IsZone (numbers n)
+pub zones : (n : ℕ) → n ≤ 1000 → AllByRecursion IsZone (numbers n)
 zones n few = zones_by_recursion (numbers n) (zones_all n few)
 
 zones_kept : (p : ℕ → Bool) (n : ℕ) → n ≤ 1000 → AllByRecursion IsZone (filter p (numbers n))

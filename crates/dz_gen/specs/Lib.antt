@@ -4,3 +4,4 @@ pub mod Messages
 pub mod Script
 pub mod Reading
 pub mod Summary
+pub mod Outcomes

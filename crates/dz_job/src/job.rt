@@ -22,6 +22,7 @@ pub struct Job {
     flight: Flight,
     held: Option<Arc<Version>>,
     key: Option<Key>,
+    pub(crate) is_digesting: bool,
 }
 
 impl Model for Job {
@@ -43,7 +44,31 @@ impl Job {
         requires { IsReady record { flight = flight; held = option_map arc_value held; key = key } }
         ensures { result ≡ record { flight = flight; held = option_map arc_value held; key = key } }
     {
-        Job { flight, held, key }
+        Job {
+            flight,
+            held,
+            key,
+            is_digesting: false,
+        }
+    }
+
+    /// The same job, whose new version is hashed as its transfer ends ([`crate::finish_taking`]) and not where it is
+    /// judged: for a zone whose policy asks for digests.
+    pub fn digesting(self) -> Job
+        ensures { result ≡ self }
+    {
+        let Job {
+            flight,
+            held,
+            key,
+            is_digesting: _,
+        } = self;
+        Job {
+            flight,
+            held,
+            key,
+            is_digesting: true,
+        }
     }
 
     /// What it asks for.
@@ -146,6 +171,7 @@ impl Job {
             flight: _,
             held,
             key,
+            is_digesting: _,
         } = self;
         drop(held);
         drop(key);

@@ -10,5 +10,5 @@ mod verdict;
 pub use flight::Flight;
 pub use job::Job;
 pub use query::QUERY_OCTETS;
-pub use stream::{start_taking, take_stream};
+pub use stream::{finish_taking, start_taking, take_stream};
 pub use verdict::{Failure, Verdict};

@@ -47,6 +47,23 @@ pub fn start_taking(alloc: Global, job: &Job) -> Result<Taking, AllocError>
     Ok(Taking::start(alloc, *job.zone(), job.ask(), job.id(), held))
 }
 
+/// The transfer of a job, with what came of it. A new version is hashed here, for its ZONEMD records (RFC 8976), where
+/// the job is one whose digests are computed ahead ([`Job::digesting`]).
+///
+/// # Errors
+///
+/// `AllocError` where memory runs out.
+pub fn finish_taking(job: &Job, taking: Taking) -> Result<Finished, AllocError>
+    ensures { IfOk result (λ f. f ≡ taking) }
+{
+    let finished = taking.finish()?;
+    if job.is_digesting {
+        Ok(finished.digested())
+    } else {
+        Ok(finished)
+    }
+}
+
 /// Reads the messages of whole frames, until something is decided. `AllocError` where memory runs out.
 fn read_frames(taking: &mut Taking, octets: &[u8]) -> Result<(), AllocError>
     requires nothing { taking.old.octets ≡ [] }

@@ -3,9 +3,11 @@ pub mod AnyOrderLemmas
 pub mod ChoiceLemmas
 pub mod EachLemmas
 pub mod KeptLemmas
+pub mod LabelLemmas
 pub mod LawLemmas
 pub mod LeadLemmas
 pub mod ListingLemmas
+pub mod MixLemmas
 pub mod NumberLemmas
 pub mod OctetLemmas
 pub mod OrderLemmas

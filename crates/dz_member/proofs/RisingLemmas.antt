@@ -1,15 +1,16 @@
 -- Places at which zones rise, as many as there are nodes, are those of the order of zones.
 use Rattle.std.proofs.Common.{◌≡◌, ◌⊎◌, ℕ, zero, suc, ◌+◌, ◌<◌, ◌≤◌, Bool, true, false, List, [], ◌∷◌, map, length, get_or, refl, sym, ◌∙◌, ap, subst, arith, inl, inr, Less, is_lt}
-use Rattle.std.specs.Prelude.{Option, Some, None, nat_lt, slice_get, if◌then◌else◌}
-use Rattle.std.specs.Option.{option_map_or}
-use Rattle.std.specs.List.{AllByRecursion, IsAllAdjacentAnswer, list_all}
+use Rattle.std.specs.Prelude.{Option, Some, None, MatchOption, nat_lt, slice_get, if◌then◌else◌}
+use Rattle.std.specs.Option.{option_map, option_map_or}
+use Rattle.std.specs.List.{All, AllByRecursion, IsAllAdjacentAnswer, list_all}
 use Rattle.std.specs.List.Sorted.{IsStrictlySortedBy}
+use Rattle.std.specs.Bool.{Decides}
 use Rattle.std.proofs.lemmas.Bool.{cases_Bool}
 use Rattle.std.proofs.lemmas.Bool.Decides.{nat_tests}
 use Rattle.std.proofs.lemmas.Cmp.{tied_itself}
-use Rattle.std.proofs.lemmas.List.{get_or-map, length-map}
+use Rattle.std.proofs.lemmas.List.{length-map}
+use Rattle.std.proofs.lemmas.List.Elements.{All-from_recursion}
 use Rattle.std.proofs.lemmas.List.Sorted.{ranks_by}
-use Rattle.std.proofs.lemmas.Map.Keys.{sorted_from_all_adjacent}
 use Rattle.std.proofs.lemmas.Option.{slice_get-get_or}
 use Rattle.dz_name.specs.Words.{Name}
 use Rattle.dz_name.specs.Name.{canonical_order, same_name}
@@ -19,9 +20,12 @@ use Rattle.dz_member.specs.Listing.{same_zone}
 use Rattle.dz_settings.specs.Twice.{has_twice}
 use Rattle.dz_member.specs.Sorting.{insert_by}
 use Rattle.dz_member.specs.Process.{in_zone_order}
+use Rattle.dz_member.specs.inner.Again.{AreAllRising}
 use Rattle.dz_member.specs.inner.Places.{AreRising, ArePlacesOnce, comes_before, zone_at}
+use Rattle.dz_member.proofs.MixLemmas.{at_is}
+use Rattle.dz_member.proofs.SearchLemmas.{rise_answer}
 use Rattle.dz_member.proofs.SortLemmas.{NoneBelow, Rises, rises_sorted_by}
-use Rattle.dz_member.proofs.OrderLemmas.{node_before, apart_all, less_is}
+use Rattle.dz_member.proofs.OrderLemmas.{node_before, apart_all}
 use Rattle.dz_member.proofs.PlaceLemmas.{length_ordered}
 use Rattle.dz_member.proofs.WalkLemmas.{all_more, apart, apart_back}
 
@@ -184,17 +188,20 @@ within_all count (p ∷ ps) t =
       | inr f ↦ absurd (let e : false ≡ true = rw f at t in cc)
     ]
 
-less_of : (o r : Option Node) → option_map_or (λ x. option_map_or (λ y. is_lt (canonical_order x.zone y.zone)) r false) o false ≡ true
-    → canonical_order (option_map_or zone_of o []) (option_map_or zone_of r []) ≡ Less
-less_of None r e = absurd (cc)
-less_of (Some x) None e = absurd (cc)
-less_of (Some x) (Some y) e = less_is (canonical_order x.zone y.zone) e
+pub all_within : (count : ℕ) (places : List ℕ) → AllByRecursion (λ p. p < count) places → list_all (λ p. nat_lt p count) places ≡ true
+all_within count [] w = refl
+all_within count (p ∷ ps) w = let t : nat_lt p count ≡ true = grind (arith, nat_tests, w.0) in rw (t, all_within count ps w.1) refl
 
-pub rising : (nodes : List Node) (places : List ℕ) (r : Bool) → IsAllAdjacentAnswer (λ a b c. c ≡ comes_before nodes a b) places r → r ≡ true → IsStrictlySortedBy canonical_order (map (zone_at nodes) places)
-rising nodes places false h t = absurd (cc)
-rising nodes places true h t =
-    sorted_from_all_adjacent canonical_total (map (zone_at nodes) places) [] (λ k lt.
-    let inside : k + 1 < length places = omega (arith, length-map places (zone_at nodes)) in
-    let a : get_or (map (zone_at nodes) places) k [] ≡ zone_at nodes (get_or places k 0) = get_or-map (zone_at nodes) places k 0 [] (omega arith) in
-    let b : get_or (map (zone_at nodes) places) (k + 1) [] ≡ zone_at nodes (get_or places (k + 1) 0) = get_or-map (zone_at nodes) places (k + 1) 0 [] inside in
-    rw (a, b) (less_of (slice_get nodes (get_or places k 0)) (slice_get nodes (get_or places (k + 1) 0)) (sym (h k 0 inside))))
+zone_answer : (nodes : List Node) (places : List ℕ) (r : Bool) → All (λ p. p < length nodes) places → IsAllAdjacentAnswer (λ a b c. c ≡ comes_before nodes a b) places r
+    → IsAllAdjacentAnswer (λ a b c. c ≡ is_lt (canonical_order (zone_at nodes a) (zone_at nodes b))) places r
+zone_answer nodes places true w h = λ k d lt. h k d lt ∙ at_is nodes (get_or places k d) (get_or places (k + 1) d) (w k d (omega (arith, lt))) (w (k + 1) d lt)
+zone_answer nodes places false w h = (h.0, h.1, λ d. h.2 d ∙ at_is nodes (get_or places h.0 d) (get_or places (h.0 + 1) d) (w h.0 d (omega (arith, h.1))) (w (h.0 + 1) d h.1))
+
+pub rising : (nodes : List Node) (places : List ℕ) (r : Bool) → AllByRecursion (λ p. p < length nodes) places → IsAllAdjacentAnswer (λ a b c. c ≡ comes_before nodes a b) places r
+    → Decides r (IsStrictlySortedBy canonical_order (map (zone_at nodes) places))
+rising nodes places r w h = rise_answer canonical_total (zone_at nodes) places r (zone_answer nodes places r (All-from_recursion (λ p. p < length nodes) places w) h)
+
+-- the places that were tried
+pub tried_as : {V : Type 0} (items : V → List ℕ) (nodes : List Node) (places : List ℕ) (o : Option V) → MatchOption o (¬ AreAllRising nodes places) (λ v. items v ≡ places) → MatchOption (option_map items o) (¬ AreAllRising nodes places) (λ v. v ≡ places)
+tried_as items nodes places None h = h
+tried_as items nodes places (Some v) h = h

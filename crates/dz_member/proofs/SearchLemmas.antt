@@ -16,13 +16,13 @@ use Rattle.std.proofs.lemmas.Map.Keys.{Less-from_sorted, sorted_from_all_adjacen
 use Rattle.std.proofs.lemmas.Bool.{cases_Bool, cases_lt}
 use Rattle.std.proofs.lemmas.Bool.Decides.{nat_tests}
 
-less_from : (k : Ordering) → is_lt k ≡ true → k ≡ Less
+pub less_from : (k : Ordering) → is_lt k ≡ true → k ≡ Less
 less_from Less h = refl
 less_from Equal h = absurd (cc)
 less_from Greater h = absurd (cc)
 
 module _ {K X : Type 0} {R : K → K → Ordering} (o : IsTotalOrder R) (f : X → K) where
-  less_at : (xs : List X) (k i : ℕ) (d : X) → IsStrictlySortedBy R (map f xs) → k < i → i < length xs → R (f (get_or xs k d)) (f (get_or xs i d)) ≡ Less
+  pub less_at : (xs : List X) (k i : ℕ) (d : X) → IsStrictlySortedBy R (map f xs) → k < i → i < length xs → R (f (get_or xs k d)) (f (get_or xs i d)) ≡ Less
   less_at xs k i d up less inside =
       let a : get_or (map f xs) k (f d) ≡ f (get_or xs k d) = get_or-map f xs k d (f d) (omega arith) in
       let b : get_or (map f xs) i (f d) ≡ f (get_or xs i d) = get_or-map f xs i d (f d) inside in

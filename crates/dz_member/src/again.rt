@@ -1,25 +1,35 @@
 //! The order of a listing's zones, where most of it is known from an earlier listing.
 
-ghost use Rattle.std.specs.Prelude.{◌≡◌, ◌+◌, ◌<◌, ◌≤◌, length, nat_lt, IsTrue, IfOk, IfSome, OnOk};
-ghost use Rattle.std.specs.List.{list_all};
+ghost use Rattle.std.specs.Prelude.{◌≡◌, ◌↔◌, ◌<◌, ◌≤◌, ◌++◌, length, map, nat_lt, All, IsTrue, IfOk, IfSome, OnOk, MatchOption};
+ghost use Rattle.std.specs.Option.{option_map};
+ghost use Rattle.std.specs.List.{list_all, filter_map, range_with_len};
+ghost use Rattle.std.specs.List.Sorted.{IsStrictlySortedBy, IsPermutation};
+ghost use Rattle.dz_name.specs.Name.{label_order};
+ghost use Rattle.dz_member.specs.inner.Again.{place_of_label, count_below, place_again, is_among, others, AreInZoneOrder, AreLikely, AreAllRising, AreTried};
 ghost use Rattle.dz_member.specs.inner.Places.{AreRising, ArePlacesOnce, comes_before};
 
 use crate::listing::{Listing, Node};
 use dz_name::Label;
 use std::alloc::{AllocError, Global};
+use std::cmp::Ordering;
 
 /// Up to this many new nodes are each put in their place among the others; more are sorted together with them.
 const ADDED: usize = 256;
 
 /// The places of nodes in the order of their zones, as an earlier listing gives it; none where it doesn't, as where
-/// more than 256 nodes are new. The error is out of memory.
+/// more than 256 nodes are new. If there is an earlier listing, the places that are likely are tried. The error is out of
+/// memory.
 pub(crate) fn places_again(
     alloc: Global,
     nodes: &[Node],
     before: Option<&Listing>,
 ) -> Result<Option<Vec<u32>>, AllocError>
-    requires { length nodes.now ≤ 65536 }
-    ensures { IfOk result (λ o. IfSome o (λ places. ArePlacesOnce nodes.now places.items)) }
+    requires few { length nodes.now ≤ 65536 }
+    requires labels { IsStrictlySortedBy label_order (map (λ n. n.label) nodes.now) }
+    ensures placed { IfOk result
+        (λ o. IfSome o (λ places. ArePlacesOnce nodes.now places.items)) }
+    ensures tried { IfOk result (λ o. IfSome before.entry
+        (λ b. AreTried ADDED nodes.now b.now (option_map (λ v. v.items) o))) }
 {
     match before {
         None => Ok(None),
@@ -32,7 +42,9 @@ pub(crate) fn places_again(
 
 /// The places, if they are those of all nodes in the order of their zones.
 fn if_rising(nodes: &[Node], places: Vec<u32>) -> Option<Vec<u32>>
-    ensures { IfSome result (λ v. ArePlacesOnce nodes.now v.items) }
+    ensures placed { IfSome result (λ v. ArePlacesOnce nodes.now v.items) }
+    ensures tried { MatchOption result (¬ AreAllRising nodes.now places.items)
+        (λ v. v.items ≡ places.items) }
 {
     if places.len() == nodes.len() && zones_rise_at(nodes, places.as_slice()) {
         Some(places)
@@ -43,7 +55,7 @@ fn if_rising(nodes: &[Node], places: Vec<u32>) -> Option<Vec<u32>>
 
 /// Whether there is a node at each of the places, and its zone comes before the next one's.
 fn zones_rise_at(nodes: &[Node], places: &[u32]) -> bool
-    ensures { IsTrue result → AreRising nodes.now places.now }
+    ensures { IsTrue result ↔ AreRising nodes.now places.now }
 {
     if !are_within(nodes.len(), places) {
         return false;
@@ -69,115 +81,123 @@ fn comes_before(nodes: &[Node], a: u32, b: u32) -> bool
 }
 
 /// Places that are likely those of the nodes in the order of their zones: those of the labels that an earlier listing
-/// has, in its order, and the others where their zones come. The error is out of memory.
+/// has, in its order, and among them the others, if these are at most 256. The error is out of memory.
 fn likely_places(alloc: Global, nodes: &[Node], before: &Listing) -> Result<Vec<u32>, AllocError>
-    requires { length nodes.now ≤ 65536 }
+    requires few { length nodes.now ≤ 65536 }
+    requires labels { IsStrictlySortedBy label_order (map (λ n. n.label) nodes.now) }
+    ensures { IfOk result (λ places. AreLikely ADDED nodes.now before.now places.items) }
 {
-    let mut added = Vec::new(alloc);
-    let again = labels_again(alloc, nodes, before.nodes(), &mut added)?;
+    let again = labels_again(alloc, nodes, before.nodes())?;
     let mut places = kept_places(alloc, nodes.len(), before.places(), again.as_slice())?;
+    let added = other_places(alloc, nodes.len(), places.as_slice())?;
     if added.len() <= ADDED {
         put_added(&mut places, nodes, added.as_slice())?;
     }
     Ok(places)
 }
 
-/// For each node of the earlier listing the place of its label, if it has one; the other places are added. The error is
-/// out of memory.
+/// For each node of the earlier listing the place of its label, if a node has it. The error is out of memory.
 fn labels_again(
     alloc: Global,
     nodes: &[Node],
     before: &[Node],
-    added: &mut Vec<u32>,
 ) -> Result<Vec<Option<u32>>, AllocError>
-    requires { length nodes.now ≤ 65536 }
+    requires few { length nodes.now ≤ 65536 }
+    requires labels { IsStrictlySortedBy label_order (map (λ n. n.label) nodes.now) }
+    requires before { IsStrictlySortedBy label_order (map (λ n. n.label) before.now) }
+    ensures { IfOk result (λ v. v.items
+        ≡ map (λ b. place_of_label nodes.now b.label) before.now) }
 {
     let mut again = Vec::with_capacity(alloc, before.len())?;
     let mut next = 0;
-    'before: for node in before {
-        again.push(label_again(nodes, &node.label, &mut next, added)?)?;
+    'labels: for node in before {
+        again.push(label_again(nodes, &node.label, &mut next))?;
     }
-    add_rest(nodes, next, added)?;
     Ok(again)
 }
 
-/// Adds the places from one on. The error is out of memory.
-fn add_rest(nodes: &[Node], next: usize, added: &mut Vec<u32>) -> Result<(), AllocError>
-    requires { length nodes.now ≤ 65536 }
-{
-    'rest: for place in next..nodes.len() {
-        added.push(place as u32)?;
-    }
-    Ok(())
-}
-
-/// The place of a label that isn't before the next one. The error is out of memory.
-fn label_again(
-    nodes: &[Node],
-    label: &Label,
-    next: &mut usize,
-    added: &mut Vec<u32>,
-) -> Result<Option<u32>, AllocError>
-    requires { length nodes.now ≤ 65536 }
-{
-    if !has_label(nodes, *next, label) {
-        pass(nodes, label, next, added)?;
-        if !has_label(nodes, *next, label) {
-            return Ok(None);
-        }
-    }
-    let place = *next as u32;
-    *next += 1;
-    Ok(Some(place))
-}
-
-/// Whether the node at a place has this label.
-fn has_label(nodes: &[Node], place: usize, label: &Label) -> bool
-    ensures { IsTrue result → place < length nodes.now }
-{
-    place < nodes.len() && nodes[place].label.octets() == label.octets()
-}
-
-/// Goes on over the nodes whose labels come before this one. Their places are added. The error is out of memory.
-fn pass(
-    nodes: &[Node],
-    label: &Label,
-    next: &mut usize,
-    added: &mut Vec<u32>,
-) -> Result<(), AllocError>
-    requires { length nodes.now ≤ 65536 }
+/// The place of a label, if a node has it. Goes on over the nodes whose labels come before this one.
+fn label_again(nodes: &[Node], label: &Label, next: &mut usize) -> Option<u32>
+    requires few { length nodes.now ≤ 65536 }
+    requires labels { IsStrictlySortedBy label_order (map (λ n. n.label) nodes.now) }
+    requires next { next.old ≤ count_below nodes.now label.now }
+    ensures place { result ≡ place_of_label nodes.now label.now }
+    ensures next { next.new ≡ count_below nodes.now label.now }
 {
     'nodes: for place in *next..nodes.len() {
-        if !nodes[place].label.cmp(label).is_lt() {
-            return Ok(());
+        match nodes[place].label.cmp(label) {
+            Ordering::Less => *next = place + 1,
+            Ordering::Equal => return Some(place as u32),
+            Ordering::Greater => return None,
         }
-        added.push(place as u32)?;
-        *next = place + 1;
     }
-    Ok(())
+    None
 }
 
-/// The places of the labels that are listed again, in the order of the earlier places. The error is out of memory.
+/// The places of the labels that are listed again, in the order of the earlier places, with room for a count. The error
+/// is out of memory.
 fn kept_places(
     alloc: Global,
     count: usize,
     before: &[u32],
     again: &[Option<u32>],
-) -> Result<Vec<u32>, AllocError> {
+) -> Result<Vec<u32>, AllocError>
+    ensures { IfOk result (λ v. v.items ≡ filter_map (place_again again.now) before.now) }
+{
     let mut kept = Vec::with_capacity(alloc, count)?;
-    'before: for place in before {
-        if let Some(Some(now)) = again.get(*place as usize) {
-            kept.push(*now)?;
+    'earlier: for place in before {
+        if let Some(now) = place_again(again, *place) {
+            kept.push(now)?;
         }
     }
     Ok(kept)
 }
 
+/// Where the node of an earlier place is now, if it is.
+fn place_again(again: &[Option<u32>], place: u32) -> Option<u32>
+    ensures { result ≡ place_again again.now place }
+{
+    match again.get(place as usize) {
+        None => None,
+        Some(now) => *now,
+    }
+}
+
+/// The places below a count that aren't among these. The error is out of memory.
+fn other_places(alloc: Global, count: usize, places: &[u32]) -> Result<Vec<u32>, AllocError>
+    requires { count ≤ 65536 }
+    ensures { IfOk result (λ v. v.items ≡ others count places.now) }
+{
+    let marks = marks_of(alloc, count, places)?;
+    let mut others = Vec::new(alloc);
+    'marks: for (place, mark) in marks.iter().enumerate() {
+        if !*mark {
+            others.push(place as u32)?;
+        }
+    }
+    Ok(others)
+}
+
+/// Of each place below a count whether it is among these. The error is out of memory.
+fn marks_of(alloc: Global, count: usize, places: &[u32]) -> Result<Vec<bool>, AllocError>
+    ensures { IfOk result (λ v. v.items
+        ≡ map (is_among places.now) (range_with_len 0 count)) }
+{
+    let mut marks = vec![in alloc; false; count]?;
+    'places: for place in places {
+        if (*place as usize) < count {
+            marks[*place as usize] = true;
+        }
+    }
+    Ok(marks)
+}
+
 /// Puts at most 256 places where the zones of their nodes come. The error is out of memory.
 fn put_added(places: &mut Vec<u32>, nodes: &[Node], added: &[u32]) -> Result<(), AllocError>
     requires { length added.now ≤ ADDED }
-    ensures { OnOk result (length places.new.items
-        ≡ length places.old.items + length added.now) }
+    ensures all { OnOk result (IsPermutation (places.old.items ++ added.now) places.new.items) }
+    ensures sorted { OnOk result (AreInZoneOrder nodes.now places.old.items
+        → All (λ p. p < length nodes.now) added.now → AreInZoneOrder nodes.now places.new.items) }
 {
     'added: for place in added {
         let end = places.partition_point(|p| comes_before(nodes, *p, *place));

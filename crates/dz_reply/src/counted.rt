@@ -1,6 +1,9 @@
-//! The calls of dz_secure, each counted in a ledger of its own. A number in the index says where they look first.
+//! The calls of dz_secure, and the search of the table, each counted in a ledger of its own. A number in the index says where
+//! those of dz_secure look first.
 
-ghost use Rattle.std.specs.Prelude.{◌≡◌};
+ghost use Rattle.std.specs.Prelude.{◌≡◌, IfSome, option_map};
+ghost use Rattle.dz_name.specs.Name.{IsWithin};
+ghost use Rattle.dz_table.specs.Table.{closest_for};
 ghost use Rattle.dz_lookup.specs.Found.{meaning, found};
 ghost use Rattle.dz_secure.specs.Secure.{signatures, covering, proof};
 
@@ -9,9 +12,35 @@ use dz_name::{Name, NameRef};
 use dz_record::Rr;
 use dz_secure::Evidence;
 use dz_steps::Steps;
+use dz_table::{Slot, Table};
 use dz_zone::Version;
 use std::marker::Brand;
 use std::sync::ledger::{Blank, Ledger};
+
+/// The slot of a table that answers for a name and a type.
+pub fn closest<'a>(table: &'a Table, name: &Name, kind: u16) -> Option<&'a Slot>
+    ensures value { option_map (λ r. r.now) result ≡ closest_for table.now name.now kind }
+    ensures encloses { IfSome result (λ slot. IsWithin name.now slot.now.zone) }
+{
+    count_closest::<Brand>(Blank::new(1), table, name, kind)
+}
+
+/// The same, counted in a ledger that is still blank.
+fn count_closest<'a, L: Ledger>(
+    blank: Blank,
+    table: &'a Table,
+    name: &Name,
+    kind: u16,
+) -> Option<&'a Slot>
+    requires name { blank.name ≡ L.name }
+    requires parts { blank.parts ≡ L.parts }
+    requires whole { blank.parts ≡ 1 }
+    ensures value { option_map (λ r. r.now) result ≡ closest_for table.now name.now kind }
+    ensures encloses { IfSome result (λ slot. IsWithin name.now slot.now.zone) }
+{
+    let mut steps = Steps::<L>::new(blank);
+    table.closest(name, kind, &mut steps)
+}
 
 /// The RRSIG records of an owner that cover a type.
 pub fn signatures<'a>(version: &'a Version, owner: &NameRef, kind: u16, near: usize) -> &'a [Rr]

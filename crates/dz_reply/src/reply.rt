@@ -14,6 +14,7 @@ ghost use Rattle.dz_reply.specs.ReadsBack.{ReadsBack};
 ghost use Rattle.dz_reply.specs.inner.AnswersHeld.{AnswersHeld, AnswersHeldFor};
 
 use crate::answer::reply_zone;
+use crate::counted;
 use dz_header::{Header, ReplyBuffer, ResponseCode, Transport, Writer};
 use dz_name::Name;
 use dz_request::{Asked, Frame, Request, read_request, reply_curt};
@@ -120,10 +121,8 @@ fn reply_question(exchange: &Exchange<'_>, asked: &Asked, writer: &mut Writer) -
         exchange.now.moment }
     ensures size { FitsBuffer result }
 {
-    match exchange
-        .table
-        .closest(&asked.question.name, asked.question.kind)
-    {
+    let question = &asked.question;
+    match counted::closest(exchange.table, &question.name, question.kind) {
         None => reply_code(exchange, asked, ResponseCode::Refused, writer),
         Some(slot) => reply_slot(exchange, slot, asked, writer),
     }

@@ -5,3 +5,4 @@ pub mod KeptLemmas
 pub mod LastLemmas
 pub mod AheadLemmas
 pub mod AboveLemmas
+pub mod CostLemmas

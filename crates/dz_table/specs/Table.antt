@@ -1,6 +1,6 @@
 -- Meaning: slots of zones, and which one answers for a name (RFC 1034 section 4.3.2). A list of slots may be in any
 -- order, unless stated otherwise.
-use Rattle.std.specs.Prelude.{◌≤◌, Bool, not, ◌==◌, if◌then◌else◌, List, [], ◌∷◌, ◌++◌, length, filter, Option, Some, None}
+use Rattle.std.specs.Prelude.{ℕ, ◌+◌, ◌*◌, ◌/◌, ◌^◌, ◌≤◌, Bool, not, ◌==◌, if◌then◌else◌, List, [], ◌∷◌, ◌++◌, length, filter, Option, Some, None}
 use Rattle.std.specs.Option.{option_or}
 use Rattle.std.specs.List.{find, All, Contains}
 use Rattle.std.specs.List.Sorted.{IsStrictlySortedBy}
@@ -68,3 +68,8 @@ pub record IsNearest (slots : List SlotOf) (name : Name) (slot : SlotOf) : Type 
 abbrev pub IsClosest : List SlotOf → Name → Option SlotOf → Type 0
 IsClosest slots name None = All (λ other. ¬ IsWithin name other.zone) slots
 IsClosest slots name (Some slot) = IsNearest slots name slot
+
+-- so many comparisons of zones so many searches of a table of so many slots take at most: each takes as many as the number
+-- of chunks of slots and one has bits, and 22 more in one chunk
+abbrev pub SearchesTake : ℕ → ℕ → ℕ → Type 0
+SearchesTake slots searches taken = (bits : ℕ) → slots / 64 + 2 ≤ 2 ^ bits → taken ≤ searches * (bits + 22)

@@ -10,11 +10,13 @@ ghost use Rattle.dz_table.specs.Slot.{SlotOf, IsSlot, is_live};
 use crate::zone_key::ZoneKey;
 use dz_chunks::{Keyed, Share};
 use dz_name::{KeptName, Name, NameRef};
+use dz_steps::Steps;
 use dz_zone::Version;
 use std::alloc::{AllocError, Global};
 use std::cmp::Ordering;
 use std::marker::Model;
 use std::sync::Arc;
+use std::sync::ledger::Ledger;
 
 /// What is held of a zone: its name, the moment of its last refresh in seconds, below 2^40, and its version, if there
 /// is one. A version's apex is the zone. Slots may share a version.
@@ -158,8 +160,9 @@ impl Keyed<ZoneKey> for Slot {
         ZoneKey::of(&self.zone().to_name())
     }
 
-    /// How the slot's zone compares in canonical order with the zone that is asked for.
-    fn compare(&self, asked: &ZoneKey) -> Ordering {
+    /// How the slot's zone compares in canonical order with the zone that is asked for. It is one step.
+    fn compare<L: Ledger>(&self, asked: &ZoneKey, steps: &mut Steps<L>) -> Ordering {
+        steps.tick();
         self.zone().canonical_cmp(&asked.zone().as_ref())
     }
 }

@@ -1,9 +1,10 @@
 //! The table of zones.
 
-ghost use Rattle.std.specs.Prelude.{◌≡◌, ◌≢◌, ◌≤◌, ◌+◌, ◌/◌, [], Some, None, IfOk, IfSome, length, option_map};
+ghost use Rattle.std.specs.Prelude.{◌≡◌, ◌≢◌, ◌≤◌, ◌+◌, ◌-◌, ◌/◌, [], Some, None, IfOk, IfSome, length, option_map};
 ghost use Rattle.dz_name.specs.Name.{IsWithin};
 ghost use Rattle.dz_name.specs.Words.{Name};
-ghost use Rattle.dz_table.specs.Table.{closest_for, closest_above, IsTable, IsClosest, put, without, slot_of, closest};
+ghost use Rattle.dz_table.specs.Table.{closest_for, closest_above, IsTable, IsClosest, put, without, slot_of, closest, SearchesTake};
+ghost use Rattle.dz_chunks.specs.Search.{TakesAtMost};
 
 use crate::ahead::Ahead;
 use crate::shared_slot::{SharedSlot, entries_of};
@@ -36,6 +37,13 @@ impl Model for Table {
     ghost view = { λ t. slots_of t.slots };
 
     ghost invariant = { λ t. IsKept t.slots };
+}
+
+/// Ledgers that are still blank: one for each counter of a change.
+struct Blanks {
+    entries: Blank,
+    references: Blank,
+    comparisons: Blank,
 }
 
 impl Table {
@@ -75,12 +83,12 @@ impl Table {
     }
 
     /// A new table with this slot in place of the one of its zone, or beside the others, which it shares. It copies at most
-    /// 256 references to slots, and one to a chunk of them for each 64 slots and one more.
-    pub fn with<E: Ledger, R: Ledger>(
+    /// 256 references to slots, and one to a chunk of them for each 64 slots and one more, and makes one search.
+    pub fn with<E: Ledger, R: Ledger, C: Ledger>(
         &self,
         alloc: Global,
         slot: Slot,
-        copies: &mut Copies<E, R>,
+        copies: &mut Copies<E, R, C>,
     ) -> Result<Table, AllocError>
         ensures value { IfOk result (λ t. t ≡ put self.now slot) }
         ensures own { IfOk result (λ t. slot_of slot.zone t ≡ Some slot) }
@@ -89,6 +97,8 @@ impl Table {
         ensures entries { copies.new.entries ≤ copies.old.entries + 256 }
         ensures references { copies.new.references
             ≤ copies.old.references + (length self.now / 64 + 1) }
+        ensures comparisons { TakesAtMost (length self.now) 9
+            (copies.new.comparisons - copies.old.comparisons) }
     {
         let slots = self.slots.with(alloc, slot, copies)?;
         Ok(Table { slots })
@@ -98,39 +108,52 @@ impl Table {
     pub fn with_slot(&self, alloc: Global, slot: Slot) -> Result<Table, AllocError>
         ensures { IfOk result (λ t. t ≡ put self.now slot) }
     {
-        self.counted_with::<Brand, Brand>(Blank::new(1), Blank::new(1), alloc, slot)
+        let blanks = Blanks {
+            entries: Blank::new(1),
+            references: Blank::new(1),
+            comparisons: Blank::new(1),
+        };
+        self.counted_with::<Brand, Brand, Brand>(blanks, alloc, slot)
     }
 
     /// The same, counted in ledgers that are still blank.
-    fn counted_with<E: Ledger, R: Ledger>(
+    fn counted_with<E: Ledger, R: Ledger, C: Ledger>(
         &self,
-        entries: Blank,
-        references: Blank,
+        blanks: Blanks,
         alloc: Global,
         slot: Slot,
     ) -> Result<Table, AllocError>
-        requires entries_name { entries.name ≡ E.name }
-        requires entries_parts { entries.parts ≡ E.parts }
-        requires entries_whole { entries.parts ≡ 1 }
-        requires references_name { references.name ≡ R.name }
-        requires references_parts { references.parts ≡ R.parts }
-        requires references_whole { references.parts ≡ 1 }
+        requires entries_name { blanks.entries.name ≡ E.name }
+        requires entries_parts { blanks.entries.parts ≡ E.parts }
+        requires entries_whole { blanks.entries.parts ≡ 1 }
+        requires references_name { blanks.references.name ≡ R.name }
+        requires references_parts { blanks.references.parts ≡ R.parts }
+        requires references_whole { blanks.references.parts ≡ 1 }
+        requires comparisons_name { blanks.comparisons.name ≡ C.name }
+        requires comparisons_parts { blanks.comparisons.parts ≡ C.parts }
+        requires comparisons_whole { blanks.comparisons.parts ≡ 1 }
         ensures { IfOk result (λ t. t ≡ put self.now slot) }
     {
+        let Blanks {
+            entries,
+            references,
+            comparisons,
+        } = blanks;
         let mut copies = Copies {
             entries: Steps::<E>::new(entries),
             references: Steps::<R>::new(references),
+            comparisons: Steps::<C>::new(comparisons),
         };
         self.with(alloc, slot, &mut copies)
     }
 
-    /// A new table without the slot of a zone, equal to this one where the zone has none. It copies no more than
-    /// [`Table::with`].
-    pub fn without<E: Ledger, R: Ledger>(
+    /// A new table without the slot of a zone, equal to this one where the zone has none. It copies and
+    /// compares no more than [`Table::with`].
+    pub fn without<E: Ledger, R: Ledger, C: Ledger>(
         &self,
         alloc: Global,
         zone: &Name,
-        copies: &mut Copies<E, R>,
+        copies: &mut Copies<E, R, C>,
     ) -> Result<Table, AllocError>
         ensures value { IfOk result (λ t. t ≡ without self.now zone.now) }
         ensures own { IfOk result (λ t. slot_of zone.now t ≡ None) }
@@ -139,59 +162,91 @@ impl Table {
         ensures entries { copies.new.entries ≤ copies.old.entries + 256 }
         ensures references { copies.new.references
             ≤ copies.old.references + (length self.now / 64 + 1) }
+        ensures comparisons { TakesAtMost (length self.now) 9
+            (copies.new.comparisons - copies.old.comparisons) }
     {
         let slots = self.slots.without(alloc, &ZoneKey::of(zone), copies)?;
         Ok(Table { slots })
     }
 
-    /// The slot of exactly this zone; none where it has none.
+    /// The slot of exactly this zone; none where it has none. For a caller that counts nothing.
     pub fn get(&self, zone: &Name) -> Option<&Slot>
         ensures slot { option_map (λ r. r.now) result ≡ slot_of zone.now self.now }
         ensures order { IsTable self.now }
     {
-        self.slots.get(&ZoneKey::of(zone))
+        self.counted_get::<Brand>(Blank::new(1), zone)
+    }
+
+    /// The same, counted in a ledger that is still blank.
+    fn counted_get<L: Ledger>(&self, blank: Blank, zone: &Name) -> Option<&Slot>
+        requires name { blank.name ≡ L.name }
+        requires parts { blank.parts ≡ L.parts }
+        requires whole { blank.parts ≡ 1 }
+        ensures slot { option_map (λ r. r.now) result ≡ slot_of zone.now self.now }
+        ensures order { IsTable self.now }
+    {
+        let mut steps = Steps::<L>::new(blank);
+        self.find(zone, &mut steps)
+    }
+
+    /// The slot of exactly this zone; none where it has none. It is one search.
+    pub fn find<L: Ledger>(&self, zone: &Name, steps: &mut Steps<L>) -> Option<&Slot>
+        ensures slot { option_map (λ r. r.now) result ≡ slot_of zone.now self.now }
+        ensures order { IsTable self.now }
+        ensures cost { TakesAtMost (length self.now) 9 (steps.new - steps.old) }
+    {
+        self.slots.get(&ZoneKey::of(zone), steps)
     }
 
     /// The slot that answers for a name and a type: that of the closest enclosing zone, but for a DS that of the
-    /// closest zone above the name, if there is one (RFC 4035 section 3.1.4.1).
+    /// closest zone above the name, if there is one (RFC 4035 section 3.1.4.1). It takes no more searches than the name
+    /// has labels and one, but for a DS as many as there are names above it before these.
     #[tactic(auto, unfolding(crate::specs::Table::closest_for))]
-    pub fn closest(&self, name: &Name, kind: u16) -> Option<&Slot>
+    pub fn closest<L: Ledger>(&self, name: &Name, kind: u16, steps: &mut Steps<L>) -> Option<&Slot>
         ensures value { option_map (λ r. r.now) result ≡ closest_for self.now name.now kind }
         ensures encloses { IfSome result (λ slot. IsWithin name.now slot.now.zone) }
+        ensures cost { kind ≢ TYPE_DS
+            → SearchesTake (length self.now) (length name.now + 1) (steps.new - steps.old) }
+        ensures ds_cost { SearchesTake (length self.now) (length name.now + (length name.now + 1))
+            (steps.new - steps.old) }
     {
         if kind != TYPE_DS {
-            return self.enclosing(name);
+            return self.enclosing(name, steps);
         }
-        match self.above(name) {
+        match self.above(name, steps) {
             Some(slot) => Some(slot),
-            None => self.enclosing(name),
+            None => self.enclosing(name, steps),
         }
     }
 
-    /// The slot whose zone encloses the name one label up and has most labels; none for the root.
-    fn above(&self, name: &Name) -> Option<&Slot>
+    /// The slot whose zone encloses the name one label up and has most labels; none for the root. It takes no more searches
+    /// than the name has labels.
+    fn above<L: Ledger>(&self, name: &Name, steps: &mut Steps<L>) -> Option<&Slot>
         ensures value { option_map (λ r. r.now) result ≡ closest_above self.now name.now }
         ensures encloses { IfSome result (λ slot. IsWithin name.now slot.now.zone) }
+        ensures cost { SearchesTake (length self.now) (length name.now) (steps.new - steps.old) }
     {
         if name.label_count() == 0 {
             return None;
         }
-        match self.enclosing(&name.ancestor(1)) {
+        match self.enclosing(&name.ancestor(1), steps) {
             Some(slot) => Some(slot),
             None => None,
         }
     }
 
     /// The slot whose zone encloses the name and has most labels (RFC 1034 section 4.3.2, step 2); none where no zone
-    /// encloses it.
-    pub fn enclosing(&self, name: &Name) -> Option<&Slot>
+    /// encloses it. It takes no more searches than the name has labels and one.
+    pub fn enclosing<L: Ledger>(&self, name: &Name, steps: &mut Steps<L>) -> Option<&Slot>
         ensures value { option_map (λ r. r.now) result ≡ closest self.now name.now }
         ensures nearest { IsClosest self.now name.now (option_map (λ r. r.now) result) }
+        ensures cost { SearchesTake (length self.now) (length name.now + 1)
+            (steps.new - steps.old) }
     {
         // a zone that encloses a name encloses all names between the two in canonical order
         let mut asked = *name;
         'ancestors: loop {
-            let slot = self.slots.last_upto(&ZoneKey::of(&asked))?;
+            let slot = self.slots.last_upto(&ZoneKey::of(&asked), steps)?;
             let zone = slot.zone();
             let below = asked.as_ref();
             if below.is_within(&zone) {

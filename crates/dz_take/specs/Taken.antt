@@ -1,5 +1,6 @@
 -- Meaning: a transfer, the octets that were read of it, and what an outcome in memory says.
 use Rattle.std.specs.Prelude.{⊤, ◌≡◌, ℕ, [], length, Option, Some, None, IsSome}
+use Rattle.std.specs.Option.{ForSome}
 use Rattle.std.specs.Arc.{arc_value}
 use Rattle.dz_name.specs.Words.{Name, Octets}
 use Rattle.dz_zone.specs.Version.{Zone}
@@ -55,9 +56,9 @@ standing_of up_to_date = None
 standing_of (new zone) = Some (standing zone.apex zone.records)
 standing_of (refused fault) = None
 
--- what came of a transfer is the outcome of its octets, all of them are used, and what the ZONEMD records say is kept
--- with it
+-- what came of a transfer is the outcome of its octets, and all of them are used; what is kept of the ZONEMD records is
+-- what they say
 pub record IsFinished (transfer : Transfer) (octets : Octets) (result : Outcome) (shown : Option Standing) : Type 0 where
   pub outcome : meaning_of result ≡ outcome transfer octets
   pub used : octets_used transfer octets ≡ length octets
-  pub standing : shown ≡ standing_of (meaning_of result)
+  pub standing : ForSome shown (λ s. standing_of (meaning_of result) ≡ Some s)

@@ -14,8 +14,8 @@ use std::marker::Model;
 use std::sync::Arc;
 
 /// A transfer that was read, and what came of it. Contracts see the transfer and the octets that were read: its outcome
-/// is that of these octets, and no octets follow those that decide it. Of a new version it keeps what the ZONEMD
-/// records of the version say.
+/// is that of these octets, and no octets follow those that decide it. What the ZONEMD records of a new version say is
+/// kept where it was computed.
 #[derive(Debug, Drop)]
 pub struct Finished {
     transfer: Transfer,
@@ -41,11 +41,30 @@ impl Finished {
         requires used { octets_used transfer octets ≡ length octets }
         ensures { result ≡ record { transfer = transfer; octets = octets } }
     {
-        let standing = standing_of(&came);
         Finished {
             transfer,
             octets,
             outcome: came,
+            standing: None,
+        }
+    }
+
+    /// The same, with what the ZONEMD records of a new version say (RFC 8976 section 4) computed and kept, so that
+    /// [`Finished::standing`] hashes nothing more.
+    pub fn digested(self) -> Finished
+        ensures { result ≡ self }
+    {
+        let Finished {
+            transfer,
+            octets,
+            outcome,
+            standing: _,
+        } = self;
+        let standing = standing_of(&outcome);
+        Finished {
+            transfer,
+            octets,
+            outcome,
             standing,
         }
     }
@@ -103,11 +122,14 @@ impl Finished {
     }
 
     /// What the ZONEMD records of the new version say of it (RFC 8976 section 4); none exactly where the outcome is no
-    /// new version.
+    /// new version. Unless [`Finished::digested`] has computed it, the version is hashed here.
     pub fn standing(&self) -> Option<Standing>
         ensures { result ≡ standing_of (outcome self.now.transfer self.now.octets) }
     {
-        self.standing
+        match self.standing {
+            Some(standing) => Some(standing),
+            None => standing_of(&self.outcome),
+        }
     }
 }
 

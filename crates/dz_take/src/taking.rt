@@ -97,8 +97,7 @@ impl Taking {
         }
     }
 
-    /// The transfer with what came of it. Of a new version that a ZONEMD record may verify the digested octets are
-    /// hashed here (RFC 8976); without such a record nothing is.
+    /// The transfer with what came of it. No version is hashed here ([`Finished::digested`]).
     ///
     /// # Errors
     ///

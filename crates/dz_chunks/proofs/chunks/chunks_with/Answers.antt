@@ -4,7 +4,8 @@ use Rattle.std.specs.FinMap.{put, is_sorted}
 use Rattle.dz_chunks.specs.Chunked.{flat}
 use Rattle.dz_chunks.proofs.EntryLemmas.{ok_then, ok_with}
 use Rattle.dz_chunks.proofs.ChunkLemmas.{seen_sorted, seen_put, chunked_put, put_longer}
-use Rattle.dz_chunks.proofs.JoinLemmas.{seen_length, length_short}
+use Rattle.dz_chunks.proofs.JoinLemmas.{seen_length, length_short, few_chunks}
+use Rattle.dz_chunks.proofs.SearchLemmas.{takes_at_most}
 use Rattle.dz_chunks.proofs.chunks.chunks_with.Goals as goal
 
 pub with_entry-requires-clause-sorted : goal.with_entry-requires-clause-sorted
@@ -60,3 +61,11 @@ returns-clause-entry_cost g c =
     let size = seen_length c.args.chunks.now c.chunk_for-at.result c.index-chunks-at.result c.chunk_for-at.ensures.within in
     let short = length_short c.args.chunks.now c.chunk_for-at.result c.requires.sized in
     omega (arith, size, short, ap length part, c.with_entry.ensures.cost, c.rebuilt.ensures.entry_cost)
+
+pub returns-in_err-entries-clause-comparisons : goal.returns-in_err-entries-clause-comparisons
+returns-in_err-entries-clause-comparisons g c =
+    takes_at_most _ _ _ _ _ (few_chunks c.args.chunks.now c.requires.sized) c.chunk_for-at.ensures.cost (omega (arith, c.with_entry.ensures.comparisons))
+
+pub returns-clause-comparisons : goal.returns-clause-comparisons
+returns-clause-comparisons g c =
+    takes_at_most _ _ _ _ _ (few_chunks c.args.chunks.now c.requires.sized) c.chunk_for-at.ensures.cost (omega (arith, c.with_entry.ensures.comparisons, c.rebuilt.ensures.comparisons))

@@ -1,4 +1,4 @@
-use Rattle.std.proofs.Common.{◌+◌, ◌-◌, ◌<◌, ◌≤◌}
+use Rattle.std.proofs.Common.{◌≡◌, ◌+◌, ◌-◌, ◌<◌, ◌≤◌}
 use Rattle.dz_chunks.specs.inner.Chunked.{IsUptoAt, IsBehindAt}
 use Rattle.dz_chunks.proofs.entries.last_between.Given as goal
 
@@ -10,6 +10,7 @@ invariant-steps g l =
     × (l.found ≤ l.place)
     × IsUptoAt g.K.Ord.cmp l.key l.entries l.found
     × (l.found < l.place → IsBehindAt g.K.Ord.cmp l.key l.entries (l.found + 1))
+    × (l.steps + l.begin ≡ l.fn.steps + l.place)
 
 abbrev pub decreases-steps : goal.decreases-steps
 decreases-steps g l = l.end - l.place

@@ -4,8 +4,8 @@ use Rattle.dz_chunks.specs.inner.Chunked.{IsBehindAt}
 use Rattle.dz_chunks.proofs.UptoLemmas.{found_last}
 use Rattle.dz_chunks.proofs.entries.last_from.Goals as goal
 
-pub returns : goal.returns
-returns g c =
+pub returns-clause-value : goal.returns-clause-value
+returns-clause-value g c =
     let last = c.last_between-last.result in
     let run = c.args.run in
     let within : last < length c.args.entries.now = search rules in

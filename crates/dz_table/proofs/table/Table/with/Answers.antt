@@ -1,4 +1,5 @@
 use Rattle.std.proofs.Common.{refl}
+use Rattle.dz_table.proofs.CostLemmas.{of_slots}
 use Rattle.dz_table.proofs.KeptLemmas.{put_kept, put_slots}
 use Rattle.dz_table.proofs.Putting.{put_own, put_others}
 use Rattle.dz_table.proofs.table.Table.with.Goals as goal
@@ -14,3 +15,9 @@ returns-clause-own g c = put_own c.args.self.now _ c.args.slot (returns-clause-v
 
 pub returns-clause-others : goal.returns-clause-others
 returns-clause-others g c = λ zone ne. put_others c.args.self.now _ c.args.slot zone (returns-clause-value g c) ne
+
+pub returns-in_err-slots-clause-comparisons : goal.returns-in_err-slots-clause-comparisons
+returns-in_err-slots-clause-comparisons g c = of_slots c.self.inside.slots c.args.self.now 9 _ c.self.view_is c.with.ensures.comparisons
+
+pub returns-clause-comparisons : goal.returns-clause-comparisons
+returns-clause-comparisons g c = of_slots c.self.inside.slots c.args.self.now 9 _ c.self.view_is c.with.ensures.comparisons
