@@ -53,7 +53,7 @@ impl fmt::Display for Advice {
     fn fmt<W: fmt::Write>(&self, f: &mut fmt::Formatter<W>) -> fmt::Result {
         let line = self.line;
         match self.expected {
-            Expected::Without(fault) => write!(f, "at a line that isn't known: {}", wrong(fault)),
+            Expected::Without(fault) => write!(f, "at a line that isn't known: {fault}"),
             expected => write!(f, "line {line}: {expected}"),
         }
     }
@@ -80,30 +80,11 @@ impl fmt::Display for Expected {
             Expected::Present(key) => {
                 write!(f, "{} is missing: expected {}", key.name(), key.takes())
             }
-            Expected::Without(fault) => write!(f, "{}", wrong(fault)),
-            Expected::Within => write!(f, "{WITHIN}"),
+            Expected::Without(fault) => write!(f, "{fault}"),
+            Expected::Within => write!(f, "{}", ConfigFault::OutOfLimits),
             Expected::Once => write!(f, "expected each catalog once, and in each each word once"),
             Expected::Secrets => { write!(f, "expected each secret to be {}", Key::Secret.takes()) }
         }
-    }
-}
-
-/// What is told of counts.
-const WITHIN: &str =
-    "expected 1 to 8 catalogs, at most 64 groups in each, 1 to 8 primaries in each, and at most 16 downstream addresses";
-
-/// What is wrong in words.
-fn wrong(fault: ConfigFault) -> &'static str {
-    match fault {
-        ConfigFault::NotToml => "this is no TOML",
-        ConfigFault::UnknownKey => "a key or a table isn't known",
-        ConfigFault::MissingValue => "a key is missing, or its value is of another kind",
-        ConfigFault::BadName => "a name or a key's name is no domain name",
-        ConfigFault::UnknownPolicy => "a policy is none of \"off\", \"present\" and \"require\"",
-        ConfigFault::BadPeer => "an address is none of IPv4, or its port is wrong",
-        ConfigFault::OutOfLimits => WITHIN,
-        ConfigFault::Twice => "a catalog, or a word of a catalog, appears twice",
-        ConfigFault::BadSecret => "a secret isn't 1 to 64 octets in hexadecimal",
     }
 }
 
