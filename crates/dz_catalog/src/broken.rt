@@ -20,7 +20,6 @@ use dz_record::Rr;
 use dz_zone::Version;
 
 /// The first reason that holds of the records, whatever the number of members is.
-#[tactic(auto, unfolding(crate::specs::Broken::broken_records))]
 pub(crate) fn broken_records(version: &Version) -> Option<Broken>
     ensures { MatchOption result
         (broken_records version.now.apex version.now.records
@@ -107,7 +106,6 @@ pub(crate) fn is_member(apex: &Name, found: &Rr) -> bool
 }
 
 /// Whether two records are PTR records of one owner. Types are quicker to tell apart than owners.
-#[tactic(auto, unfolding(dz_zone::specs::Valid::both_are))]
 fn both_point(a: &Rr, b: &Rr) -> bool
     ensures { result ≡ both_are TYPE_PTR a.now b.now }
 {
@@ -115,7 +113,6 @@ fn both_point(a: &Rr, b: &Rr) -> bool
 }
 
 /// Whether two records are PTR records of one member node.
-#[tactic(auto, unfolding(crate::specs::Broken::twins))]
 fn members_twin(apex: &Name, a: &Rr, b: &Rr) -> bool
     ensures { result ≡ twins (is_node apex.now) a.now b.now }
 {
@@ -123,7 +120,6 @@ fn members_twin(apex: &Name, a: &Rr, b: &Rr) -> bool
 }
 
 /// Whether two records are PTR records of one change of ownership.
-#[tactic(auto, unfolding(crate::specs::Broken::twins))]
 fn coos_twin(apex: &Name, a: &Rr, b: &Rr) -> bool
     ensures { result ≡ twins (is_coo apex.now) a.now b.now }
 {

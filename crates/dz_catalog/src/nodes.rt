@@ -40,7 +40,6 @@ fn behind(records: &[Rr], place: usize) -> &[Rr]
 
 /// Puts the member node of a record after the others, if it is a member record, by the records that follow it. The
 /// error is out of memory.
-#[tactic(auto, unfolding(crate::specs::inner::Below::node_behind))]
 fn add(
     nodes: &mut Vec<Node>,
     alloc: Global,

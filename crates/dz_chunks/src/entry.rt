@@ -48,6 +48,7 @@ impl<K: Lead + Copy, V: Keyed<K>> Entry<K, V> {
     /// memory.
     pub fn copied<L: Ledger>(&self, steps: &mut Steps<L>) -> Result<Entry<K, V>, AllocError>
         ensures copied { IfOk result (λ entry. entry ≡ self.now) }
+        ensures key { V.key self.now.1 ≡ self.now.0 }
         ensures counted { steps.new ≡ steps.old + 1 }
     {
         steps.tick();

@@ -2,6 +2,7 @@
 
 ghost use Rattle.std.specs.Prelude.{◌≡◌, IfOk};
 ghost use Rattle.dz_history.specs.After.{after};
+ghost use Rattle.dz_history.specs.Legal.{IsLegal};
 
 use crate::told::Told;
 use dz_table::Table;
@@ -20,19 +21,21 @@ pub(crate) struct Edition {
 impl Model for Edition {
     ghost use Rattle.std.specs.Prelude.{◌≡◌};
     ghost use Rattle.dz_history.specs.After.{after};
+    ghost use Rattle.dz_history.specs.Legal.{IsLegal};
     ghost use Rattle.dz_desk.specs.Seen.{Page};
 
     ghost Value = { Page };
 
     ghost view = { λ e. e.told };
 
-    ghost invariant = { λ e. e.table.value ≡ (after e.told.list).table };
+    ghost invariant = { λ e. (e.table.value ≡ (after e.told.list).table) × IsLegal e.told.list };
 }
 
 impl Edition {
     /// The edition of a list.
     pub(crate) fn new(table: Arc<Table>, told: Told) -> Edition
-        requires { table.value ≡ (after told.list).table }
+        requires table { table.value ≡ (after told.list).table }
+        requires legal { IsLegal told.list }
         ensures { result ≡ told }
     {
         Edition { table, told }
@@ -50,7 +53,8 @@ impl Edition {
 
     /// The table of the list.
     pub(crate) fn table(&self) -> &Table
-        ensures { result.now ≡ (after self.now.list).table }
+        ensures table { result.now ≡ (after self.now.list).table }
+        ensures legal { IsLegal self.now.list }
     {
         &self.table
     }

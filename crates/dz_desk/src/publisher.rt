@@ -89,9 +89,10 @@ impl Publisher {
         self.tell()
     }
 
-    /// A note of the published list.
+    /// A note of the published list, which can come about.
     pub fn tell(&self) -> Told
-        ensures { result ≡ page self.now.list self.now.book }
+        ensures told { result ≡ page self.now.list self.now.book }
+        ensures legal { IsLegal self.now.list }
     {
         self.writer.published().told().again()
     }

@@ -46,10 +46,7 @@ impl Sight {
         ensures table { result.now ≡ (after self.now.list).table }
         ensures legal { IsLegal self.now.list }
     {
-        let edition = self.looking.get();
-        // what is known of notes is known of the list
-        edition.told().count();
-        edition.table()
+        self.looking.get().table()
     }
 }
 
@@ -171,6 +168,7 @@ impl Reading {
         ensures seen { IsPrefix self.old.list self.new.list }
         ensures told { IsPrefix told.list self.new.list }
         ensures same { self.new ≡ record self.old { list = self.new.list } }
+        ensures legal { IsLegal self.new.list }
     {
         let Reading { seat, seen, .. } = self;
         let Some(waiting) = seat.take() else {

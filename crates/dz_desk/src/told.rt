@@ -38,6 +38,7 @@ impl Told {
     /// A new book, without an entry, and the word that holds its length.
     pub(crate) fn open() -> (Told, Length)
         ensures list { result.0.list ≡ [] }
+        ensures legal { IsLegal result.0.list }
         ensures word { result.1 ≡ length_of result.0.book }
     {
         let (reached, mut pen, _) = Seen::open(Start::alone(), 0, 0);
@@ -47,7 +48,8 @@ impl Told {
 
     /// A copy of the note.
     pub(crate) fn again(&self) -> Told
-        ensures { result ≡ self.now }
+        ensures same { result ≡ self.now }
+        ensures legal { IsLegal self.now.list }
     {
         Told {
             count: self.count,

@@ -70,7 +70,6 @@ pub(crate) fn join<D: Disk>(disk: &mut D, gate: u64, staged: &[u8]) -> Result<()
 }
 
 /// The octets of a record after its gate, followed by a closed gate. `AllocError` where memory runs out.
-#[tactic(auto, unfolding(crate::specs::RecordLog::body))]
 pub(crate) fn stage(alloc: Global, payload: &[u8]) -> Result<Vec<u8>, AllocError>
     ensures { IfOk result (λ v. v.items ≡ body payload.now ++ 0 ∷ []) }
 {

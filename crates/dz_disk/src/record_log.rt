@@ -83,6 +83,7 @@ impl<D: Disk + Drop, I: RecordIndex> RecordLog<D, I> {
         ensures able { OnOk result
             ((self.old.has_failed ≡ false) × (self.new.has_failed ≡ false)) }
         ensures end { OnOk result (self.new.end ≡ self.old.end + 9 + length payload.now) }
+        ensures within { OnOk result (self.new.end ≤ limit) }
         ensures crash { self.old.has_failed ≡ false → (f : List ℕ)
             → D.file self.old.disk ≡ Some f
             → Leaves D.clock D.left_from self.old.disk self.new.disk
@@ -122,7 +123,11 @@ impl<D: Disk + Drop, I: RecordIndex> RecordLog<D, I> {
 
     /// Whether a call of the disk failed, after which the disk isn't used any more.
     pub fn has_failed(&self) -> bool
-        ensures { result ≡ self.now.has_failed }
+        ensures value { result ≡ self.now.has_failed }
+        ensures within { self.now.end ≤ limit }
+        ensures settled { self.now.has_failed ≡ false → (f : List ℕ)
+            → D.file self.now.disk ≡ Some f
+            → IsSettled I.reads I.is_of (D.may_leave self.now.disk) self.now.index self.now.end f }
     {
         self.has_failed
     }
@@ -131,6 +136,9 @@ impl<D: Disk + Drop, I: RecordIndex> RecordLog<D, I> {
     pub fn end(&self) -> u64
         ensures end { result ≡ self.now.end }
         ensures within { result ≤ limit }
+        ensures settled { self.now.has_failed ≡ false → (f : List ℕ)
+            → D.file self.now.disk ≡ Some f
+            → IsSettled I.reads I.is_of (D.may_leave self.now.disk) self.now.index self.now.end f }
     {
         self.end
     }

@@ -42,8 +42,6 @@ pub fn append_each<D: Disk + Drop, I: RecordIndex>(
     if log.has_failed() {
         return Err(RecordError::Disk);
     }
-    // what is known of every list is known of this one
-    log.index();
     'payloads: for payload in payloads {
         log.append(alloc, payload)?;
     }

@@ -43,10 +43,7 @@ fn take<S: Source>(alloc: Global, source: &mut S, job: &Job) -> Result<Finished,
     };
     read_messages(alloc, source, &mut taking)?;
     match finish_taking(job, taking) {
-        Ok(finished) => {
-            finished.octets();
-            Ok(finished)
-        }
+        Ok(finished) => Ok(finished),
         Err(_) => Err(ReadError::OutOfMemory),
     }
 }

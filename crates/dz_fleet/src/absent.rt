@@ -4,7 +4,7 @@ ghost use Rattle.std.specs.Prelude.{◌≡◌, ◌↔◌, ◌==◌, None, true, 
 ghost use Rattle.std.specs.List.{list_any};
 ghost use Rattle.dz_history.specs.State.{held_at, stands};
 ghost use Rattle.dz_fleet.specs.Absence.{absent_of};
-ghost use Rattle.dz_fleet.specs.Sound.{IsFlying};
+ghost use Rattle.dz_fleet.specs.Sound.{IsFlying, IsSound};
 ghost use Rattle.dz_fleet.specs.inner.Same.{same_ask, same_peer, same_query, same_flight, is_copy};
 
 use crate::fleet::Fleet;
@@ -72,7 +72,9 @@ impl Fleet {
     pub fn absence(&self, job: &Job) -> Option<Absent>
         ensures none { (result ≡ None) ↔ IsFlying self.now job.now }
         ensures absent { IfSome result (λ a. a ≡ absent_of self.now job.now) }
+        ensures sound { IsSound self.now }
     {
+        let _ = &self.flying;
         if self.is_in_flight(job) {
             None
         } else {

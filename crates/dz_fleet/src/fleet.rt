@@ -70,8 +70,6 @@ impl Fleet {
         let entry = Entry::Setup(config);
         let history = listed(&entry);
         let holdings = Holdings::start(alloc, config_of(entry))?;
-        // brings in what is known of the holdings
-        holdings.fold();
         Ok(Fleet {
             holdings,
             schedule,

@@ -146,9 +146,6 @@ impl Fleet {
         ensures due { IsDue self.old job.flight.moment result self.new }
         ensures flying { IsHanded result self.new }
     {
-        // brings in what is known of a job for the one in flight
-        job.held();
-        job.key();
         let flying = Flying {
             flight: *job.flight(),
             held: Snapshot::of(job.shared()),

@@ -13,7 +13,6 @@ pub(crate) fn place_of(holdings: &Holdings, zone: &Name) -> Option<usize>
 {
     let fold = holdings.fold();
     let catalogs = fold.catalogs();
-    let _members = fold.memberships();
     match fold.catalog_number(zone) {
         Some(number) => Some(number),
         None => match fold.place_of(zone) {
@@ -41,7 +40,6 @@ pub(crate) fn place_behind(holdings: &Holdings, member: usize, zone: &Name) -> u
 {
     let fold = holdings.fold();
     let catalogs = fold.catalogs();
-    let _members = fold.memberships();
     match fold.catalog_number(zone) {
         Some(number) => number,
         None => catalogs.len() + member,

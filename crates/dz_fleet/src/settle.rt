@@ -4,9 +4,8 @@ ghost use Rattle.std.specs.Prelude.{◌≡◌, ◌<◌, ◌≤◌, ◌^◌, ◌=
 ghost use Rattle.std.specs.List.{find};
 ghost use Rattle.std.specs.Option.{unwrap_or};
 ghost use Rattle.dz_history.specs.Legal.{CanFollow};
-ghost use Rattle.dz_history.specs.State.{IsState};
 ghost use Rattle.dz_timer.specs.Values.{failed, refused};
-ghost use Rattle.dz_job.specs.Job.{JobOf, transfer_for};
+ghost use Rattle.dz_job.specs.Job.{IsJob, JobOf, transfer_for};
 ghost use Rattle.dz_job.specs.Job.{refresh_in, retry_in};
 ghost use Rattle.dz_fleet.specs.Core.{Core, state_of, ended_of, entry_for, primaries_of, landed, is_old_serial, after_failure, after_refusal, after_success, after_end, settled, failed_core, failure_of};
 ghost use Rattle.dz_fleet.specs.Answers.{IsOffered};
@@ -38,9 +37,7 @@ impl Fleet {
         ensures verdict { result ≡ weighed.verdict }
         ensures core { self.new ≡ settled self.old job (octets_in weighed.entry) weighed.moment }
     {
-        // brings in what is known of a core and of a job
-        self.count();
-        job.held();
+        let _ = &self.holdings;
         let (entry, moment, verdict, renewal) = weighed.into_parts();
         match &verdict {
             Verdict::Published { .. } => self.end_taken(&job, entry, renewal),
@@ -135,7 +132,7 @@ impl Fleet {
         requires flying { IsFlying self.old job.now }
         requires standing { ended_of self.old job.now ≡ None }
         requires entry { entry.value ≡ entry_for job.now (octets_in entry.value) }
-        requires follows { CanFollow (state_of self.old) entry.value }
+        requires follows { IsJob job.now → CanFollow (state_of self.old) entry.value }
         requires renewed { let octets = octets_in entry.value in
             renewed_by renewal ≡ renewal_for self.old job.now octets
             (aftermath_in self.old job.now octets) }
@@ -225,7 +222,6 @@ fn renew(holdings: &mut Holdings, schedule: &mut Schedule, renewal: Renewal)
     ensures state { Some holdings.new ≡ option_map (λ r. r.state) (renewed_by renewal) }
     ensures values { Some schedule.new
         ≡ option_map (λ r. unwrap_or r.values schedule.old) (renewed_by renewal) }
-    ensures valid { IsState holdings.new }
 {
     match renewal {
         Renewal::Same => unreachable!(),
@@ -240,7 +236,6 @@ fn renew(holdings: &mut Holdings, schedule: &mut Schedule, renewal: Renewal)
             drop(old);
         }
     }
-    holdings.fold();
 }
 
 /// Notes the position at each job in flight whose incarnation isn't current any more.

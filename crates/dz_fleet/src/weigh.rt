@@ -55,8 +55,6 @@ impl Fleet {
         ensures step { IfOk result (λ w. w.is_there ≡ is_taken w.verdict) }
     {
         let (verdict, renewal) = self.judge(alloc, job, &finished)?;
-        // brings in that all octets that were read are used
-        finished.octets();
         let entry = entry_for(job, finished.into_octets());
         Weighed::new(entry, now, verdict, renewal)
     }
@@ -148,7 +146,6 @@ impl Fleet {
 
     /// What is wrong with the signatures of a transfer, where the zone's catalog has a key. `AllocError` where memory
     /// runs out.
-    #[tactic(auto, unfolding(crate::specs::Core::tsig_of))]
     fn tsig_fault(
         &self,
         alloc: Global,
@@ -256,8 +253,6 @@ impl Fleet {
         ensures renewed { IfOk result
             (λ r. renewed_by r.1 ≡ renewal_for self.now job.now finished.now.octets r.0) }
     {
-        // brings in what is known of a job's moment
-        job.held();
         let (holdings, aftermath) = self.holdings.take(alloc, finished, job.moment())?;
         let renewal = self.renewal(alloc, holdings, &aftermath)?;
         Ok((aftermath, renewal))

@@ -62,7 +62,6 @@ fn digest(alloc: Global, text: &[u8]) -> Result<Vec<u8>, AllocError>
 }
 
 /// Appends a word and a number on a line.
-#[tactic(auto, unfolding(crate::specs::Summary::tally))]
 fn put_tally(out: &mut Vec<u8>, word: &[u8], count: usize) -> Result<(), AllocError>
     ensures { OnOk result (out.new.items ≡ out.old.items ++ tally word.now count) }
 {

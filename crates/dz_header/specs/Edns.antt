@@ -9,7 +9,7 @@ use Rattle.dz_header.specs.declared.record_head.RecordHead.{RecordHead}
 use Rattle.dz_name.specs.Words.{Octets}
 
 -- what an OPT record says: the payload size in its class, and version and DO in its TTL (RFC 6891 section 6.1.3)
-unfoldable pub edns_of : RecordHead → Edns
+abbrev pub edns_of : RecordHead → Edns
 edns_of head = record { size = head.class; version = head.ttl / VERSION % VERSIONS; dnssec_ok = head.ttl / DNSSEC_OK % 2 == 1 }
 
 -- how many OPT records a reply has: one where the request has one

@@ -48,7 +48,6 @@ unfolding shape_of behind_owner behind_head head_in number_of_two number_of_four
 shape_of_opt = refl
 
 pub edns_of_opt : edns_of (record { kind = 41; class = 4096; ttl = 32768; size = 0 }) ≡ record { size = 4096; version = 0; dnssec_ok = true }
-unfolding edns_of
 edns_of_opt = refl
 
 -- BADVERS is 16: its upper eight bits are in the OPT record

@@ -29,7 +29,6 @@ pub struct Edns {
 }
 
 /// What an OPT record says, from the fields after its owner name (RFC 6891 section 6.1.3).
-#[tactic(auto, unfolding(crate::specs::Edns::edns_of))]
 pub fn edns_of(head: RecordHead) -> Edns
     ensures { result ≡ edns_of head }
 {

@@ -30,7 +30,6 @@ pub struct Flags {
 
 impl Flags {
     /// The flags as the 16-bit number in a header.
-    #[tactic(auto, unfolding(crate::specs::Flags::flags_number))]
     pub fn number(&self) -> u16
         ensures value { result ≡ flags_number self.now }
         ensures read { ReadsBack self.now result }

@@ -73,7 +73,6 @@ pub fn read_header(message: &[u8]) -> Option<Header>
 }
 
 /// The header in the first twelve octets, which are there.
-#[tactic(auto, unfolding(crate::specs::Header::header_in))]
 fn header_in(message: &[u8]) -> Header
     requires { HEADER_OCTETS ≤ length message.now }
     ensures { result ≡ header_in message.now }
@@ -91,7 +90,6 @@ fn header_in(message: &[u8]) -> Header
 }
 
 /// Writes a header as twelve octets.
-#[tactic(auto, unfolding(crate::specs::Header::header_octets, dz_name::specs::Numbers::two))]
 pub fn write_header(header: &Header, out: &mut [u8; 12])
     ensures { out.new ≡ header_octets header.now }
 {

@@ -25,7 +25,6 @@ pub struct Question {
 /// # Errors
 ///
 /// The first fault of its name, or else `Short` where type and class aren't complete.
-#[tactic(auto, unfolding(crate::specs::Question::question_at))]
 pub fn read_question(message: &[u8], at: usize) -> Result<(Question, usize), WireFault>
     ensures reads { result ≡ question_at message.now at }
     ensures place { IfOk result (λ r. (at + QUESTION_OCTETS < r.1) × (r.1 ≤ length message.now)) }
@@ -38,7 +37,6 @@ pub fn read_question(message: &[u8], at: usize) -> Result<(Question, usize), Wir
 
 /// The same, with the same errors, without following any chain of pointers: the table of the message gives its end. A
 /// step is one look at a label of the name, a pointer or the zero octet.
-#[tactic(auto, unfolding(crate::specs::Question::question_at))]
 pub fn counted_question<L: Ledger>(
     message: &Wire<'_>,
     at: usize,

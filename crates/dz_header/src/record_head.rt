@@ -30,7 +30,6 @@ pub fn read_head(octets: &[u8]) -> Option<RecordHead>
 }
 
 /// The fields in the first ten octets, which are there.
-#[tactic(auto, unfolding(crate::specs::RecordHead::head_in))]
 fn head_in(octets: &[u8]) -> RecordHead
     requires { HEAD_OCTETS ≤ length octets.now }
     ensures { result ≡ head_in octets.now }

@@ -41,7 +41,6 @@ fn shape_from<'a, L: Ledger>(blank: Blank, octets: &'a [u8]) -> Option<(Shape, &
 }
 
 /// The same as [`read_shape`]. A step is one look at a length octet of the owner name, or at its pointer.
-#[tactic(auto, unfolding(crate::specs::Shape::shape_of))]
 fn counted_shape<'a, L: Ledger>(
     octets: &'a [u8],
     steps: &mut Steps<L>,
@@ -99,7 +98,6 @@ pub fn counted_skip<'a, L: Ledger>(
 }
 
 /// The fields after an owner name, the RDATA, and what follows the record; none where they aren't complete.
-#[tactic(auto, unfolding(crate::specs::Shape::behind_head))]
 fn behind_head(root: bool, octets: &[u8]) -> Option<(Shape, &[u8], &[u8])>
     ensures head { option_map (λ x. (x.0, x.1.now, x.2.now)) result ≡ behind_head root octets.now }
     ensures rest { IfSome result (λ x. length x.2.now ≤ length octets.now) }

@@ -74,7 +74,6 @@ impl Writer {
 
     /// Writes octets after the others, where there is room for all of them. Where there isn't, nothing is written, then
     /// or later.
-    #[tactic(auto, unfolding(crate::specs::Writing::also))]
     pub fn put(&mut self, more: &[u8])
         ensures writing { self.new.writing ≡ also self.old.writing more.now }
         ensures room { self.new.room ≡ room_with self.old.room self.new.writing.octets }
@@ -136,7 +135,6 @@ impl Writer {
 
 /// Writes octets after the first `len`, where they fit before the limit, and returns the new length; none where they
 /// don't.
-#[tactic(auto, unfolding(crate::specs::Writing::octets_with), using(crate::proofs::WriterLemmas::joined_at, crate::proofs::WriterLemmas::room_at))]
 fn append(octets: &mut Vec<u8>, len: Option<usize>, limit: usize, more: &[u8]) -> Option<usize>
     requires within { ForSome len (λ n. n ≤ limit) }
     requires room { limit ≤ length octets.old.items }

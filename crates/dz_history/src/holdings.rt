@@ -55,7 +55,8 @@ impl Holdings {
     /// What a configuration alone gives: its catalogs, without versions. `AllocError` where memory runs out.
     pub fn start(alloc: Global, config: Config) -> Result<Holdings, AllocError>
         requires { IsAllowed config }
-        ensures { IfOk result (λ h. h ≡ opened config) }
+        ensures opened { IfOk result (λ h. h ≡ opened config) }
+        ensures state { IfOk result IsState }
     {
         let versions = nothing_held(alloc, config.catalogs().len())?;
         let fold = Fold::start(alloc, config)?;
@@ -128,6 +129,7 @@ impl Holdings {
     pub fn held(&self, zone: &Name) -> Option<&Arc<Version>>
         ensures held { option_map (λ r. r.now.value) result ≡ held_at self.now zone.now }
         ensures own { IsOfZone zone.now (held_at self.now zone.now) }
+        ensures state { IsState self.now }
     {
         match self.fold.catalog_number(zone) {
             Some(number) => self.versions[number].version(),

@@ -26,7 +26,6 @@ pub(crate) fn table_after(
     ensures table { IfOk result (λ t. t ≡ map (slot_after before.now) fold.now.members) }
     ensures fold { IsFold fold.now }
 {
-    fold.catalogs();
     let slots = slots_after(alloc, before, fold.memberships())?;
     Table::from_shared(alloc, slots)
 }

@@ -2,14 +2,15 @@
 
 ghost use Rattle.std.specs.Prelude.{◌≡◌, ◌≤◌, length, drop};
 ghost use Rattle.dz_name.specs.Words.{Name};
-ghost use Rattle.dz_name.specs.Name.{IsWithin};
+ghost use Rattle.dz_name.specs.Name.{IsName, IsWithin};
 
 use dz_name::NameRef;
 
 /// The name after the first labels.
 fn ancestor<'a>(name: &NameRef<'a>, skip: usize) -> NameRef<'a>
     requires { skip ≤ length name.now }
-    ensures { result ≡ drop skip name.now }
+    ensures rest { result ≡ drop skip name.now }
+    ensures name { IsName (drop skip name.now) }
 {
     NameRef::of_wire(name.behind(skip))
 }
@@ -30,8 +31,6 @@ pub fn labels_apart(name: &NameRef, other: &NameRef) -> usize
     ensures longest { (zone : Name) → IsWithin name.now zone → IsWithin other.now zone
         → IsWithin (drop result name.now) zone }
 {
-    // a name has fewer labels than octets
-    name.wire();
     let mut near = ancestor(name, 0);
     let mut far = ancestor(other, 0);
     let mut apart: usize = 0;

@@ -71,9 +71,10 @@ impl Job {
         }
     }
 
-    /// What it asks for.
+    /// What it asks for. Its key can be used.
     pub fn flight(&self) -> &Flight
-        ensures { result.now ≡ self.now.flight }
+        ensures flight { result.now ≡ self.now.flight }
+        ensures ready { IsReady self.now }
     {
         &self.flight
     }
@@ -138,7 +139,8 @@ impl Job {
 
     /// The moment of the job in seconds, below 2^40.
     pub fn moment(&self) -> u64
-        ensures { result ≡ self.now.flight.moment }
+        ensures moment { result ≡ self.now.flight.moment }
+        ensures valid { IsJob self.now }
     {
         self.flight.moment
     }

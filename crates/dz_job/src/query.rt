@@ -1,15 +1,13 @@
 //! The query of a job.
 
-ghost use Rattle.std.specs.Prelude.{◌≡◌, ◌≤◌, length, drop, IfOk, option_map, true};
-ghost use Rattle.dz_name.specs.Name.{IsName};
+ghost use Rattle.std.specs.Prelude.{◌≡◌, ◌≤◌, length, drop, IfOk, option_map};
 ghost use Rattle.dz_name.specs.Numbers.{number_of_two};
-ghost use Rattle.dz_message.specs.Query.{IsHeld};
 ghost use Rattle.dz_take.specs.Query.{asked_octets, soa_asked};
 ghost use Rattle.dz_job.specs.Job.{transfer_for};
 
 use crate::job::Job;
 use dz_message::write_query;
-use dz_name::{Name, Octets};
+use dz_name::Octets;
 use dz_record::Rr;
 use dz_take::Ask;
 use std::alloc::{AllocError, Global};
@@ -33,7 +31,6 @@ impl Job {
         let apex = self.zone();
         let held = self.soa_asked();
         let id = self.id();
-        prove!(is_asked(apex, held));
         let query = write_query(alloc, id, apex, held)?;
         Ok(query)
     }
@@ -48,22 +45,6 @@ impl Job {
                 None => None,
                 Some(version) => Some(version.apex_soa()),
             },
-        }
-    }
-}
-
-/// Brings in what is known of the parts of the query.
-fn is_asked(zone: &Name, held: Option<&Rr>) -> bool
-    ensures zone { IsName zone.now }
-    ensures held { IsHeld (option_map (λ r. r.now) held.entry) }
-    ensures always { result ≡ true }
-{
-    zone.wire();
-    match held {
-        None => true,
-        Some(soa) => {
-            soa.octets();
-            true
         }
     }
 }

@@ -1,8 +1,8 @@
 //! Streams of whole messages, each preceded by its length.
 
-ghost use Rattle.std.specs.Prelude.{◌≡◌, [], None, IfOk, OnOk};
+ghost use Rattle.std.specs.Prelude.{◌≡◌, [], None, IfOk, OnOk, length};
 ghost use Rattle.dz_message.specs.Frame.{messages_in};
-ghost use Rattle.dz_take.specs.Outcome.{decided};
+ghost use Rattle.dz_take.specs.Outcome.{decided, octets_used};
 ghost use Rattle.dz_job.specs.Job.{transfer_for};
 ghost use Rattle.dz_job.specs.Stream.{HasRead, IsReadOf};
 
@@ -26,7 +26,6 @@ pub fn take_stream(alloc: Global, job: &Job, octets: &[u8]) -> Result<Finished, 
     let mut taking = start_taking(alloc, job)?;
     read_frames(&mut taking, octets)?;
     let finished = taking.finish()?;
-    finished.octets();
     Ok(finished)
 }
 
@@ -54,7 +53,8 @@ pub fn start_taking(alloc: Global, job: &Job) -> Result<Taking, AllocError>
 ///
 /// `AllocError` where memory runs out.
 pub fn finish_taking(job: &Job, taking: Taking) -> Result<Finished, AllocError>
-    ensures { IfOk result (λ f. f ≡ taking) }
+    ensures same { IfOk result (λ f. f ≡ taking) }
+    ensures used { IfOk result (λ f. octets_used f.transfer f.octets ≡ length f.octets) }
 {
     let finished = taking.finish()?;
     if job.is_digesting {

@@ -12,7 +12,14 @@ use Rattle.std.specs.declared.cmp.Ordering.TheVariants.{Less, Equal, Greater}
 use Rattle.std.proofs.lemmas.Bool.{cases_Bool, cases_lt, false_from_ne_true}
 use Rattle.std.proofs.lemmas.List.{get_or_default, take-append-drop, drop-drop}
 use Rattle.std.proofs.lemmas.List.Folds.{list_any_at, Any-from_list_any}
-use Rattle.dz_name.specs.Name.{canonical_order, is_within, same_name, IsWithin}
+use Rattle.dz_name.specs.Name.{canonical_order, is_within, same_name, IsWithin, parent_of}
+use Rattle.std.specs.Prelude.{Some}
+use Rattle.std.specs.Cmp.{tied_itself}
+use Rattle.std.specs.Cmp.Lexicographic.{slice_cmp}
+use Rattle.std.specs.Ordering.{nat_cmp}
+use Rattle.std.proofs.lemmas.Cmp.{nat_list_cmp_total}
+use Rattle.std.proofs.lemmas.List.{reverse-append}
+use Rattle.std.proofs.Common.{reverse}
 use Rattle.dz_name.proofs.PartLemmas.{within_suffix}
 use Rattle.dz_record.specs.Record.{Record, record_order}
 use Rattle.dz_zone.proofs.CanonicalLemmas.{within_not_less, both_within}
@@ -31,6 +38,18 @@ less_not_gt : (o : Ordering) → is_lt o ≡ true → is_gt o ≡ false
 less_not_gt Less h = refl
 less_not_gt Equal h = absurd (cc)
 less_not_gt Greater h = absurd (cc)
+
+-- a list comes before itself with one more label
+longer_later : (p : List (List ℕ)) (label : List ℕ) → slice_cmp (slice_cmp nat_cmp) p (p ++ label ∷ []) ≡ Less
+longer_later [] label = refl
+longer_later (y ∷ p) label = rw (tied_itself nat_list_cmp_total y) (longer_later p label)
+
+-- a name comes before each name that is one label below it
+pub parent_first : (name other : List (List ℕ)) → parent_of other ≡ Some name → canonical_order name other ≡ Less
+parent_first name [] h = absurd (cc)
+parent_first name (label ∷ labels) h =
+    let e : labels ≡ name = cc in
+    rw (← e, reverse-append (label ∷ []) labels) (longer_later (reverse labels) label)
 
 -- a name is within a name that exists just where one of the two records beside the name's place is within it
 pub none_beside : (zone : List Record) (name above : List (List ℕ)) (i : ℕ) → IsStrictlySortedBy record_order zone → IsBegin (from_owner name) zone i → i ≤ length zone
@@ -115,6 +134,14 @@ look_is zone above i r d look within item is =
     let lt : nat_lt i (length zone) ≡ true = grind (arith, nat_tests) in
     let same : r ≡ get_or zone i d = item ∙ get_or_default zone i r d within in
     is ∙ (ap (λ (x : Record). is_within x.owner above) same ∙ rw lt refl)
+
+-- where there is no record, a number past all labels tells that no name above is shared
+pub no_look : (zone : List Record) (above : List (List ℕ)) (i : ℕ) (d : Record) (past k : ℕ) → length zone ≤ i → k < past
+    → nat_le past k ≡ (nat_lt i (length zone) && is_within (get_or zone i d).owner above)
+no_look zone above i d past k beyond few =
+    let gt : nat_lt i (length zone) ≡ false = grind (arith, nat_tests) in
+    let lt : nat_le past k ≡ false = grind (arith, nat_tests) in
+    lt ∙ rw gt refl
 
 -- how many first labels a name has before the longest name that encloses it and an owner tells which names above it the
 -- owner is within

@@ -17,7 +17,7 @@ use std::marker::Brand;
 use std::sync::ledger::{Blank, Ledger};
 
 /// How many first labels a name has more than the longest name that exists at it or above it: none where it exists
-/// itself, and one more than it has where no name above it exists either. It takes no search, and two looks at most;
+/// itself, and more than it has where no name above it exists either. It takes no search, and two looks at most;
 /// none where the name owns records.
 pub(crate) fn missing_labels(version: &Version, name: &NameRef, node: &Node<'_>) -> usize
     requires { IsNodeOf version.now.records name.now node.now.place node.now.records.now }
@@ -71,7 +71,7 @@ fn missing_beside<L: Ledger>(
 }
 
 /// How many first labels a name has before the longest name that encloses it and the owner of the record at a place, and
-/// one more than it has where there is no record. It is a look.
+/// more than it has where there is no record. It is a look.
 fn labels_apart_at<L: Ledger>(
     records: &[Rr],
     place: usize,
@@ -88,6 +88,6 @@ fn labels_apart_at<L: Ledger>(
         labels_apart(name, &records[place].owner_ref())
     } else {
         prove!(name.wire().len() <= NAME_OCTETS);
-        name.label_count() + 1
+        NAME_OCTETS
     }
 }

@@ -73,7 +73,7 @@ impl<'a> Chain<'a> {
     pub fn addresses_of<'v>(
         &self,
         version: &'v Version,
-        name: &Name,
+        name: &NameRef,
         number: usize,
     ) -> Addresses<'v>
         ensures four { result.four.now

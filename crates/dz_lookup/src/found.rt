@@ -4,14 +4,16 @@ ghost use Rattle.std.specs.Prelude.{◌≡◌, ◌<◌, ◌≤◌, ◌-◌, ◌|
 ghost use Rattle.std.specs.List.Sorted.{IsStrictlySortedBy, IsNonDecreasingBy};
 ghost use Rattle.dz_name.specs.Name.{is_within, wildcard_of, wire_of};
 ghost use Rattle.dz_record.specs.Record.{Record, record_order};
-ghost use Rattle.dz_zone.specs.Version.{has_cuts, has_dnames};
+ghost use Rattle.dz_zone.specs.Version.{IsValid, has_cuts, has_dnames};
 ghost use Rattle.dz_lookup.specs.Counted.{TakesSearches, IsLookup};
 ghost use Rattle.dz_lookup.specs.Runs.{exists, records_of, IsPlaceOf};
 ghost use Rattle.dz_lookup.specs.Found.{encloser, cut_for, dname, source, at_node, at_source, barrier, found, meaning, leading, referral, rename, HasRecords};
 ghost use Rattle.dz_lookup.specs.inner.Places.{IsNodeOf, IsMissing, if_exists, renamer_at};
 
 use crate::beside::{counted_missing, missing_labels};
-use crate::runs::{APEX, NEAR, Node, node_at_or_of, node_near, node_of, node_of_wildcard, of_type};
+use crate::runs::{
+    APEX, NEAR, Node, node_above, node_at_or_of, node_near, node_of, node_of_wildcard, of_type,
+};
 use dz_name::dns::{NAME_OCTETS, TYPE_ANY, TYPE_CNAME, TYPE_DNAME, TYPE_DS, TYPE_NS};
 use dz_name::{Name, NameRef};
 use dz_record::Rr;
@@ -226,7 +228,6 @@ fn barrier<'a, L: Ledger>(
         (steps.new - steps.old) }
     ensures counted { steps.old ≤ steps.new }
 {
-    version.records();
     if !has_barriers(version) {
         return None;
     }
@@ -242,7 +243,8 @@ fn barrier<'a, L: Ledger>(
 
 /// Whether there is a zone cut or a DNAME.
 fn has_barriers(version: &Version) -> bool
-    ensures { result ≡ (has_cuts version.now || has_dnames version.now) }
+    ensures barriers { result ≡ (has_cuts version.now || has_dnames version.now) }
+    ensures valid { IsValid version.now }
 {
     version.has_cuts() || version.has_dnames()
 }
@@ -254,7 +256,6 @@ fn apex_renamer<'a, L: Ledger>(version: &'a Version, steps: &mut Steps<L>) -> Op
     ensures cost { TakesSearches 1 (length version.now.records) (steps.new - steps.old) }
     ensures counted { steps.old ≤ steps.new }
 {
-    version.records();
     if !version.has_dnames() {
         return None;
     }
@@ -269,7 +270,6 @@ fn renamer_of<'a>(version: &Version, owner: &NameRef, records: &'a [Rr]) -> Opti
     requires kinds { IsNonDecreasingBy (λ r. r.kind) records.now }
     ensures { option_map (λ r. r.now) result ≡ renamer_at version.now.records owner.now }
 {
-    version.records();
     if version.has_dnames() {
         of_type(records, TYPE_DNAME).first()
     } else {
@@ -294,6 +294,7 @@ fn barrier_below<'a, L: Ledger>(
     requires some { 0 < labels }
     requires labels { labels ≡ length name.now - length version.now.apex }
     requires apex { renamer_at version.now.records version.now.apex ≡ None }
+    requires valid { IsValid version.now }
     ensures barrier { option_map (λ f. meaning f.found) result
         ≡ barrier version.now.records (cut_for version.now.apex version.now.records kind name.now)
         (dname version.now.records name.now) }
@@ -301,7 +302,6 @@ fn barrier_below<'a, L: Ledger>(
         (steps.new - steps.old) }
     ensures counted { steps.old ≤ steps.new }
 {
-    version.records();
     let mut skip = labels;
     'labels: while 1 < skip {
         skip -= 1;
@@ -309,7 +309,7 @@ fn barrier_below<'a, L: Ledger>(
             return None;
         }
         let above = name.ancestor_ref(skip);
-        let near = node_near(version, &above, sought.node.number, NEAR, steps);
+        let near = node_above(version, &above, sought.node.number, steps);
         let servers = of_type(near.records, TYPE_NS);
         if !servers.is_empty() {
             return Some(Finding::at_cut(servers, near.number));
@@ -337,11 +337,9 @@ fn wildcard_above(name: &Name, missing: usize) -> Option<Name>
     ensures { (zone : List Record) → IsMissing zone name.now missing
         → result ≡ option_map wildcard_of (encloser zone name.now) }
 {
-    if name.label_count() < missing {
-        return None;
-    }
+    let encloser = name.as_ref().above(missing)?;
     prove!(name.wire().len() <= NAME_OCTETS);
-    Some(name.ancestor(missing).wildcard())
+    Some(encloser.wildcard())
 }
 
 /// Where the answer for a name comes from: the name itself, or else the wildcard below its closest encloser; none where

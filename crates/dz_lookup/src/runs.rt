@@ -2,6 +2,8 @@
 
 ghost use Rattle.std.specs.Prelude.{◌≡◌, ◌≤◌, ◌+◌, ◌-◌, [], length, take, drop, slice_index_or, IfSome};
 ghost use Rattle.std.specs.List.{AllByRecursion};
+ghost use Rattle.std.specs.Ordering.{is_lt};
+ghost use Rattle.dz_name.specs.Name.{canonical_order};
 ghost use Rattle.std.specs.List.Sorted.{IsStrictlySortedBy, IsNonDecreasingBy};
 ghost use Rattle.dz_record.specs.Record.{Record, record_order};
 ghost use Rattle.dz_lookup.specs.Counted.{TakesSearches};
@@ -114,7 +116,7 @@ impl<'a> Default for Addresses<'a> {
 }
 
 /// The addresses of a name, by one search where it isn't the apex.
-pub fn addresses_of<'a>(version: &'a Version, name: &Name) -> Addresses<'a>
+pub fn addresses_of<'a>(version: &'a Version, name: &NameRef) -> Addresses<'a>
     ensures four { result.four.now ≡ of_type TYPE_A (records_of version.now.records name.now) }
     ensures six { result.six.now ≡ of_type TYPE_AAAA (records_of version.now.records name.now) }
     ensures owner_of_four { AllByRecursion (λ r. r.owner ≡ name.now) result.four.now }
@@ -124,7 +126,11 @@ pub fn addresses_of<'a>(version: &'a Version, name: &Name) -> Addresses<'a>
 }
 
 /// The same. The owner of a number in the index is looked at first; where it isn't the name, the name is searched once.
-pub(crate) fn addresses_near<'a>(version: &'a Version, name: &Name, number: usize) -> Addresses<'a>
+pub(crate) fn addresses_near<'a>(
+    version: &'a Version,
+    name: &NameRef,
+    number: usize,
+) -> Addresses<'a>
     ensures four { result.four.now ≡ of_type TYPE_A (records_of version.now.records name.now) }
     ensures six { result.six.now ≡ of_type TYPE_AAAA (records_of version.now.records name.now) }
     ensures owner_of_four { AllByRecursion (λ r. r.owner ≡ name.now) result.four.now }
@@ -164,7 +170,7 @@ fn counted_rrset<'a, L: Ledger>(
 fn counted_addresses<'a, L: Ledger>(
     blank: Blank,
     version: &'a Version,
-    name: &Name,
+    name: &NameRef,
     number: usize,
 ) -> Addresses<'a>
     requires name { blank.name ≡ L.name }
@@ -176,7 +182,7 @@ fn counted_addresses<'a, L: Ledger>(
     ensures owner_of_six { AllByRecursion (λ r. r.owner ≡ name.now) result.six.now }
 {
     let mut steps = Steps::<L>::new(blank);
-    let records = node_near(version, &name.as_ref(), number, 1, &mut steps).records;
+    let records = node_near(version, name, number, 1, &mut steps).records;
     Addresses {
         four: of_type(records, TYPE_A),
         six: of_type(records, TYPE_AAAA),
@@ -238,6 +244,8 @@ fn node_at<'a, L: Ledger>(
 ) -> Option<Node<'a>>
     ensures node { IfSome result
         (λ node. IsNodeOf version.now.records name.now node.place node.records.now) }
+    ensures rises { IfSome result
+        (λ _. IsStrictlySortedBy record_order version.now.records) }
     ensures cost { looks.new ≤ looks.old + 1 }
 {
     looks.tick();
@@ -261,6 +269,8 @@ fn look_near<'a, L: Ledger>(
 ) -> Option<Node<'a>>
     ensures node { IfSome result
         (λ node. IsNodeOf version.now.records name.now node.place node.records.now) }
+    ensures rises { IfSome result
+        (λ _. IsStrictlySortedBy record_order version.now.records) }
     ensures cost { looks.new ≤ looks.old + most }
 {
     let mut behind = number.saturating_add(1);
@@ -286,8 +296,10 @@ fn counted_near<'a, L: Ledger>(
     requires parts { blank.parts ≡ L.parts }
     requires whole { blank.parts ≡ 1 }
     requires few { most ≤ 5 }
-    ensures { IfSome result
+    ensures node { IfSome result
         (λ node. IsNodeOf version.now.records name.now node.place node.records.now) }
+    ensures rises { IfSome result
+        (λ _. IsStrictlySortedBy record_order version.now.records) }
 {
     let mut looks = Steps::<L>::new(blank);
     look_near(version, name, number, most, &mut looks)
@@ -307,7 +319,6 @@ pub(crate) fn node_near<'a, L: Ledger>(
     ensures cost { TakesSearches 1 (length version.now.records) (steps.new - steps.old) }
     ensures counted { steps.old ≤ steps.new }
 {
-    version.records();
     match counted_near::<Brand>(Blank::new(1), version, name, number, most) {
         Some(node) => node,
         None => node_of(version, name, steps),
@@ -324,6 +335,8 @@ fn node_beside<'a, L: Ledger>(
 ) -> Option<Node<'a>>
     ensures node { IfSome result
         (λ node. IsNodeOf version.now.records name.now node.place node.records.now) }
+    ensures rises { IfSome result
+        (λ _. IsStrictlySortedBy record_order version.now.records) }
     ensures cost { looks.new ≤ looks.old + 2 }
 {
     let run = version.index().run_at(number)?;
@@ -332,8 +345,7 @@ fn node_beside<'a, L: Ledger>(
         return None;
     }
     looks.tick();
-    let last = records[run.begin - 1].owner_ref();
-    if !last.canonical_cmp(name).is_lt() {
+    if !precedes(&records[run.begin - 1].owner_ref(), name) {
         return None;
     }
     looks.tick();
@@ -348,6 +360,13 @@ fn node_beside<'a, L: Ledger>(
     }
 }
 
+/// Whether a name comes before another in canonical order, as each comes before those one label below it.
+fn precedes(first: &NameRef, second: &NameRef) -> bool
+    ensures { result ≡ is_lt (canonical_order first.now second.now) }
+{
+    first.is_parent_of(second) || first.canonical_cmp(second).is_lt()
+}
+
 /// The same, counted in a ledger that is still blank.
 fn counted_beside<'a, L: Ledger>(
     blank: Blank,
@@ -358,8 +377,10 @@ fn counted_beside<'a, L: Ledger>(
     requires name { blank.name ≡ L.name }
     requires parts { blank.parts ≡ L.parts }
     requires whole { blank.parts ≡ 1 }
-    ensures { IfSome result
+    ensures node { IfSome result
         (λ node. IsNodeOf version.now.records name.now node.place node.records.now) }
+    ensures rises { IfSome result
+        (λ _. IsStrictlySortedBy record_order version.now.records) }
 {
     let mut looks = Steps::<L>::new(blank);
     node_beside(version, name, number, &mut looks)
@@ -377,10 +398,28 @@ pub(crate) fn node_at_or_of<'a, L: Ledger>(
     ensures cost { TakesSearches 1 (length version.now.records) (steps.new - steps.old) }
     ensures counted { steps.old ≤ steps.new }
 {
-    version.records();
     match counted_beside::<Brand>(Blank::new(1), version, name, number) {
         Some(node) => node,
         None => node_of(version, name, steps),
+    }
+}
+
+/// The node of a name above another one, which would be before the owner of a number in the index. A few owners up to
+/// that one are looked at first, and then whether the name would be right before the last of those that come before it.
+pub(crate) fn node_above<'a, L: Ledger>(
+    version: &'a Version,
+    above: &NameRef,
+    number: usize,
+    steps: &mut Steps<L>,
+) -> Node<'a>
+    ensures node { IsNodeOf version.now.records above.now result.place result.records.now }
+    ensures rises { IsStrictlySortedBy record_order version.now.records }
+    ensures cost { TakesSearches 1 (length version.now.records) (steps.new - steps.old) }
+    ensures counted { steps.old ≤ steps.new }
+{
+    match counted_near::<Brand>(Blank::new(1), version, above, number, NEAR) {
+        Some(node) => node,
+        None => node_at_or_of(version, above, number.saturating_sub(1), steps),
     }
 }
 
@@ -397,7 +436,6 @@ pub(crate) fn node_of_wildcard<'a, L: Ledger>(
     ensures cost { TakesSearches 1 (length version.now.records) (steps.new - steps.old) }
     ensures counted { steps.old ≤ steps.new }
 {
-    version.records();
     let above = wildcard.wire().len().saturating_sub(ASTERISK);
     if above == version.apex().wire().len() {
         if let Some(node) = counted_beside::<Brand>(Blank::new(1), version, wildcard, AFTER_APEX) {

@@ -35,7 +35,6 @@ fn octets(rt: &impl Abort, alloc: Global, items: &[u8]) -> Octets {
 }
 
 #[test]
-#[tactic(auto, unfolding(dz_name::specs::Numbers::number_of_two))]
 fn a_query_is_signed(rt: HostRuntime) {
     match sign_query(rt.alloc(), &key(&rt), QUERY, 1000) {
         Ok(signed) => assert_eq!(rt; signed.as_slice().len(), 25 + 84),

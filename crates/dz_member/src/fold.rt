@@ -1,6 +1,6 @@
 //! What is known of the catalogs and their members.
 
-ghost use Rattle.std.specs.Prelude.{◌≡◌, ◌+◌, ◌<◌, ◌≤◌, length, map, position, slice_index_or, slice_get, Some, None, IfOk, IfSome, All, option_map};
+ghost use Rattle.std.specs.Prelude.{◌≡◌, ◌+◌, ◌<◌, ◌≤◌, ◌^◌, length, map, position, slice_index_or, slice_get, Some, None, IfOk, IfSome, All, option_map};
 ghost use Rattle.std.specs.List.Sorted.{IsStrictlySortedBy};
 ghost use Rattle.dz_name.specs.Name.{canonical_order, same_name};
 ghost use Rattle.std.specs.Option.{option_map_or, ForSome};
@@ -57,6 +57,7 @@ impl Fold {
     pub fn catalogs(&self) -> &[CatalogSettings]
         ensures catalogs { result.now ≡ self.now.config }
         ensures fold { IsFold self.now }
+        ensures few { length self.now.members < 2 ^ 63 }
     {
         self.config.catalogs()
     }
@@ -108,6 +109,7 @@ impl Fold {
         ensures members { map (shown self.now.config) result.now ≡ self.now.members }
         ensures order { IsStrictlySortedBy canonical_order (map (λ m. m.zone) result.now) }
         ensures numbered { All (IsNumbered self.now.config) result.now }
+        ensures fold { IsFold self.now }
     {
         self.members.as_slice()
     }

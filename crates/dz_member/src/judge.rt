@@ -320,7 +320,6 @@ fn lists_alike(fold: &Fold, number: u8, member: &Membership, node: &Node) -> boo
 
 /// Whether a zone stays as it is, without a change, since its catalog lists it as it is. What is judged of other zones
 /// may be the same.
-#[tactic(auto, unfolding(crate::specs::Process::judged))]
 pub(crate) fn stays(fold: &Fold, number: u8, held: Option<&Membership>, node: Option<&Node>) -> bool
     requires fold { IsFold fold.now }
     requires number { number < length fold.now.config }
@@ -339,7 +338,6 @@ pub(crate) fn stays(fold: &Fold, number: u8, held: Option<&Membership>, node: Op
 }
 
 /// What a listing changes at one zone: the first case that fits.
-#[tactic(auto, unfolding(crate::specs::Process::judged))]
 pub(crate) fn judge(
     fold: &Fold,
     number: u8,

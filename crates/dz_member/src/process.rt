@@ -46,7 +46,7 @@ impl Fold {
         ensures number { number_of self.now.config catalog.now ≡ Some result }
         ensures fold { IsFold self.now }
     {
-        self.catalogs();
+        let _ = &self.config;
         match self.catalog_number(catalog) {
             Some(number) => number as u8,
             None => unreachable!(),
@@ -105,6 +105,5 @@ fn process_nodes(
         (map (λ m. m.zone) (map (shown fold.now.config) p.members.items))) }
     ensures numbered { IfOk result (λ p. All (IsNumbered fold.now.config) p.members.items) }
 {
-    listing.nodes();
     walk(alloc, fold, number, position, listing)
 }

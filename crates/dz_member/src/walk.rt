@@ -1,12 +1,13 @@
 //! The walk over members and nodes that are both in the order of their zones.
 
-ghost use Rattle.std.specs.Prelude.{◌≡◌, ◌<◌, ◌++◌, length, map, drop, if◌then◌else◌, option_map, OnOk, IfOk, All};
+ghost use Rattle.std.specs.Prelude.{◌≡◌, ◌<◌, ◌++◌, length, map, drop, if◌then◌else◌, option_map, OnOk, IfOk, All, Some, None};
 ghost use Rattle.std.specs.Option.{option_to_list, ForSome};
 ghost use Rattle.std.specs.List.{AllByRecursion};
 ghost use Rattle.std.specs.List.Sorted.{IsStrictlySortedBy};
 ghost use Rattle.dz_name.specs.Name.{canonical_order};
 ghost use Rattle.dz_member.specs.Membership.{settings_at, shown, IsNumbered};
 ghost use Rattle.dz_member.specs.Fold.{IsFold};
+ghost use Rattle.dz_member.specs.Listing.{IsListing};
 ghost use Rattle.dz_member.specs.Process.{in_zone_order};
 ghost use Rattle.dz_member.specs.inner.Kept.{members_from, changes_from};
 ghost use Rattle.dz_member.specs.inner.Walk.{judge_of, first_pair, pair_of};
@@ -36,6 +37,42 @@ struct Pair<'a> {
     held: &'a [Membership],
 }
 
+impl<'a> Pair<'a> {
+    /// The zone of a membership, which may have a node.
+    fn of_member(member: &'a Membership, node: Option<&'a Node>, held: &'a [Membership]) -> Pair<'a>
+        ensures { pair_of result ≡ record {
+          zone = member.now.zone;
+          member = Some member.now;
+          node = option_map (λ r. r.now) node.entry;
+          held = held.now;
+        } }
+    {
+        Pair {
+            zone: member.zone.as_ref(),
+            member: Some(member),
+            node,
+            held,
+        }
+    }
+
+    /// The zone of a node that has no membership.
+    fn of_node(node: &'a Node, held: &'a [Membership]) -> Pair<'a>
+        ensures { pair_of result ≡ record {
+          zone = node.now.zone;
+          member = None;
+          node = Some node.now;
+          held = held.now;
+        } }
+    {
+        Pair {
+            zone: node.zone.as_ref(),
+            member: None,
+            node: Some(node),
+            held,
+        }
+    }
+}
+
 /// The canonical order of two zones, which mostly are the same.
 #[tactic(auto, using(crate::proofs::OrderLemmas::tied_same))]
 fn zone_order(a: &NameRef, b: &NameRef) -> Ordering
@@ -52,53 +89,26 @@ fn zone_order(a: &NameRef, b: &NameRef) -> Ordering
 fn first_pair<'a>(held: &'a [Membership], node: Option<&'a Node>) -> Option<Pair<'a>>
     ensures { option_map pair_of result ≡ first_pair held.now (option_map (λ r. r.now) node.entry) }
 {
-    match held.split_first() {
-        None => match node {
-            None => None,
-            Some(n) => Some(Pair {
-                zone: n.zone.as_ref(),
-                member: None,
-                node: Some(n),
-                held,
-            }),
-        },
-        Some((m, members)) => match node {
-            None => Some(Pair {
-                zone: m.zone.as_ref(),
-                member: Some(m),
-                node: None,
-                held: members,
-            }),
-            Some(n) => Some(match zone_order(&m.zone.as_ref(), &n.zone.as_ref()) {
-                Ordering::Less => Pair {
-                    zone: m.zone.as_ref(),
-                    member: Some(m),
-                    node: None,
-                    held: members,
-                },
-                Ordering::Equal => Pair {
-                    zone: m.zone.as_ref(),
-                    member: Some(m),
-                    node: Some(n),
-                    held: members,
-                },
-                Ordering::Greater => Pair {
-                    zone: n.zone.as_ref(),
-                    member: None,
-                    node: Some(n),
-                    held,
-                },
-            }),
-        },
+    match (held.split_first(), node) {
+        (None, None) => None,
+        (None, Some(n)) => Some(Pair::of_node(n, held)),
+        (Some((m, members)), None) => Some(Pair::of_member(m, None, members)),
+        (Some((m, members)), Some(n)) => {
+            Some(match zone_order(&m.zone.as_ref(), &n.zone.as_ref()) {
+                Ordering::Less => Pair::of_member(m, None, members),
+                Ordering::Equal => Pair::of_member(m, Some(n), members),
+                Ordering::Greater => Pair::of_node(n, held),
+            })
+        }
     }
 }
 
 /// The number of the first node that is left, after the one of a number where it was taken.
-fn behind(listing: &Listing, at: usize, taken: bool) -> usize
-    ensures { drop result (in_zone_order listing.now)
-        ≡ drop (if taken then 1 else 0) (drop at (in_zone_order listing.now)) }
+fn behind(nodes: &[Node], at: usize, taken: bool) -> usize
+    ensures { drop result (in_zone_order nodes.now)
+        ≡ drop (if taken then 1 else 0) (drop at (in_zone_order nodes.now)) }
 {
-    if taken && at < listing.nodes().len() {
+    if taken && at < nodes.len() {
         at + 1
     } else {
         at
@@ -183,8 +193,6 @@ pub(crate) fn walk(
 ) -> Result<Processed, AllocError>
     requires fold { IsFold fold.now }
     requires number { number < length fold.now.config }
-    requires zones { IsStrictlySortedBy canonical_order
-        (map (λ n. n.zone) (in_zone_order listing.now)) }
     ensures members { IfOk result (λ p. map (shown fold.now.config) p.members.items
         ≡ members_from fold.now (settings_at fold.now.config number).name position
         (in_zone_order listing.now)) }
@@ -192,7 +200,9 @@ pub(crate) fn walk(
         ≡ changes_from fold.now (settings_at fold.now.config number).name position
         (in_zone_order listing.now)) }
     ensures numbered { IfOk result (λ p. All (IsNumbered fold.now.config) p.members.items) }
+    ensures listing { IsListing listing.now }
 {
+    let nodes = listing.nodes();
     let members = fold.memberships();
     let mut processed = Processed {
         members: Vec::with_capacity(alloc, members.len())?,
@@ -203,7 +213,7 @@ pub(crate) fn walk(
     'zones: while let Some(pair) = first_pair(held, listing.node_by_zone(at)) {
         processed.add_pair(fold, number, position, &pair)?;
         held = pair.held;
-        at = behind(listing, at, pair.node.is_some());
+        at = behind(nodes, at, pair.node.is_some());
     }
     Ok(processed)
 }

@@ -19,7 +19,6 @@ pub fn next_frame(octets: &[u8], at: usize) -> Option<(usize, usize)>
 }
 
 /// Where the message of the whole frame at an offset begins and ends; none where there is no whole frame.
-#[tactic(auto, unfolding(crate::specs::Frame::frame_at, crate::specs::Frame::first_size))]
 fn frame_at(octets: &[u8], at: usize) -> Option<(usize, usize)>
     ensures place { result ≡ frame_at octets.now at }
     ensures within { IfSome result (IsWithin octets.now) }

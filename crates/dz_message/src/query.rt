@@ -1,5 +1,6 @@
 ghost use Rattle.std.specs.Prelude.{◌≡◌, ◌++◌, IfOk, OnOk, Ok, option_map, []};
 ghost use Rattle.std.specs.Option.{option_map_or};
+ghost use Rattle.dz_name.specs.Name.{IsName};
 ghost use Rattle.dz_record.specs.Record.{record_octets};
 ghost use Rattle.dz_message.specs.Spelling.{Spells};
 ghost use Rattle.dz_message.specs.Query.{query_kind, query_header, query_question, query_octets, query_content, IsHeld, IsHeldSoa};
@@ -18,7 +19,6 @@ use std::alloc::{AllocError, Global};
 /// # Errors
 ///
 /// `AllocError` where memory runs out.
-#[tactic(auto, unfolding(crate::specs::Query::query_octets))]
 pub fn write_query(
     alloc: Global,
     id: u16,
@@ -30,6 +30,8 @@ pub fn write_query(
         (λ o. o ≡ query_octets id zone.now (option_map (λ r. r.now) held.entry)) }
     ensures spells { IfOk result
         (λ o. Spells o (query_content id zone.now (option_map (λ r. r.now) held.entry))) }
+    ensures name { IfOk result (λ _. IsName zone.now) }
+    ensures held { IfOk result (λ _. IsHeld (option_map (λ r. r.now) held.entry)) }
 {
     let mut out = Vec::new(alloc);
     write_head(query_header(id, held), &mut out)?;

@@ -80,7 +80,6 @@ pub fn counted_read<L: Ledger>(
 }
 
 /// Reads the header, and then what follows it. The error is the first fault, or out of memory.
-#[tactic(auto, unfolding(crate::specs::Reading::message_of))]
 fn read_whole<L: Ledger>(
     alloc: Global,
     octets: &[u8],
@@ -99,7 +98,6 @@ fn read_whole<L: Ledger>(
 }
 
 /// Reads the sections after the header. The error is the first fault, or out of memory.
-#[tactic(auto, unfolding(crate::specs::Reading::content_of))]
 fn read_content<L: Ledger>(
     alloc: Global,
     octets: &[u8],
@@ -170,7 +168,6 @@ fn read_questions<L: Ledger>(
 }
 
 /// Reads the question at an offset, and returns it with the offset after it; every fault is `Wire`.
-#[tactic(auto, unfolding(crate::specs::Reading::question_in))]
 fn read_question_in<L: Ledger>(
     message: &Wire<'_>,
     at: usize,
@@ -220,7 +217,6 @@ fn read_answers<L: Ledger>(
 
 /// Reads the record at an offset, and returns it with the offset after it. Its RDATA is put together in `rdata`, whatever
 /// that had. The error is the first fault, or out of memory.
-#[tactic(auto, unfolding(crate::specs::Reading::record_at))]
 fn read_record<L: Ledger>(
     alloc: Global,
     message: &Wire<'_>,
@@ -247,7 +243,6 @@ fn read_record<L: Ledger>(
 }
 
 /// Reads type, class, TTL and length of RDATA after an owner name; `Wire` where they aren't complete.
-#[tactic(auto, unfolding(crate::specs::Reading::head_at))]
 fn read_head_at(message: &[u8], at: usize) -> Result<RecordHead, MessageFault>
     requires { at ≤ length message.now }
     ensures reads { result ≡ head_at message.now at }
@@ -261,7 +256,6 @@ fn read_head_at(message: &[u8], at: usize) -> Result<RecordHead, MessageFault>
 
 /// Puts the RDATA that begins at an offset into `out`, in canonical form, in place of what that had. A bad type or class
 /// is `BadType`, before the RDATA is read.
-#[tactic(auto, unfolding(crate::specs::Reading::rdata_of))]
 fn read_rdata<L: Ledger>(
     message: &Wire<'_>,
     at: usize,
@@ -369,7 +363,6 @@ fn read_field<L: Ledger>(
 }
 
 /// Appends octets of RDATA as they are, and returns the offset after them; `BadRdata` where they pass its end.
-#[tactic(auto, unfolding(crate::specs::Reading::octets_at))]
 fn read_octets(
     message: &[u8],
     span: Span,
@@ -391,7 +384,6 @@ fn read_octets(
 }
 
 /// Appends the canonical form of a name in RDATA, and returns the offset after it; `BadRdata` where it passes its end.
-#[tactic(auto, unfolding(crate::specs::Reading::name_within))]
 fn read_name<L: Ledger>(
     message: &Wire<'_>,
     span: Span,

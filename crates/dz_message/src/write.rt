@@ -34,7 +34,6 @@ pub fn write_message(alloc: Global, message: &Message) -> Result<Octets, WriteEr
 }
 
 /// Appends the octets of a message. `AllocError` where memory runs out.
-#[tactic(auto, unfolding(crate::specs::Writing::message_octets))]
 fn write_all(message: &Message, out: &mut Vec<u8>) -> Result<(), AllocError>
     ensures octets { OnOk result (out.new.items ≡ out.old.items ++ message_octets message.now) }
     ensures held { OnOk result (IsHeldMessage message.now) }
@@ -95,7 +94,6 @@ pub(crate) fn write_answer(answer: &Rr, out: &mut Vec<u8>) -> Result<(), AllocEr
 }
 
 /// Appends a question without pointers. `AllocError` where memory runs out.
-#[tactic(auto, unfolding(crate::specs::Writing::question_octets))]
 pub(crate) fn write_question(question: &Question, out: &mut Vec<u8>) -> Result<(), AllocError>
     ensures octets { OnOk result (out.new.items ≡ out.old.items ++ question_octets question.now) }
     ensures held { OnOk result (IsAsking question.now) }

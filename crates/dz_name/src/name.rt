@@ -108,12 +108,12 @@ impl Name {
     }
 
     /// The name with one more label before the first, where there is room for it.
-    fn prepend(&self, label: &[u8]) -> Name
+    pub(crate) fn below(above: &NameRef, label: &[u8]) -> Name
         requires is { IsLabel label.now }
-        requires room { length (wire_of self.now) + length label.now < 255 }
-        ensures { result ≡ label.now ∷ self.now }
+        requires room { length (wire_of above.now) + length label.now < 255 }
+        ensures { result ≡ label.now ∷ above.now }
     {
-        let wire = self.wire();
+        let wire = above.wire();
         let size = label.len();
         let mut octets = [0; 255];
         write_at(&mut octets, 0, &[size as u8]);
@@ -134,7 +134,7 @@ impl Name {
         ensures { result ≡ child_of self.now label.now }
     {
         if self.wire().len() + label.octets().len() < 255 {
-            Ok(self.prepend(label.octets()))
+            Ok(Name::below(&self.as_ref(), label.octets()))
         } else {
             Err(NameError::NameTooLong)
         }
@@ -166,7 +166,7 @@ impl Name {
         requires { length (wire_of self.now) < 254 }
         ensures { result ≡ wildcard_of self.now }
     {
-        self.prepend(b"*")
+        self.as_ref().wildcard()
     }
 }
 

@@ -1,7 +1,7 @@
 //! Names whose wire form is held elsewhere.
 
-ghost use Rattle.std.specs.Prelude.{◌≡◌, ℕ, ◌+◌, ◌-◌, ◌<◌, ◌≤◌, ◌↔◌, List, [], ◌∷◌, ◌++◌, length, take, drop, IsTrue, IfSome, slice_index, slice_index_or};
-ghost use Rattle.dz_name.specs.Name.{wire_of, IsLabel, IsName, IsWithin, same_name, is_within, canonical_order, labels_of, IsWire};
+ghost use Rattle.std.specs.Prelude.{◌≡◌, ℕ, ◌+◌, ◌-◌, ◌<◌, ◌≤◌, ◌↔◌, List, [], ◌∷◌, ◌++◌, length, take, drop, IsTrue, IfSome, IsNone, Some, slice_index, slice_index_or};
+ghost use Rattle.dz_name.specs.Name.{wire_of, IsLabel, IsName, IsWithin, same_name, is_within, parent_of, wildcard_of, canonical_order, labels_of, IsWire};
 ghost use Rattle.dz_name.specs.inner.Starts.{AreStarts};
 ghost use Rattle.dz_name.specs.Words.{Name, Octets};
 
@@ -54,6 +54,35 @@ impl<'a> NameRef<'a> {
         Name::of_wire(self.wire())
     }
 
+    /// The wildcard below the name (RFC 4592 section 2.1.1).
+    pub fn wildcard(&self) -> Name
+        requires { length (wire_of self.now) < 254 }
+        ensures { result ≡ wildcard_of self.now }
+    {
+        Name::below(self, b"*")
+    }
+
+    /// Whether the name is the parent of the other one, which is one label below it.
+    pub fn is_parent_of(&self, other: &NameRef) -> bool
+        ensures { IsTrue result ↔ (parent_of other.now ≡ Some self.now) }
+    {
+        match other.parent() {
+            None => false,
+            Some(parent) => self.same(&parent),
+        }
+    }
+
+    /// The parent name, one label up; none for the root.
+    pub fn parent(&self) -> Option<NameRef<'a>>
+        ensures { result ≡ parent_of self.now }
+    {
+        let wire = self.wire();
+        if wire[0] == 0 {
+            return None;
+        }
+        Some(NameRef::of_wire(behind_label(wire)))
+    }
+
     /// How many labels there are, at most 127.
     pub fn label_count(&self) -> usize
         ensures { result ≡ length self.now }
@@ -78,6 +107,22 @@ impl<'a> NameRef<'a> {
             rest = behind_label(rest);
         }
         rest
+    }
+
+    /// The name that follows the first `skip` labels; none where there are fewer labels.
+    pub fn above(&self, skip: usize) -> Option<NameRef<'a>>
+        ensures some { IfSome result
+            (λ name. (skip ≤ length self.now) × (name ≡ drop skip self.now)) }
+        ensures none { IsNone result ↔ (length self.now < skip) }
+    {
+        let mut name = NameRef::of_wire(self.wire());
+        'labels: for _ in 0..skip {
+            name = match name.parent() {
+                Some(parent) => parent,
+                None => return None,
+            };
+        }
+        Some(name)
     }
 
     /// A label preceded by its length octet, as in the wire form; 0 is the first.
@@ -113,9 +158,12 @@ impl<'a> NameRef<'a> {
         ensures value { result ≡ is_within self.now (drop skip above.now) }
         ensures suffix { IsTrue result ↔ IsWithin self.now (drop skip above.now) }
     {
-        let mine = self.label_count();
-        let theirs = above.label_count() - skip;
-        theirs <= mine && self.behind(mine - theirs) == above.behind(skip)
+        let suffix = above.behind(skip);
+        let mut rest = self.wire();
+        'labels: while suffix.len() < rest.len() {
+            rest = behind_label(rest);
+        }
+        rest == suffix
     }
 
     /// Canonical order: labels from the right, each as octets; a missing label or octet sorts first.

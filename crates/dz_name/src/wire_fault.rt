@@ -1,7 +1,7 @@
-ghost use Rattle.std.specs.Prelude.{◌≡◌, ℕ, ◌+◌, ◌<◌, ◌≤◌, ◌++◌, List, length, IfOk, IfSome, IsNone};
+ghost use Rattle.std.specs.Prelude.{◌≡◌, ℕ, ◌+◌, ◌<◌, ◌≤◌, ◌++◌, List, length, slice_index, Err, IfOk, IfErr, IfSome, IsNone};
 ghost use Rattle.dz_name.specs.Name.{wire_of, IsName};
 ghost use Rattle.dz_name.specs.Words.{Name};
-ghost use Rattle.dz_name.specs.Reading.{Reading, Reads, name_at, IsNameBetween, canonical_end};
+ghost use Rattle.dz_name.specs.Reading.{Reading, Reads, label_end, name_at, IsNameBetween, canonical_end};
 ghost use Rattle.dz_name.specs.inner.Landings.{AreLandings, EndsChains};
 
 use crate::name::Name;
@@ -111,12 +111,7 @@ fn read_name<L: Ledger>(
             return Ok((name, behind.unwrap_or(offset + 1)));
         }
         if first < 64 {
-            if message.len() - offset <= first {
-                return Err(WireFault::Short);
-            }
-            if 255 <= used + (first + 1) {
-                return Err(WireFault::NameTooLong);
-            }
+            check_label(message, offset, used)?;
             name.push_label(&message[offset + 1..offset + (first + 1)]);
             used += first + 1;
             offset += first + 1;
@@ -136,6 +131,28 @@ fn read_name<L: Ledger>(
         }
     }
     Err(WireFault::Short)
+}
+
+/// Checks the label at an offset, after labels of `used` octets: it ends within the message, and leaves room for the
+/// final zero octet within 255. The error is the first fault.
+fn check_label(message: &[u8], offset: usize, used: usize) -> Result<(), WireFault>
+    requires within { offset < length message.now }
+    requires some { 0 < slice_index message.now offset }
+    requires label { slice_index message.now offset < 64 }
+    requires short { used < 255 }
+    ensures whole { IfOk result (λ _. label_end message.now offset ≤ length message.now) }
+    ensures room { IfOk result (λ _. used + (slice_index message.now offset + 1) < 255) }
+    ensures fault { IfErr result (λ fault. (piece : ℕ)
+        → Reads message.now piece used offset (Err fault)) }
+{
+    let first = message[offset] as usize;
+    if message.len() - offset <= first {
+        return Err(WireFault::Short);
+    }
+    if 255 <= used + (first + 1) {
+        return Err(WireFault::NameTooLong);
+    }
+    Ok(())
 }
 
 /// The offset after the name in canonical form that begins at an offset: a name without pointers and upper-case

@@ -52,13 +52,13 @@ not_ours = refl
 
 -- ID 82, the SOA of EXample., with RD, and an OPT record with DO
 pub with_an_opt : notify_reply_of (0 ∷ 82 ∷ 37 ∷ 0 ∷ 0 ∷ 1 ∷ 0 ∷ 0 ∷ 0 ∷ 0 ∷ 0 ∷ 1 ∷ 7 ∷ 69 ∷ 88 ∷ 97 ∷ 109 ∷ 112 ∷ 108 ∷ 101 ∷ 0 ∷ 0 ∷ 6 ∷ 0 ∷ 1 ∷ 0 ∷ 0 ∷ 41 ∷ 16 ∷ 0 ∷ 0 ∷ 0 ∷ 128 ∷ 0 ∷ 0 ∷ 0 ∷ []) Taken ≡ Some (0 ∷ 82 ∷ 161 ∷ 0 ∷ 0 ∷ 1 ∷ 0 ∷ 0 ∷ 0 ∷ 0 ∷ 0 ∷ 1 ∷ 7 ∷ 69 ∷ 88 ∷ 97 ∷ 109 ∷ 112 ∷ 108 ∷ 101 ∷ 0 ∷ 0 ∷ 6 ∷ 0 ∷ 1 ∷ 0 ∷ 0 ∷ 41 ∷ 4 ∷ 208 ∷ 0 ∷ 0 ∷ 128 ∷ 0 ∷ 0 ∷ 0 ∷ [])
-unfolding notify_reply_of notify_reply_for request with_header asked_for asked_in question_in question_at name_at name_from element_at wire_of opt_in behind_records header_in number_of_two bare_octets head_octets header_octets flags_number opt_octets two add_shape edns_of shape_of behind_owner behind_head head_in number_of_four
+unfolding notify_reply_of notify_reply_for request with_header asked_for asked_in question_in question_at name_at name_from element_at wire_of opt_in behind_records header_in number_of_two bare_octets head_octets header_octets flags_number opt_octets two add_shape shape_of behind_owner behind_head head_in number_of_four
 with_an_opt = refl
 
 -- ---- the zones of requests
 -- all that computes the zone of a NOTIFY: whoever unfolds `zone_in` unfolds its whole list
 zone_in : Octets → Option Name
-unfolding request with_header asked_for asked_in question_in question_at name_at name_from element_at wire_of opt_in add_shape edns_of behind_records shape_of behind_owner behind_head head_in header_in number_of_two number_of_four
+unfolding request with_header asked_for asked_in question_in question_at name_at name_from element_at wire_of opt_in add_shape behind_records shape_of behind_owner behind_head head_in header_in number_of_two number_of_four
 zone_in octets = notify_zone_in octets
 
 pub of_example_in_lower_case : notify_zone_in (0 ∷ 80 ∷ 36 ∷ 0 ∷ 0 ∷ 1 ∷ 0 ∷ 0 ∷ 0 ∷ 0 ∷ 0 ∷ 0 ∷ 7 ∷ codes "example" ++

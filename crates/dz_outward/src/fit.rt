@@ -2,6 +2,7 @@
 
 ghost use Rattle.std.specs.Prelude.{◌≡◌, ◌≤◌, ◌<◌, ◌+◌, ◌*◌, ◌^◌, ◌++◌, ◌∷◌, [], List, length, filter};
 ghost use Rattle.dz_record.specs.Record.{Record};
+ghost use Rattle.dz_zone.specs.Version.{IsVersion};
 ghost use Rattle.dz_message.specs.Frame.{stream};
 ghost use Rattle.std.specs.List.{list_all};
 ghost use Rattle.dz_message.specs.Piece.{octets_behind, total_of, written};
@@ -16,7 +17,8 @@ use dz_zone::Version;
 /// Whether a version can be sent: each record fits into a message without a question, and the frames together have at
 /// most 67,108,864 octets.
 pub fn is_fit(version: &Version) -> bool
-    ensures { result ≡ is_fit version.now }
+    ensures fit { result ≡ is_fit version.now }
+    ensures version { IsVersion version.now }
 {
     all_fit(version.records()) && stream_size(version) <= TRANSFER_OCTETS
 }
@@ -28,7 +30,6 @@ fn stream_size(version: &Version) -> usize
     let apex = version.apex().to_name();
     let mut tally = Tally::new(apex.wire().len() + QUESTION_OCTETS);
     let soa = version.apex_soa();
-    soa.look();
     tally.add(soa);
     add_others(version.records(), &mut tally);
     tally.add(soa);
@@ -66,7 +67,6 @@ fn count_other(rr: &Rr, tally: &mut Tally)
         ≡ octets_behind tally.new rest }
     ensures grows { total_of tally.new ≤ total_of tally.old + 70_000 }
 {
-    rr.look();
     if rr.kind() != TYPE_SOA {
         tally.add(rr);
     }

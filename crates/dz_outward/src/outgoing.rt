@@ -6,6 +6,7 @@ ghost use Rattle.std.specs.Arc.{arc_value};
 ghost use Rattle.dz_header.specs.declared.question.Question.{Question};
 ghost use Rattle.dz_record.specs.Record.{Record, record_octets};
 ghost use Rattle.dz_message.specs.Piece.{Holds, FitsAlone, has_room, packed};
+ghost use Rattle.dz_zone.specs.Version.{IsVersion};
 ghost use Rattle.dz_outward.specs.Stream.{messages_of, is_fit, is_other, question_of};
 ghost use Rattle.dz_outward.specs.inner.Filled.{AddsUp, IsStopped, Gives, GivesNext, left_of, rest_of, IsOutgoing};
 
@@ -65,6 +66,7 @@ impl Outgoing {
     pub fn start(version: Arc<Version>, id: u16) -> Result<Outgoing, Unfit>
         ensures fit { is_ok result ≡ is_fit (arc_value version) }
         ensures messages { IfOk result (λ o. o ≡ messages_of id (arc_value version)) }
+        ensures version { IsVersion (arc_value version) }
     {
         if !is_fit(&version) {
             return Err(Unfit);
@@ -121,7 +123,6 @@ fn write_first(version: &Version, id: u16, out: &mut [u8]) -> (usize, Stage)
         class: CLASS_IN,
     };
     let soa = version.apex_soa();
-    soa.look();
     let mut piece = Piece::begin(id, Some(&question), out);
     piece.add(soa, out);
     write_rest(version, id, 0, piece, out)

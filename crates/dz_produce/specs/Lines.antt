@@ -77,5 +77,5 @@ line_in (word ∷ fields) =
     else None
 
 -- what a line says that isn't skipped; none of a line that has none of the forms
-unfoldable pub line_of : Octets → Option Line
+abbrev pub line_of : Octets → Option Line
 line_of text = line_in (fields_of text)

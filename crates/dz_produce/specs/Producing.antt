@@ -98,7 +98,7 @@ abbrev pub bad_turn : State → ℕ → Turn State ProduceEnd
 bad_turn state number = ends (bad number) state BadInput
 
 -- the first line begins a catalog
-unfoldable pub first_turn : ℕ → Line → Turn State ProduceEnd
+abbrev pub first_turn : ℕ → Line → Turn State ProduceEnd
 first_turn number (Catalog apex serial) = unless_faulty None number [] (begun apex serial)
 first_turn number (Member node) = bad_turn None number
 first_turn number (Drop label) = bad_turn None number
@@ -113,7 +113,7 @@ abbrev pub drop_turn : Making → ℕ → Octets → Turn State ProduceEnd
 drop_turn m number label = if may_drop m then unless_faulty (Some m) number [] (without m label) else bad_turn (Some m) number
 
 -- a change writes the line of the catalog before it, whatever its own fault
-unfoldable pub next_turn : Making → ℕ → Line → Turn State ProduceEnd
+abbrev pub next_turn : Making → ℕ → Line → Turn State ProduceEnd
 next_turn m number (Catalog apex serial) = bad_turn (Some m) number
 next_turn m number (Member node) = unless_faulty (Some m) number [] (with_member m node)
 next_turn m number (Drop label) = drop_turn m number label
@@ -130,7 +130,7 @@ line_turn state number None = bad_turn state number
 line_turn state number (Some line) = form_turn state number line
 
 -- a line; a skipped one does nothing
-unfoldable pub produce_turn : State → ℕ → Octets → Turn State ProduceEnd
+abbrev pub produce_turn : State → ℕ → Octets → Turn State ProduceEnd
 produce_turn state number line = if is_skipped line then goes_on [] state else line_turn state number (line_of line)
 
 -- a bad end: its text and its state
@@ -142,7 +142,7 @@ abbrev pub produce_too_long : State → ℕ → Said State ProduceEnd
 produce_too_long state number = bad_said state number
 
 -- the line of the last catalog; one must be there
-unfoldable pub produce_finish : State → ℕ → Said State ProduceEnd
+abbrev pub produce_finish : State → ℕ → Said State ProduceEnd
 produce_finish None number = bad_said None number
 produce_finish (Some m) number = record { text = text_of m; state = Some m; ending = Done }
 

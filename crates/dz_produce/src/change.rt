@@ -67,8 +67,9 @@ impl Change {
     pub(crate) fn is_faultless(&self, alloc: Global, serial: u32) -> Result<bool, AllocError>
         requires newer { is_newer (held_serial self.now.zone) serial ≡ true }
         requires labels { no_label self.now.zone self.now.dropped ≡ false }
-        ensures { IfOk result (λ good. good
+        ensures good { IfOk result (λ good. good
             ≡ not (is_some (amend_fault self.now.zone serial self.now.dropped []))) }
+        ensures known { IsKnown self.now.zone }
     {
         if self.octets <= Draft::SURE {
             return Ok(true);
@@ -132,13 +133,6 @@ impl Change {
         self.dropped.push(label)?;
         self.left.remove(&label);
         Ok(())
-    }
-
-    /// What is known of the catalog before.
-    pub(crate) fn look(&self)
-        ensures { IsKnown self.now.zone }
-    {
-        let _octets = &self.octets;
     }
 
     /// What comes of the change with these nodes added; none where it has a fault.

@@ -24,7 +24,6 @@ pub(crate) enum Line {
 }
 
 /// Reads a line that isn't skipped, without its newline; none where it has none of the forms.
-#[tactic(auto, unfolding(crate::specs::Lines::line_of))]
 pub(crate) fn read_line(alloc: Global, text: &[u8]) -> Result<Option<Line>, AllocError>
     ensures { IfOk result (λ line. line ≡ line_of text.now) }
 {

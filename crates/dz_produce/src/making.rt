@@ -237,7 +237,6 @@ fn change_of(
         return Ok(None);
     }
     let change = Change::new(alloc, version)?;
-    change.look();
     if change.is_faultless(alloc, serial)? {
         Ok(Some(change))
     } else {

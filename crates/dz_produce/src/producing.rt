@@ -35,7 +35,6 @@ impl Producing {
     }
 
     /// Takes a line: what it says, and how it ends the input if it does.
-    #[tactic(auto, unfolding(crate::specs::Producing::produce_turn))]
     pub(crate) fn take_line(
         &mut self,
         alloc: Global,
@@ -66,7 +65,6 @@ impl Producing {
     }
 
     /// Takes the first line.
-    #[tactic(auto, unfolding(crate::specs::Producing::first_turn))]
     fn take_first(&mut self, alloc: Global, number: u64, line: Line) -> Result<Saying, AllocError>
         requires { self.old ≡ None }
         ensures { IfOk result (λ s. first_turn number line
@@ -102,7 +100,6 @@ impl Producing {
     }
 
     /// Ends the input: what is said at last, and how it ends.
-    #[tactic(auto, unfolding(crate::specs::Producing::produce_finish))]
     pub(crate) fn finish(
         &self,
         alloc: Global,
@@ -119,7 +116,6 @@ impl Producing {
 }
 
 /// Takes a line after the first.
-#[tactic(auto, unfolding(crate::specs::Producing::next_turn))]
 fn take_next(
     alloc: Global,
     number: u64,

@@ -1,5 +1,7 @@
 -- Events whose lines were all written.
-use Rattle.std.proofs.Common.{◌≡◌, ℕ, true, false, Result, Ok, Err, refl, subst}
+use Rattle.std.proofs.Common.{◌≡◌, ℕ, List, true, false, Result, Ok, Err, refl, sym, subst}
+use Rattle.dz_history.specs.declared.entry.Entry.{Entry}
+use Rattle.dz_fleet.specs.Core.{Core}
 use Rattle.std.specs.Prelude.{IfOk, OnOk, MatchResult}
 use Rattle.dz_io.specs.declared.peer.Peer.{Peer}
 use Rattle.dz_name.specs.Words.{Name, Octets}
@@ -16,6 +18,7 @@ use Rattle.dz_provision.specs.declared.provisioner.LogFault.{LogFault}
 use Rattle.dz_provision.specs.declared.provisioner.Unmade.{Unmade}
 use Rattle.dz_provision.specs.declared.provisioner.Unmade.TheVariants as unmade
 use Rattle.dz_provision.specs.inner.Ready.{is_want}
+use Rattle.dz_provision.specs.Witness.{WitnessOf, IsWitnessOf}
 use Rattle.dz_provision.specs.Held.{Held, IsSettled, IsFailed, IsHeard, IsSaid, IsSettledAloud, IsFailedAloud, IsStarvedAloud, IsHeardAloud}
 
 -- a verdict that isn't want of memory, and want of memory whose line was said
@@ -62,10 +65,18 @@ unfolding IsStarvedAloud
 failed_starved h between k job now f (Ok g) own is want said = rw want (between, subst (λ x. IsFailedAloud h job now x between) own is, said)
 failed_starved h between k job now f (Err u) own is want said = tt
 
-pub heard_aloud : (h k : Held) (peer : Peer) (zone : Name) (how : Heard) (note : Page) → IsHeard h peer zone (Ok (how, note)) k → IsHeardAloud h peer zone (hearing.Heard how) k
+pub heard_aloud : {W : Type 0} → (h k : Held) (peer : Peer) (zone : Name) (how : Heard) (witness : W) (note : Page) → IsHeard h peer zone (Ok (how, note)) k
+    → IsHeardAloud h peer zone (hearing.Heard how witness) k
 unfolding IsHeardAloud
-heard_aloud h k peer zone how note is = (note, is)
+heard_aloud h k peer zone how witness note is = (note, is)
 
-pub fault_aloud : (h k : Held) (peer : Peer) (zone : Name) (fault : LogFault) → IsHeard h peer zone (Err fault) k → IsHeardAloud h peer zone hearing.LogFault k
+pub fault_aloud : (W : Type 0) (h k : Held) (peer : Peer) (zone : Name) (fault : LogFault) → IsHeard h peer zone (Err fault) k → IsHeardAloud {W = W} h peer zone hearing.LogFault k
 unfolding IsHeardAloud
-fault_aloud h k peer zone fault is = (fault, is)
+fault_aloud W h k peer zone fault is = (fault, is)
+
+-- the cores before and after a NOTIFY that was heard after a list show how it was heard
+pub heard_witness : (h k : Held) (peer : Peer) (zone : Name) (how : Heard) (note : Page) (entries : List Entry) (w : WitnessOf) (before after : Core) → IsHeard h peer zone (Ok (how, note)) k
+    → entries ≡ h.core.list → w ≡ record { before = before; after = after } → before ≡ h.core → after ≡ k.core → IsWitnessOf w entries peer zone how
+unfolding IsHeard
+heard_witness h k peer zone how note entries w before after is list w_is before_is after_is =
+    rw (w_is, before_is, after_is) (record { list = sym list; heard = is.0; after = is.1.core })

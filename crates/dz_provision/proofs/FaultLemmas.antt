@@ -1,6 +1,7 @@
 -- What a call leaves that tells of a fault of the log, or of a job that isn't the core's.
-use Rattle.std.proofs.Common.{◌≡◌, ℕ, true, Result, Ok, Err, ap, ◌∙◌, inl, inr}
-use Rattle.std.specs.Prelude.{IsErr}
+use Rattle.std.proofs.Common.{◌≡◌, ℕ, Bool, true, Result, Ok, Err, ap, ◌∙◌, inl, inr}
+use Rattle.std.specs.Prelude.{IsErr, MatchBool}
+use Rattle.dz_io.specs.Counts.{HasRisen}
 use Rattle.dz_name.specs.Words.{Octets}
 use Rattle.dz_job.specs.Job.{JobOf}
 use Rattle.dz_fleet.specs.declared.due.Due.{Due}
@@ -35,3 +36,7 @@ pub said_fault : (h k : Held) (line : Octets) (fault : LogFault) → IsSaid h li
 unfolding IsSaid
 said_fault h k line fault (inl s) = stayed h k s
 said_fault h k line fault (inr b) = b.failed
+
+-- and so an output of this type can fail
+pub can_fail : {K : Type 0} (faults : K → ℕ) (output : K) (failed : Bool) → failed ≡ true → MatchBool failed (HasRisen 0 (faults output)) (faults output ≡ 0) → (k : K) × HasRisen 0 (faults k)
+can_fail faults output failed is cause = (output, rw is at cause)

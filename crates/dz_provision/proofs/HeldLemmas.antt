@@ -1,7 +1,7 @@
 -- What a call makes of what stands under the lock, by what its write leaves.
-use Rattle.std.proofs.Common.{◌≡◌, ℕ, ◌+◌, ◌-◌, ◌<◌, ◌≤◌, ◌^◌, true, false, List, [], ◌∷◌, length, arith, Option, None, Some, Result, Ok, Err, refl, sym, ap, subst, ◌∙◌, inl, inr}
-use Rattle.std.specs.Prelude.{MatchBool, IsErr}
-use Rattle.std.proofs.lemmas.List.{append-nil}
+use Rattle.std.proofs.Common.{◌≡◌, ℕ, ◌+◌, ◌-◌, ◌<◌, ◌≤◌, ◌^◌, true, false, List, [], ◌∷◌, length, arith, Option, None, Some, Result, Ok, Err, refl, sym, ap, subst, ◌∙◌, inl, inr, ◌++◌}
+use Rattle.std.specs.Prelude.{MatchBool, IsErr, IfOk}
+use Rattle.std.proofs.lemmas.List.{append-nil, length-append}
 use Rattle.dz_io.specs.Counts.{HasRisen}
 use Rattle.dz_io.specs.Device.{Gains}
 use Rattle.dz_io.specs.declared.peer.Peer.{Peer}
@@ -53,6 +53,23 @@ agrees list later lines (Err fault) a b before ok joins w =
       logged = subst (IsLogged later b.written) (sym w.1.1.1) (logged_off list later lines a.written b.written joins log w.0);
       cause = subst (λ x. MatchBool x (HasRisen 0 b.faults) (b.faults ≡ 0)) (sym w.1.1.1) (risen a.faults b.faults none w.1.1.0);
     }
+
+-- a list that has begun stays so
+pub still_begun : (list later : List Entry) → later ≡ list → 0 < length list → 0 < length later
+still_begun list later same some = rw same some
+
+pub begun_with : (list later : List Entry) (e : Entry) → later ≡ list ++ e ∷ [] → 0 < length later
+begun_with list later e is = omega (arith, ap length is, length-append list (e ∷ []))
+
+-- what holds of each answer
+pub always_ok : {T E : Type 0} (P : T → Type 0) (r : Result T E) → ((t : T) → P t) → IfOk r P
+always_ok P (Ok t) each = each t
+always_ok P (Err e) each = tt
+
+-- what an answer tells where its line was written
+pub told_so : {T : Type 0} (P : T → Type 0) (r : Result (Unit {0}) LogFault) (how : T) → P how → IfOk (answered r how) P
+told_so P (Ok done) how p = p
+told_so P (Err fault) how p = tt
 
 -- ---- the calls
 module _ (h k : Held) (before : h.failed ≡ false) where

@@ -31,8 +31,7 @@ use Rattle.dz_desk.specs.Seen.{Page}
 use Rattle.dz_fleet.specs.declared.due.Due.TheVariants as due
 use Rattle.dz_fleet.specs.Core.{Core, state_of, due_of, after_due, ended_of, used_of, screened, tsig_of, verdict_from, verdict_of, after_verdict, settled, failed_core}
 use Rattle.dz_fleet.specs.Answers.{IsOffered}
-use Rattle.dz_fleet.specs.Sound.{IsSound, IsFlying}
-use Rattle.dz_fleet.proofs.HandLemmas.{handed_flies}
+use Rattle.dz_fleet.specs.Sound.{IsFlying}
 use Rattle.dz_fleet.proofs.TakeLemmas.{screened_refused}
 use Rattle.dz_restore.specs.Restoring.{home_at, is_home, may_return, moment_of, ended_with, after_turn, restore_one, told, restore_seat, restore_at, restore_from, restored}
 use Rattle.dz_provision.specs.Held.{Held, IsHandedOut, IsSettled, IsFailed}
@@ -172,10 +171,6 @@ module _ (h k : Held) (now : ℕ) where
   pub handed_core : (job : JobOf) → IsHandedOut h now (Ok (due.Job job)) k → (due_of h.core now ≡ due.Job job) × (k.core ≡ after_due h.core (due.Job job))
   unfolding IsHandedOut
   handed_core job is = (sym is.0.0, is.0.1)
-
-  pub handed_flying : (job : JobOf) → IsSound k.core → IsHandedOut h now (Ok (due.Job job)) k → IsFlying k.core job
-  unfolding IsHandedOut
-  handed_flying job ok is = handed_flies k.core h.core.flight job ok (ap (λ (x : Core). x.flight) is.0.1)
 
   -- with it the zone has its turn
   pub turned : (tale : Option KeptZone) (job : JobOf) (d : Core) → moment_of tale ≡ now → IsHandedOut h now (Ok (due.Job job)) k → d ≡ ended_with k.core job tale → d ≡ restore_one tale h.core

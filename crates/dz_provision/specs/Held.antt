@@ -117,6 +117,6 @@ IsStarvedAloud h job now failures.Failed k =
 IsStarvedAloud h job now (failures.Stale n) k = IsFailedAloud h job now (failures.Stale n) k
 
 -- a NOTIFY
-unfoldable pub IsHeardAloud : Held → Peer → Name → Hearing → Held → Type 0
-IsHeardAloud h peer zone (hearing.Heard how) k = (note : Page) × IsHeard h peer zone (Ok (how, note)) k
+unfoldable pub IsHeardAloud : {W : Type 0} → Held → Peer → Name → Hearing W → Held → Type 0
+IsHeardAloud h peer zone (hearing.Heard how witness) k = (note : Page) × IsHeard h peer zone (Ok (how, note)) k
 IsHeardAloud h peer zone hearing.LogFault k = (fault : LogFault) × IsHeard h peer zone (Err fault) k

@@ -6,4 +6,5 @@ pub mod KeepingAnswer
 pub mod Log
 pub mod Names
 pub mod Receipts
+pub mod Witness
 pub mod inner

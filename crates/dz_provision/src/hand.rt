@@ -1,6 +1,7 @@
 //! Jobs that are handed out, and lines that tell of no event.
 
-ghost use Rattle.std.specs.Prelude.{◌≡◌, ◌<◌, ◌^◌};
+ghost use Rattle.std.specs.Prelude.{◌≡◌, ◌<◌, ◌^◌, IfOk};
+ghost use Rattle.dz_fleet.specs.Answers.{IsHanded};
 ghost use Rattle.dz_provision.specs.Held.{IsHandedOut, IsSaid};
 ghost use Rattle.dz_provision.specs.Log.{CanBeSaid};
 
@@ -20,7 +21,8 @@ impl<K: Sink, J: Naming> Provisioner<K, J> {
     /// fault none is made.
     pub fn hand_out(&mut self, now: u64) -> Result<Due, LogFault>
         requires { now < 2 ^ 40 }
-        ensures { IsHandedOut self.old now result self.new }
+        ensures made { IsHandedOut self.old now result self.new }
+        ensures flying { IfOk result (λ due. IsHanded due self.new.core) }
     {
         if self.log_failed {
             return Err(LogFault);

@@ -2,6 +2,7 @@
 
 ghost use Rattle.std.specs.Prelude.{◌≡◌, ◌<◌, ◌^◌, false, length, Err, IsErr};
 ghost use mathlib.Core.List.{IsPrefix};
+ghost use Rattle.dz_history.specs.Legal.{IsLegal};
 ghost use Rattle.dz_job.specs.Job.{transfer_for};
 ghost use Rattle.dz_provision.specs.Endings.{settled_ending, failed_ending, starved_ending};
 ghost use Rattle.dz_provision.specs.Receipts.{IsHandedAt, IsSettledAt, IsFailedAt};
@@ -54,6 +55,7 @@ pub trait Jobs: Ear {
         requires moment { now < 2 ^ 40 }
         ensures same { reading.new ≡ record reading.old { list = reading.new.list } }
         ensures seen { IsPrefix reading.old.list reading.new.list }
+        ensures legal { IsLegal reading.new.list }
         ensures settled { IsSettledAt result.answer job finished.octets
             (length reading.old.list) reading.new.list }
         ensures ending { result.ending
@@ -71,6 +73,7 @@ pub trait Jobs: Ear {
         requires moment { now < 2 ^ 40 }
         ensures same { reading.new ≡ record reading.old { list = reading.new.list } }
         ensures seen { IsPrefix reading.old.list reading.new.list }
+        ensures legal { IsLegal reading.new.list }
         ensures failed { IsFailedAt result.answer job (length reading.old.list) reading.new.list }
         ensures ending { result.ending ≡ failed_ending job now result.answer }
         ensures cause { result.answer ≡ Err Unmade.LogFault → Self.may_fail };
@@ -87,6 +90,7 @@ pub trait Jobs: Ear {
         requires moment { now < 2 ^ 40 }
         ensures same { reading.new ≡ record reading.old { list = reading.new.list } }
         ensures seen { IsPrefix reading.old.list reading.new.list }
+        ensures legal { IsLegal reading.new.list }
         ensures failed { IsFailedAt result.answer job (length reading.old.list) reading.new.list }
         ensures ending { result.ending ≡ starved_ending job now result.answer }
         ensures cause { result.answer ≡ Err Unmade.LogFault → Self.may_fail };

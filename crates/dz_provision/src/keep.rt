@@ -2,11 +2,13 @@
 
 ghost use Rattle.std.specs.Prelude.{◌≡◌, ◌<◌, ◌^◌, false, ℕ, List, [], ◌∷◌, map, Some, option_map, IfErr, IfSome, IsSome, OnOk};
 ghost use Rattle.std.specs.Arc.{arc_value};
-ghost use Rattle.std.specs.Option.{option_to_list};
+ghost use Rattle.std.specs.Option.{ForSome, option_to_list};
 ghost use Rattle.dz_disk.specs.Disk.{Leaves};
 ghost use Rattle.dz_disk.specs.RecordLog.{records};
 ghost use Rattle.dz_disk.specs.Several.{IsLeftAmong};
 ghost use Rattle.dz_history.specs.State.{State, IsState};
+ghost use Rattle.dz_fleet.specs.Core.{state_of};
+ghost use Rattle.dz_fleet.specs.Last.{IsRefreshed, last_of};
 ghost use Rattle.dz_store.specs.Kept.{meaning_of};
 ghost use Rattle.dz_store.specs.Payload.{reads};
 ghost use Rattle.dz_provision.specs.Keeping.{forget, save, record_of, goes, gone, changes_of, membership_at, last_kept, tasks, IsLastVerdict};
@@ -17,7 +19,7 @@ use crate::naming::Naming;
 use crate::provisioner::{LogFault, Provisioner};
 use crate::unkept::Unkept;
 use dz_disk::Disk;
-use dz_fleet::{Aftermath, Fleet, Verdict};
+use dz_fleet::{Aftermath, Fleet, Last, Verdict};
 use dz_io::Sink;
 use dz_member::{Change, Fold, What};
 use dz_name::{Label, Name};
@@ -81,10 +83,9 @@ fn do_tasks<D: Disk + Drop>(
     ensures crash { LeavesTasks D.file D.clock D.left_from store.old store.new
         (tasks fleet.now.list verdict.now) }
 {
-    // what is known of the last entry is known of this one
-    fleet.last();
+    let last = fleet.last();
     forget_gone(alloc, store, changes_of(verdict))?;
-    save_last(alloc, store, fleet)
+    save_last(alloc, store, fleet, last)
 }
 
 /// The changes by a verdict.
@@ -167,7 +168,10 @@ fn save_last<D: Disk + Drop>(
     alloc: Global,
     store: &mut Store<D>,
     fleet: &Fleet,
+    last: Option<&Last>,
 ) -> Result<(), Unkept>
+    requires last { option_map (λ r. r.now) last ≡ last_of fleet.now.list }
+    requires refreshed { ForSome (last_of fleet.now.list) (IsRefreshed (state_of fleet.now)) }
     ensures done { OnOk result (AreDone D.file D.faults store.old store.new
         (map save (option_to_list (last_kept fleet.now.list)))) }
     ensures stopped { IfErr result (λ u. IsStopped D.file D.faults store.old store.new
@@ -177,19 +181,21 @@ fn save_last<D: Disk + Drop>(
 {
     // what is known of a store is known of this one
     store.end();
-    match last_holding(fleet) {
+    match last_holding(fleet, last) {
         None => Ok(()),
         Some(holding) => save_holding(alloc, store, &holding),
     }
 }
 
 /// What is to be kept of the zone of the last entry.
-fn last_holding(fleet: &Fleet) -> Option<Holding<'_>>
+fn last_holding<'a>(fleet: &'a Fleet, last: Option<&Last>) -> Option<Holding<'a>>
+    requires last { option_map (λ r. r.now) last ≡ last_of fleet.now.list }
+    requires refreshed { ForSome (last_of fleet.now.list) (IsRefreshed (state_of fleet.now)) }
     ensures holding { option_map kept_as result ≡ last_kept fleet.now.list }
     ensures apex { IfSome result (λ h. h.version.now.value.apex ≡ h.zone) }
     ensures moment { IfSome result (λ h. h.refreshed < 2 ^ 40) }
 {
-    let Some(last) = fleet.last() else {
+    let Some(last) = last else {
         return None;
     };
     let Some(membership) = membership(fleet.fold(), &last.zone) else {

@@ -3,6 +3,8 @@
 ghost use Rattle.std.specs.Prelude.{◌≡◌, ◌<◌, ◌^◌, false, true, length, Err};
 ghost use mathlib.Core.List.{IsPrefix};
 ghost use Rattle.dz_io.specs.Counts.{HasRisen};
+ghost use Rattle.dz_provision.specs.Witness.{IsWitnessOf};
+ghost use Rattle.dz_history.specs.Legal.{IsLegal};
 ghost use Rattle.dz_job.specs.Job.{transfer_for};
 ghost use Rattle.dz_fleet.specs.Weighing.{is_taken};
 ghost use Rattle.dz_provision.specs.Endings.{settled_ending};
@@ -15,6 +17,7 @@ use crate::keep::keep_last;
 use crate::naming::Naming;
 use crate::provisioner::{LogFault, Provisioner, Unmade};
 use crate::shared::Locked;
+use crate::witness::Witness;
 use dz_desk::{Ear, Hearing, Reading};
 use dz_disk::Disk;
 use dz_fleet::{Due, Failure, Job, Verdict};
@@ -54,10 +57,12 @@ impl<K: Sink, J: Naming> Provisioner<K, J> {
         requires out { reading.old.is_out ≡ false }
         requires own { reading.old.book ≡ J.publisher }
         requires list { reading.old.list ≡ self.old.core.list }
+        requires legal { IsLegal reading.old.list }
         requires transfer { finished.transfer ≡ transfer_for job }
         requires moment { now < 2 ^ 40 }
         ensures same { reading.new ≡ record reading.old { list = reading.new.list } }
         ensures seen { IsPrefix reading.old.list reading.new.list }
+        ensures legal { IsLegal reading.new.list }
         ensures settled { IsSettledAt result.answer job finished.octets
             (length reading.old.list) reading.new.list }
         ensures ending { result.ending
@@ -103,7 +108,17 @@ impl<'a, K: Sink, J: Naming, D: Disk + Drop> Ear
     // an output of this type can fail
     ghost may_fail = { (k : K) × HasRisen 0 (K.faults k) };
 
-    fn hear<R: Wait>(&self, rt: &R, peer: &Peer, zone: &Name, reading: &mut Reading) -> Hearing {
+    type Witness = Witness;
+
+    ghost witnesses = { IsWitnessOf };
+
+    fn hear<R: Wait>(
+        &self,
+        rt: &R,
+        peer: &Peer,
+        zone: &Name,
+        reading: &mut Reading,
+    ) -> Hearing<Witness> {
         self.shared.hear(rt, peer, zone, reading)
     }
 }

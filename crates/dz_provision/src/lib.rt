@@ -19,6 +19,7 @@ mod settle;
 mod shared;
 mod starved;
 mod unkept;
+mod witness;
 
 pub use ending::{Ended, Ending};
 pub use endings::Endings;
@@ -29,3 +30,4 @@ pub use naming::Naming;
 pub use provisioner::{LogFault, Parts, Provisioner, Unmade, Unstarted};
 pub use restored::{Restored, restore};
 pub use shared::{Locked, Shared};
+pub use witness::Witness;

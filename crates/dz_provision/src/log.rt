@@ -9,7 +9,6 @@ use dz_fleet::{Due, Job};
 use dz_io::Sink;
 
 /// Writes lines, and keeps in mind that a write failed.
-#[tactic(auto, unfolding(crate::specs::inner::Writing::IsWritten))]
 pub(crate) fn log<K: Sink>(output: &mut K, failed: &mut bool, lines: &[u8]) -> Result<(), LogFault>
     ensures { IsWritten lines.now result
         (log_of (K.held output.old) (K.faults output.old) failed.old)

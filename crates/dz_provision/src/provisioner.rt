@@ -1,11 +1,12 @@
 //! The core, the publisher and the log.
 
-ghost use Rattle.std.specs.Prelude.{◌≡◌, [], length, None, true, false, IfOk, IfErr, IfSome, MatchBool};
+ghost use Rattle.std.specs.Prelude.{◌≡◌, ◌<◌, [], length, None, true, false, IfOk, IfErr, IfSome, MatchBool};
 ghost use Rattle.std.specs.Arc.{arc_value};
 ghost use Rattle.dz_io.specs.Counts.{HasRisen};
 ghost use Rattle.dz_settings.specs.Config.{IsAllowed};
 ghost use Rattle.dz_fleet.specs.Core.{opened_core};
 ghost use Rattle.dz_fleet.specs.Sound.{IsSound};
+ghost use Rattle.dz_history.specs.Legal.{IsLegal};
 ghost use Rattle.dz_history.specs.declared.entry.Entry.TheVariants.{Setup};
 ghost use Rattle.dz_desk.specs.Seen.{page};
 ghost use Rattle.dz_provision.specs.Log.{IsLogged};
@@ -46,7 +47,7 @@ pub struct Provisioner<K: Sink, J: Naming> {
 }
 
 impl<K: Sink, J: Naming> Model for Provisioner<K, J> {
-    ghost use Rattle.std.specs.Prelude.{◌≡◌, None, MatchBool};
+    ghost use Rattle.std.specs.Prelude.{◌≡◌, ◌<◌, None, MatchBool, length};
     ghost use Rattle.dz_io.specs.Counts.{HasRisen};
     ghost use Rattle.dz_provision.specs.Held.{Held};
     ghost use Rattle.dz_provision.specs.Log.{IsLogged};
@@ -64,7 +65,8 @@ impl<K: Sink, J: Naming> Model for Provisioner<K, J> {
         × (p.publisher.staged ≡ None)
         × (p.publisher.book ≡ J.publisher)
         × IsLogged p.fleet.list (K.held p.output) p.log_failed
-        × MatchBool p.log_failed (HasRisen 0 (K.faults p.output)) (K.faults p.output ≡ 0) };
+        × MatchBool p.log_failed (HasRisen 0 (K.faults p.output)) (K.faults p.output ≡ 0)
+        × (0 < length p.fleet.list) };
 }
 
 /// What a provisioner was made of, and whether a write to the output has failed.
@@ -169,9 +171,12 @@ impl<K: Sink, J: Naming> Provisioner<K, J> {
         self.log_failed
     }
 
-    /// A note of the list.
+    /// A note of the list, which can come about and has begun.
     pub fn tell(&self) -> Told
-        ensures { result ≡ page self.now.core.list J.publisher }
+        ensures told { result ≡ page self.now.core.list J.publisher }
+        ensures legal { IsLegal self.now.core.list }
+        ensures begun { 0 < length self.now.core.list }
+        ensures risen { self.now.failed ≡ true → HasRisen 0 self.now.faults }
     {
         self.publisher.tell()
     }

@@ -67,6 +67,7 @@ pub fn restore<K: Sink, J: Naming, D: Disk + Drop, R: Wait>(
         → (stop : Option ℕ) × (store.new.has_failed ≡ is_some stop)
         × (provisioner.new.core ≡ restored (told stop (records reads f)) provisioner.old.core) }
     ensures legal { IsLegal provisioner.new.core.list }
+    ensures begun { 0 < length provisioner.new.core.list }
     ensures log { result ≡ Restored.LogFault → HasRisen 0 provisioner.new.faults }
     ensures failed { store.new.has_failed ≡ true → (store.old.has_failed ≡ true)
         ⊎ HasRisen (D.faults store.old.disk) (D.faults store.new.disk) }
@@ -77,9 +78,6 @@ pub fn restore<K: Sink, J: Naming, D: Disk + Drop, R: Wait>(
     ensures same { reading.new ≡ record reading.old { list = reading.new.list } }
 {
     let ended = restore_all(rt, alloc, provisioner, store);
-    // what is known of a core is known of this one, and of a failed write where there was one
-    provisioner.count();
-    provisioner.has_failed();
     reading.learn(rt, provisioner.tell());
     ended
 }
@@ -255,11 +253,7 @@ impl<K: Sink, J: Naming> Provisioner<K, J> {
     {
         match self.hand_out(moment_of(&kept)) {
             Err(_) => Restored::LogFault,
-            Ok(Due::Job(job)) => {
-                // what is known of a core is known of this one
-                self.count();
-                self.end_with(rt, alloc, job, kept)
-            }
+            Ok(Due::Job(job)) => self.end_with(rt, alloc, job, kept),
             Ok(Due::OutOfMemory) => Restored::OutOfMemory,
             Ok(Due::Idle(_)) => Restored::Done,
             Ok(Due::Full(_)) => Restored::Done,

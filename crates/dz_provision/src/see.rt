@@ -3,12 +3,15 @@
 ghost use Rattle.std.specs.Prelude.{◌≡◌, ◌<◌, ◌^◌, false, true, length, Ok, Err, IsErr, IfOk, IfSome, OnOk, MatchResult};
 ghost use mathlib.Core.List.{IsPrefix};
 ghost use Rattle.dz_io.specs.Counts.{HasRisen};
-ghost use Rattle.dz_desk.specs.Hearing.{IsHeard};
+ghost use Rattle.dz_history.specs.Legal.{IsLegal};
+ghost use Rattle.dz_desk.specs.Hearing.{IsHeard, IsWitnessed};
 ghost use Rattle.dz_job.specs.Job.{transfer_for};
+ghost use Rattle.dz_fleet.specs.Sound.{IsSound};
 ghost use Rattle.dz_fleet.specs.Weighing.{is_taken};
 ghost use Rattle.dz_report.specs.Lines.{verdict_lines};
 ghost use Rattle.dz_provision.specs.Endings.{settled_ending, failed_ending, starved_ending};
 ghost use Rattle.dz_provision.specs.Held.{IsHandedOut, IsSettledAloud, IsFailedAloud, IsStarvedAloud, IsHeardAloud, IsSaid};
+ghost use Rattle.dz_provision.specs.Witness.{IsWitnessOf};
 ghost use Rattle.dz_provision.specs.inner.Ready.{is_want};
 ghost use Rattle.dz_provision.specs.Keeping.{IsLastVerdict};
 ghost use Rattle.dz_provision.specs.Receipts.{IsHandedAt, IsSettledAt, IsFailedAt};
@@ -17,6 +20,7 @@ use crate::ending::{Ended, failed, settled, starved};
 use crate::naming::Naming;
 use crate::provisioner::{LogFault, Provisioner, Unmade};
 use crate::starved::starved_line;
+use crate::witness::Witness;
 use dz_desk::{Hearing, Reading, Told};
 use dz_fleet::{Due, Failure, Job, Verdict};
 use dz_io::{Peer, Sink};
@@ -34,6 +38,8 @@ impl<K: Sink, J: Naming> Provisioner<K, J> {
         ensures same { reading.new ≡ record reading.old { list = reading.new.list } }
         ensures seen { IsPrefix reading.old.list reading.new.list }
         ensures whole { result ≡ true → reading.new.list ≡ self.now.core.list }
+        ensures sound { IsSound self.now.core }
+        ensures legal { IsLegal reading.new.list }
     {
         reading.learn(rt, self.tell());
         reading.count() == self.count()
@@ -46,7 +52,7 @@ impl<K: Sink, J: Naming> Provisioner<K, J> {
         peer: &Peer,
         zone: &Name,
         reading: &mut Reading,
-    ) -> Option<Hearing>
+    ) -> Option<Hearing<Witness>>
         requires out { reading.old.is_out ≡ false }
         requires own { reading.old.book ≡ J.publisher }
         ensures same { reading.new ≡ record reading.old { list = reading.new.list } }
@@ -54,32 +60,36 @@ impl<K: Sink, J: Naming> Provisioner<K, J> {
         ensures heard { IfSome result (λ hearing.
             IsHeard ((k : K) × HasRisen 0 (K.faults k)) reading.new.list peer.now zone.now
             hearing) }
+        ensures witnessed { IfSome result (IsWitnessed IsWitnessOf reading.new.list peer.now zone.now) }
         ensures made { IfSome result (λ hearing.
             IsHeardAloud self.old peer.now zone.now hearing self.new) }
     {
         if !self.is_seen(rt, reading) {
             return None;
         }
+        let before = Snapshot::of(&self.fleet);
         match self.hear(peer, zone) {
             Ok((heard, told)) => {
                 drop(told);
-                Some(Hearing::Heard(heard))
+                Some(Hearing::Heard(heard, Witness::of(before, &self.fleet)))
             }
-            Err(_) => Some(Hearing::LogFault),
+            Err(_) => {
+                drop(before);
+                Some(Hearing::LogFault)
+            }
         }
     }
 
     /// Asks for a job, and answers by the list.
     pub(crate) fn hand_out_now(&mut self, now: u64) -> Result<Due, LogFault>
+        requires sound { IsSound self.old.core }
         requires moment { now < 2 ^ 40 }
         ensures handed { IsHandedAt result self.old.core.list now }
         ensures made { IsHandedOut self.old now result self.new }
         ensures cause { IsErr result → (k : K) × HasRisen 0 (K.faults k) }
     {
-        // what is known of a core is known of this one, and of a failed write where there was one
-        self.count();
         let handed = self.hand_out(now);
-        self.has_failed();
+        let _ = &self.log_failed;
         handed
     }
 
@@ -97,10 +107,12 @@ impl<K: Sink, J: Naming> Provisioner<K, J> {
         requires out { reading.old.is_out ≡ false }
         requires own { reading.old.book ≡ J.publisher }
         requires list { reading.old.list ≡ self.old.core.list }
+        requires legal { IsLegal reading.old.list }
         requires transfer { finished.transfer ≡ transfer_for job }
         requires moment { now < 2 ^ 40 }
         ensures same { reading.new ≡ record reading.old { list = reading.new.list } }
         ensures seen { IsPrefix reading.old.list reading.new.list }
+        ensures legal { IsLegal reading.new.list }
         ensures settled { IsSettledAt result.answer job finished.octets
             (length reading.old.list) reading.new.list }
         ensures made { IfOk result.answer
@@ -130,10 +142,12 @@ impl<K: Sink, J: Naming> Provisioner<K, J> {
         requires out { reading.old.is_out ≡ false }
         requires own { reading.old.book ≡ J.publisher }
         requires list { reading.old.list ≡ self.old.core.list }
+        requires legal { IsLegal reading.old.list }
         requires transfer { finished.transfer ≡ transfer_for job }
         requires moment { now < 2 ^ 40 }
         ensures same { reading.new ≡ record reading.old { list = reading.new.list } }
         ensures seen { IsPrefix reading.old.list reading.new.list }
+        ensures legal { IsLegal reading.new.list }
         ensures settled { IsSettledAt result job finished.octets
             (length reading.old.list) reading.new.list }
         ensures made { IfOk result
@@ -142,12 +156,10 @@ impl<K: Sink, J: Naming> Provisioner<K, J> {
             → IsLastVerdict self.new.core.list v) }
         ensures cause { result ≡ Err Unmade.LogFault → (k : K) × HasRisen 0 (K.faults k) }
     {
-        // all octets of a transfer are used
-        finished.octets();
         let zone = *job.zone();
         match self.settle(rt, alloc, job, finished, now) {
             Err(unmade) => {
-                self.has_failed();
+                let _ = &self.log_failed;
                 Err(unmade)
             }
             Ok((verdict, told)) => {
@@ -170,12 +182,11 @@ impl<K: Sink, J: Naming> Provisioner<K, J> {
         ensures cause { result ≡ Err Unmade.LogFault → (k : K) × HasRisen 0 (K.faults k) }
     {
         let line = starved_line(zone);
-        match self.say(line.as_slice()) {
+        let said = self.say(line.as_slice());
+        let _ = &self.log_failed;
+        match said {
             Ok(()) => Ok(how),
-            Err(_) => {
-                self.has_failed();
-                Err(Unmade::LogFault)
-            }
+            Err(_) => Err(Unmade::LogFault),
         }
     }
 
@@ -200,11 +211,10 @@ impl<K: Sink, J: Naming> Provisioner<K, J> {
         ensures made { IfOk result (λ f. IsFailedAloud self.old job now f self.new) }
         ensures cause { result ≡ Err Unmade.LogFault → (k : K) × HasRisen 0 (K.faults k) }
     {
-        match self.fail(job, now) {
-            Err(unmade) => {
-                self.has_failed();
-                Err(unmade)
-            }
+        let failed = self.fail(job, now);
+        let _ = &self.log_failed;
+        match failed {
+            Err(unmade) => Err(unmade),
             Ok((failure, told)) => {
                 drop(told);
                 Ok(failure)
@@ -253,9 +263,11 @@ fn is_want(verdict: &Verdict) -> bool
 fn show_taken<R: Wait>(rt: &R, reading: &mut Reading, verdict: &Verdict, told: Told)
     requires out { reading.old.is_out ≡ false }
     requires own { told.book ≡ reading.old.book }
+    requires legal { IsLegal reading.old.list }
     ensures same { reading.new ≡ record reading.old { list = reading.new.list } }
     ensures seen { IsPrefix reading.old.list reading.new.list }
     ensures taken { is_taken verdict.now ≡ true → IsPrefix told.list reading.new.list }
+    ensures legal { IsLegal reading.new.list }
     ensures untaken { is_taken verdict.now ≡ false → reading.new ≡ reading.old }
 {
     match verdict {

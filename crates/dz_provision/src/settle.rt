@@ -1,10 +1,11 @@
 //! Jobs that end.
 
-ghost use Rattle.std.specs.Prelude.{◌≡◌, ◌<◌, ◌^◌, Some, true, false, option_map, IfOk};
+ghost use Rattle.std.specs.Prelude.{◌≡◌, ◌≢◌, ◌<◌, ◌^◌, Some, true, false, length, option_map, IfOk};
 ghost use Rattle.std.specs.Arc.{arc_value};
-ghost use Rattle.dz_job.specs.Job.{transfer_for};
+ghost use Rattle.dz_take.specs.Outcome.{octets_used};
+ghost use Rattle.dz_job.specs.Job.{IsJob, transfer_for};
 ghost use Rattle.dz_fleet.specs.Core.{entry_for};
-ghost use Rattle.dz_fleet.specs.Sound.{IsFlying};
+ghost use Rattle.dz_fleet.specs.Sound.{IsFlying, IsSound};
 ghost use Rattle.dz_fleet.specs.Weighing.{Fits, octets_in, is_taken};
 ghost use Rattle.dz_report.specs.Lines.{verdict_lines};
 ghost use Rattle.dz_provision.specs.Held.{IsSettled, IsFailed, Notes};
@@ -51,6 +52,9 @@ impl<K: Sink, J: Naming> Provisioner<K, J> {
         requires moment { now < 2 ^ 40 }
         ensures settled { IsSettled self.old job finished.octets now result self.new }
         ensures note { Notes J.publisher self.new.core.list result }
+        ensures sound { self.old.failed ≡ false → IsSound self.old.core }
+        ensures used { IfOk result (λ r. r.0 ≢ Verdict.OutOfMemory
+            → octets_used (transfer_for job) finished.octets ≡ length finished.octets) }
     {
         if self.log_failed {
             job.close();
@@ -78,6 +82,7 @@ impl<K: Sink, J: Naming> Provisioner<K, J> {
         requires moment { now < 2 ^ 40 }
         ensures failed { IsFailed self.old job now result self.new }
         ensures note { Notes J.publisher self.new.core.list result }
+        ensures sound { self.old.failed ≡ false → IsSound self.old.core }
     {
         if self.log_failed {
             job.close();
@@ -106,6 +111,8 @@ impl<K: Sink, J: Naming> Provisioner<K, J> {
         ready: Ready,
     ) -> Result<(Verdict, Told), Unmade>
         requires before { self.old.failed ≡ false }
+        requires sound { IsSound self.old.core }
+        requires valid { IsJob job }
         requires flying { IsFlying self.old.core job }
         requires ready { IsReady self.old.core job ready }
         requires step { ready.weighed.is_there ≡ is_taken ready.weighed.verdict }
@@ -149,6 +156,8 @@ impl<K: Sink, J: Naming> Provisioner<K, J> {
         step: Step,
     ) -> Result<(Verdict, Told), Unmade>
         requires before { self.old.failed ≡ false }
+        requires sound { IsSound self.old.core }
+        requires valid { IsJob job }
         requires flying { IsFlying self.old.core job }
         requires ready { IsReady self.old.core job ready }
         requires taken { is_taken ready.weighed.verdict ≡ true }
@@ -159,9 +168,6 @@ impl<K: Sink, J: Naming> Provisioner<K, J> {
             (octets_in ready.weighed.entry) ready.moment result self.new }
         ensures note { Notes J.publisher self.new.core.list result }
     {
-        // what is known of a core and of a job is known of these
-        self.fleet.count();
-        job.held();
         let Ready {
             weighed,
             lines,
@@ -202,10 +208,11 @@ fn weigh(
     ensures entry { IfOk result (λ r. r.weighed.entry ≡ entry_for job.now finished.octets) }
     ensures moment { IfOk result (λ r. r.moment ≡ now) }
     ensures step { IfOk result (λ r. r.weighed.is_there ≡ is_taken r.weighed.verdict) }
+    ensures valid { IfOk result (λ _. IsJob job.now) }
 {
     let weighed = fleet.weigh(alloc, job, finished, now)?;
     let mut lines = Vec::new(alloc);
-    verdict_lines(alloc, job.zone(), weighed.verdict(), &mut lines)?;
+    verdict_lines(alloc, &job.flight().zone, weighed.verdict(), &mut lines)?;
     Ok(Ready {
         weighed,
         lines,

@@ -1,11 +1,13 @@
 //! The lock.
 
 ghost use Rattle.dz_io.specs.Counts.{HasRisen};
+ghost use Rattle.dz_provision.specs.Witness.{IsWitnessOf};
 
 use crate::ending::Ended;
 use crate::jobs::Jobs;
 use crate::naming::Naming;
 use crate::provisioner::{LogFault, Provisioner};
+use crate::witness::Witness;
 use dz_desk::{Ear, Hearing, Reading};
 use dz_fleet::{Due, Failure, Job, Verdict};
 use dz_io::{Peer, Sink};
@@ -44,8 +46,18 @@ impl<K: Sink, J: Naming> Ear for Locked<Provisioner<K, J>> {
     // an output of this type can fail
     ghost may_fail = { (k : K) × HasRisen 0 (K.faults k) };
 
+    type Witness = Witness;
+
+    ghost witnesses = { IsWitnessOf };
+
     /// Hears it under the lock, once the reading has seen the list that is there and no longer one.
-    fn hear<R: Wait>(&self, rt: &R, peer: &Peer, zone: &Name, reading: &mut Reading) -> Hearing {
+    fn hear<R: Wait>(
+        &self,
+        rt: &R,
+        peer: &Peer,
+        zone: &Name,
+        reading: &mut Reading,
+    ) -> Hearing<Witness> {
         'locks: for _ in rt.forever() {
             if let Some(hearing) = self.lock.lock(rt).hear_seen(rt, peer, zone, reading) {
                 return hearing;

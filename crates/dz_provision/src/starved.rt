@@ -12,7 +12,6 @@ use dz_name::Name;
 pub(crate) const LINE: usize = 1100;
 
 /// `nomemory <zone>`.
-#[tactic(auto, unfolding(dz_report::specs::Lines::verdict_lines))]
 pub(crate) fn starved_line(zone: &Name) -> ArrayVec<u8, LINE>
     ensures { result.items ≡ verdict_lines zone.now Verdict.OutOfMemory }
 {

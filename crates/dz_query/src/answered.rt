@@ -51,10 +51,13 @@ pub(crate) fn answer_incoming<E: Ear, R: Wait>(
         Turn::Written(count) => Answered::Written(count),
         Turn::Notify(zone) => match ear.hear(rt, incoming.peer, &zone, reading) {
             Hearing::LogFault => Answered::Unheard,
-            Hearing::Heard(heard) => match notify_reply_to(incoming.octets, heard, writer) {
-                None => Answered::Silent,
-                Some(count) => Answered::Written(count),
-            },
+            Hearing::Heard(heard, witness) => {
+                drop(witness);
+                match notify_reply_to(incoming.octets, heard, writer) {
+                    None => Answered::Silent,
+                    Some(count) => Answered::Written(count),
+                }
+            }
         },
     }
 }

@@ -24,7 +24,6 @@ pub enum Field {
 }
 
 /// The fields that make up the RDATA of a type, in order. A type without a row has one remainder.
-#[tactic(auto, unfolding(crate::specs::Fields::fields_of))]
 pub fn fields_of(kind: u16) -> &'static [Field]
     ensures { result.now ≡ fields_of kind }
 {
@@ -58,7 +57,6 @@ pub fn fields_of(kind: u16) -> &'static [Field]
 }
 
 /// The offset after the field that begins at an offset, if it is complete.
-#[tactic(auto, unfolding(crate::specs::Fields::field_end))]
 fn field_end(field: Field, rdata: &[u8], at: usize) -> Option<usize>
     requires { at ≤ length rdata.now }
     ensures value { result ≡ field_end field rdata.now at }

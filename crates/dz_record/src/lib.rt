@@ -6,4 +6,4 @@ mod order;
 mod rr;
 
 pub use fields::{Field, fields_of, is_rdata};
-pub use rr::{Rr, RrError, RrFault, Soa, is_bad_type, look_at_all};
+pub use rr::{Rr, RrError, RrFault, Soa, is_bad_type};

@@ -1,6 +1,6 @@
 //! Resource records.
 
-ghost use Rattle.std.specs.Prelude.{◌≡◌, ◌<◌, ◌≤◌, ◌⊎◌, length, ◌++◌, IsTrue, IfOk, OnOk, OnErr, IfErr, Ok, Err, true, false, is_ok, if◌then◌else◌, All};
+ghost use Rattle.std.specs.Prelude.{◌≡◌, ◌<◌, ◌≤◌, ◌⊎◌, length, ◌++◌, IsTrue, IfOk, OnOk, OnErr, IfErr, Ok, Err, true, false, is_ok, if◌then◌else◌};
 ghost use Rattle.dz_record.specs.inner.Kept.{octets_of};
 ghost use Rattle.dz_name.specs.Name.{wire_of, is_within, same_name, canonical_order};
 ghost use Rattle.std.specs.Ordering.{nat_cmp};
@@ -194,7 +194,8 @@ impl Rr {
 
     /// The number of the type.
     pub fn kind(&self) -> u16
-        ensures { result ≡ self.now.kind }
+        ensures kind { result ≡ self.now.kind }
+        ensures valid { IsRecord self.now }
     {
         self.kind
     }
@@ -226,13 +227,6 @@ impl Rr {
         ensures { result.now ≡ two (length self.now.rdata) ++ self.now.rdata }
     {
         self.octets().split_at(self.owner_size() + 8).1
-    }
-
-    /// States for proofs what holds of every record. It does nothing.
-    pub fn look(&self)
-        ensures { IsRecord self.now }
-    {
-        let _kind = &self.kind;
     }
 
     /// Whether owner, type and RDATA agree (RFC 2181 section 5).
@@ -276,13 +270,20 @@ impl Rr {
     pub fn target(&self) -> Option<Name>
         ensures { result ≡ target_of self.now }
     {
+        match self.target_ref() {
+            None => None,
+            Some(name) => Some(name.to_name()),
+        }
+    }
+
+    /// The same name as the RDATA holds it, without a copy.
+    pub fn target_ref(&self) -> Option<NameRef<'_>>
+        ensures { result ≡ target_of self.now }
+    {
         if !has_target(self.kind()) {
             return None;
         }
-        match Name::read_at(self.rdata(), 0) {
-            Ok((name, _)) => Some(name),
-            Err(_) => unreachable!(),
-        }
+        Some(NameRef::of_wire(self.rdata()))
     }
 
     /// Appends the record without pointers (RFC 1035 section 4.1.3), or nothing and `AllocError` where memory runs out.
@@ -292,15 +293,6 @@ impl Rr {
         ensures valid { IsRecord self.now }
     {
         out.extend_from_slice(self.octets())
-    }
-}
-
-/// States for proofs what holds of every record, for all of some. It does nothing.
-pub fn look_at_all(records: &[Rr])
-    ensures { All IsRecord records.now }
-{
-    'records: for record in records {
-        record.look();
     }
 }
 

@@ -6,7 +6,6 @@ use Rattle.std.specs.Ordering.{is_gt}
 use Rattle.std.proofs.lemmas.Bool.{cases_Bool}
 use Rattle.dz_name.specs.Name.{IsName, same_name, is_within, labels_in, wire_of, fitting}
 use Rattle.dz_name.specs.Order.{same_decides}
-use Rattle.dz_name.proofs.ReadingLemmas.{name_at_name}
 use Rattle.dz_name.proofs.FrontLemmas.{joined_name}
 use Rattle.dz_name.proofs.KeptLemmas.{root_is_name}
 use Rattle.dz_name.proofs.CanonicalLemmas.{canonical_end_wire}
@@ -17,7 +16,7 @@ use Rattle.std.proofs.lemmas.List.{append-nil}
 use Rattle.std.specs.Option.{option_map_or}
 use Rattle.dz_record.specs.Record.{Record, has_target, target_of, record_order, same_record, IsRecord}
 use Rattle.dz_record.specs.Records.{insertion, in_order}
-use Rattle.dz_record.proofs.FieldLemmas.{target_read}
+use Rattle.dz_record.proofs.FieldLemmas.{target_wire}
 use Rattle.dz_zone.specs.Valid.{at_apex}
 use Rattle.dz_zone.specs.Version.{Zone, apex_soa}
 use Rattle.dz_lookup.specs.Found.{Found, here, alias, no_data, no_name, referral, rename, here_or, at_source, renaming, barrier, behind_barrier, source, cut_for, dname, found}
@@ -158,8 +157,7 @@ target_name r name held h = elim (cases_Bool (has_target r.kind)) [
   | inl t ↦
       let q : ◌≡◌ {A = Option (List (List ℕ))} (Some (labels_in (length r.rdata) r.rdata)) (Some name) = rw t at h in
       let e : labels_in (length r.rdata) r.rdata ≡ name = cc in
-      let read = target_read r held t in
-      subst (λ n. IsName n) e (name_at_name r.rdata 0 (length r.rdata) (labels_in (length r.rdata) r.rdata) read)
+      subst (λ n. IsName n) e (target_wire r held t).name
   | inr f ↦ let q = rw f at h in absurd (cc)
 ]
 

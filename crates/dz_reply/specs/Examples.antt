@@ -149,7 +149,7 @@ served =
 -- the reply at a moment, and under this one name all that computes it: whoever unfolds `computed` unfolds its whole
 -- list
 computed : Octets → ℕ → Bool → Reply
-unfolding reply_of reply_for sections_for closest_for request with_header asked_for asked_in question_in question_at name_at name_from element_at wire_of labels_in opt_in add_shape edns_of header_in behind_records shape_of behind_owner behind_head head_in number_of_two number_of_four two four closest first_held upward sections_of of_chain of_ending at_end step_entries entries_behind trail_entries own_entries soa_entries addresses_of glue_of glue entries entry chain_of chain_from found topmost in_order insertion owner_octets entry_octets entries_octets opt_octets head_octets header_octets flags_number curt_octets whole_octets cut_octets octets_of within_limit
+unfolding reply_of reply_for sections_for closest_for request with_header asked_for asked_in question_in question_at name_at name_from element_at wire_of labels_in opt_in add_shape header_in behind_records shape_of behind_owner behind_head head_in number_of_two number_of_four two four closest first_held upward sections_of of_chain of_ending at_end step_entries entries_behind trail_entries own_entries soa_entries addresses_of glue_of glue entries entry chain_of chain_from found topmost in_order insertion owner_octets entry_octets entries_octets opt_octets head_octets header_octets flags_number curt_octets whole_octets cut_octets octets_of within_limit
 computed octets moment transport = reply_of served octets moment transport
 
 -- the transport UDP, as a script names it
@@ -332,7 +332,7 @@ renaming =
     ∷ []
 
 computed_there : Octets → ℕ → Bool → Reply
-unfolding reply_of reply_for sections_for closest_for request with_header asked_for asked_in question_in question_at name_at name_from element_at wire_of labels_in opt_in add_shape edns_of header_in behind_records shape_of behind_owner behind_head head_in number_of_two number_of_four two four closest first_held upward sections_of of_chain of_ending at_end step_entries entries_behind trail_entries own_entries soa_entries addresses_of glue_of glue entries entry chain_of chain_from found topmost in_order insertion owner_octets entry_octets entries_octets opt_octets head_octets header_octets flags_number curt_octets whole_octets cut_octets octets_of within_limit
+unfolding reply_of reply_for sections_for closest_for request with_header asked_for asked_in question_in question_at name_at name_from element_at wire_of labels_in opt_in add_shape header_in behind_records shape_of behind_owner behind_head head_in number_of_two number_of_four two four closest first_held upward sections_of of_chain of_ending at_end step_entries entries_behind trail_entries own_entries soa_entries addresses_of glue_of glue entries entry chain_of chain_from found topmost in_order insertion owner_octets entry_octets entries_octets opt_octets head_octets header_octets flags_number curt_octets whole_octets cut_octets octets_of within_limit
 computed_there octets moment transport = reply_of renaming octets moment transport
 
 -- the DNAME, the CNAME that is made of it, and the records of the name that it leads to (RFC 6672 section 3.2)

@@ -70,7 +70,6 @@ fn shows_dnssec(frame: &Frame<'_>, version: &Version) -> bool
     if !asks_for_dnssec(frame) {
         return false;
     }
-    version.records();
     version.is_secure()
 }
 
@@ -85,7 +84,6 @@ fn asks_for_dnssec(frame: &Frame<'_>) -> bool
 }
 
 /// The reply of a chain by what is found for its last name.
-#[tactic(auto, unfolding(crate::specs::Answer::at_end))]
 fn reply_end(
     answer: &Answer<'_>,
     chain: &Chain<'_>,

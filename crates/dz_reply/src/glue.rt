@@ -11,7 +11,7 @@ use crate::layout::put_own;
 use arrayvec::ArrayVec;
 use dz_header::Writer;
 use dz_lookup::{Addresses, Chain, addresses_of};
-use dz_name::Name;
+use dz_name::{Name, NameRef};
 use dz_record::Rr;
 use dz_zone::Version;
 use std::marker::Model;
@@ -118,14 +118,14 @@ fn server_addresses<'a>(version: &'a Version, server: &Rr) -> Addresses<'a>
 }
 
 /// The name server that an NS record names, where it is within the zone.
-fn address_owner(version: &Version, server: &Rr) -> Option<Name>
+fn address_owner<'a>(version: &Version, server: &'a Rr) -> Option<NameRef<'a>>
     ensures { result ≡ inner_target version.now server.now }
 {
-    let name = match server.target() {
+    let name = match server.target_ref() {
         None => return None,
         Some(name) => name,
     };
-    if name.as_ref().is_within(&version.apex()) {
+    if name.is_within(&version.apex()) {
         Some(name)
     } else {
         None

@@ -53,7 +53,6 @@ pub fn reply_into(
 }
 
 /// The same over the writer of a reply alone, so that the request may be in the other half of the buffer.
-#[tactic(auto, unfolding(crate::specs::Reply::reply_of))]
 pub fn reply_to(
     table: &Table,
     octets: &[u8],
@@ -88,7 +87,6 @@ struct Exchange<'a> {
 }
 
 /// The reply to a request as it was read.
-#[tactic(auto, unfolding(crate::specs::Reply::reply_for))]
 fn reply_request(exchange: &Exchange<'_>, request: &Request, writer: &mut Writer) -> Turn
     requires { FitsIn exchange.now.octets.now request.now }
     ensures reply { IsReply result writer.new.writing

@@ -95,7 +95,6 @@ pub fn secure_too_long(answer: &Answer<'_>, chain: &Chain<'_>, renamer: &Rr, wri
 }
 
 /// The reply of a chain by what is found for its last name.
-#[tactic(auto, unfolding(crate::specs::Answer::at_end, crate::specs::Secure::secure_of_ending))]
 pub fn secure_end<'a>(
     answer: &Answer<'a>,
     chain: &Chain<'_>,
@@ -226,7 +225,7 @@ fn secure_soa(
     let signed = signatures(version, &version.apex(), TYPE_SOA, APEX);
     let heading = Heading {
         answer: count_secure_trail(&signing, chain),
-        authority: (count_signed_soa(version, signed) + authority.count()) % COUNTS,
+        authority: (count_signed_soa(signed) + authority.count()) % COUNTS,
         ..Heading::bare(code, true, false)
     };
     answer.frame.begin(writer, &heading);
@@ -316,27 +315,18 @@ fn put_answer_set(writer: &mut Writer, question: &Name, name: &Name, records: &[
 /// Writes the SOA of a negative answer and its RRSIG records.
 fn put_signed_soa(writer: &mut Writer, question: &Name, version: &Version, signed: &[Rr])
     requires { signed.now ≡ signatures version.now.records version.now.apex TYPE_SOA }
-    ensures { writer.new.writing
+    ensures written { writer.new.writing
         ≡ also writer.old.writing (entries_octets question.now (signed_soa version.now)) }
+    ensures one { length (soa_entries version.now) ≡ 1 }
 {
     put_soa(writer, question, version);
     put_own(writer, question, signed);
 }
 
-/// How many records the signed SOA is, modulo 65,536.
-fn count_signed_soa(version: &Version, signed: &[Rr]) -> usize
-    requires { signed.now ≡ signatures version.now.records version.now.apex TYPE_SOA }
-    ensures value { result ≡ length (signed_soa version.now) % COUNTS }
+/// How many records one SOA and its RRSIG records are, modulo 65,536.
+fn count_signed_soa(signed: &[Rr]) -> usize
+    ensures value { result ≡ (1 + length signed.now % COUNTS) % COUNTS }
     ensures small { result < COUNTS }
 {
-    (count_soa(version) + signed.len() % COUNTS) % COUNTS
-}
-
-/// How many SOA records a version has at its apex: one.
-fn count_soa(version: &Version) -> usize
-    ensures value { result ≡ length (soa_entries version.now) }
-    ensures one { result ≡ 1 }
-{
-    let _ = version.apex_soa();
-    1
+    (1 + signed.len() % COUNTS) % COUNTS
 }

@@ -40,7 +40,6 @@ pub fn verdict_lines(
 }
 
 /// The lines of a verdict. `AllocError` where memory runs out.
-#[tactic(auto, unfolding(crate::specs::Lines::verdict_lines))]
 fn verdict_text(alloc: Global, zone: &Name, verdict: &Verdict) -> Result<Vec<u8>, AllocError>
     ensures { IfOk result (λ text. text.items ≡ verdict_lines zone.now verdict.now) }
 {
@@ -129,7 +128,6 @@ fn put(text: &mut Vec<u8>, word: &[u8]) -> Result<(), AllocError>
 }
 
 /// The lines of what a new version changes beyond its own zone. `AllocError` where memory runs out.
-#[tactic(auto, unfolding(crate::specs::Lines::aftermath_lines))]
 fn aftermath_lines(alloc: Global, zone: &Name, aftermath: &Aftermath) -> Result<Vec<u8>, AllocError>
     ensures { IfOk result (λ text. text.items ≡ aftermath_lines zone.now aftermath.now) }
 {

@@ -82,7 +82,7 @@ kind_of octets = word_of (request octets)
 
 -- all that computes it: whoever unfolds `read` unfolds its whole list
 read : Octets → Request
-unfolding request with_header asked_for asked_in question_in question_at name_at name_from element_at wire_of opt_in add_shape edns_of behind_records shape_of behind_owner behind_head head_in header_in number_of_two number_of_four
+unfolding request with_header asked_for asked_in question_in question_at name_at name_from element_at wire_of opt_in add_shape behind_records shape_of behind_owner behind_head head_in header_in number_of_two number_of_four
 read octets = request octets
 
 -- ---- what can't be read is a format error

@@ -44,7 +44,6 @@ pub enum Request {
 }
 
 /// Reads a request: what kind of reply it gets, judged in the order that the definition gives.
-#[tactic(auto, unfolding(crate::specs::Request::request))]
 pub fn read_request(octets: &[u8]) -> Request
     ensures reads { result ≡ request octets.now }
     ensures fits { FitsIn octets.now result }
@@ -56,7 +55,6 @@ pub fn read_request(octets: &[u8]) -> Request
 }
 
 /// Reads what follows the header of at least twelve octets.
-#[tactic(auto, unfolding(crate::specs::Request::with_header))]
 fn read_body(octets: &[u8], header: Header) -> Request
     requires { HEADER_OCTETS ≤ length octets.now }
     ensures reads { result ≡ with_header octets.now header (question_in octets.now) }
@@ -76,7 +74,6 @@ fn read_body(octets: &[u8], header: Header) -> Request
 }
 
 /// What a request that can be read asks for.
-#[tactic(auto, unfolding(crate::specs::Request::asked_for))]
 fn asked_for(opcode: u16, asked: Asked) -> Request
     ensures is { result ≡ asked_for opcode asked }
     ensures fits { (octets : Octets) → IsWhole octets asked.size → FitsIn octets result }
@@ -133,7 +130,6 @@ fn read_asked(octets: &[u8], header: Header) -> Option<Asked>
 }
 
 /// The question and the OPT record, where the header counts one question; none where they can't be read.
-#[tactic(auto, unfolding(crate::specs::Request::asked_in))]
 fn read_sections(octets: &[u8], header: Header) -> Option<Asked>
     requires { HEADER_OCTETS ≤ length octets.now }
     ensures reads { result ≡ asked_in octets.now header (question_in octets.now) }
@@ -156,7 +152,6 @@ fn read_sections(octets: &[u8], header: Header) -> Option<Asked>
 
 /// The question after the header, whose name has no pointer, and the offset after it; none where there is no such
 /// question.
-#[tactic(auto, unfolding(crate::specs::Request::question_in))]
 fn read_question_in(octets: &[u8]) -> Option<(Question, usize)>
     ensures reads { result ≡ question_in octets.now }
     ensures begin { IfSome result (λ found. HEADER_OCTETS ≤ found.1) }
@@ -193,7 +188,6 @@ fn read_opt(octets: &[u8], count: u16) -> Option<Option<Edns>>
 
 /// Adds what one more record says. None for a second OPT record, or one whose owner name isn't the root (RFC 6891
 /// sections 6.1.1 and 6.1.2).
-#[tactic(auto, unfolding(crate::specs::Request::add_shape))]
 fn add_shape(shape: Shape, found: Option<Edns>) -> Option<Option<Edns>>
     ensures { result ≡ add_shape shape found }
 {

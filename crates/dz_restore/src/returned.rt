@@ -43,7 +43,6 @@ pub fn zone_at(fleet: &Fleet, place: usize) -> Option<Name>
 }
 
 /// Whether a kept version may be given back by a job.
-#[tactic(auto, unfolding(crate::specs::Restoring::may_return))]
 pub fn may_return(fleet: &Fleet, job: &Job, kept: &Kept) -> bool
     ensures { result ≡ may_return (state_of fleet.now) job.now (meaning_of kept.now) }
 {
@@ -51,7 +50,6 @@ pub fn may_return(fleet: &Fleet, job: &Job, kept: &Kept) -> bool
 }
 
 /// Whether a zone was kept where it belongs.
-#[tactic(auto, unfolding(crate::specs::Restoring::home_at))]
 fn is_home(fleet: &Fleet, zone: &Name, kept: &Kept) -> bool
     ensures { result ≡ option_map_or (is_home (meaning_of kept.now))
         (home_at (state_of fleet.now) zone.now) false }
@@ -94,7 +92,6 @@ pub fn finished_of(alloc: Global, job: &Job, kept: &Kept) -> Result<Finished, Al
 }
 
 /// The stream of a version as it is sent with an ID. `AllocError` where memory runs out.
-#[tactic(auto, unfolding(crate::specs::Restoring::sent_with))]
 fn stream_of(alloc: Global, version: &Arc<Version>, id: u16) -> Result<Vec<u8>, AllocError>
     requires { is_fit version.now.value ≡ true }
     ensures { IfOk result (λ octets. octets.items ≡ sent_with id version.now.value) }

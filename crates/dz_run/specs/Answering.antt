@@ -74,12 +74,12 @@ request_turn slots number None = ends (bad number) (Some slots) BadInput
 request_turn slots number (Some octets) = goes_on (reply_text (reply_of slots octets 0 false)) (Some slots)
 
 -- a line that isn't skipped: the zone's, or a request
-unfoldable pub line_turn : State → ℕ → Octets → Turn State End
+abbrev pub line_turn : State → ℕ → Octets → Turn State End
 line_turn None number line = zone_turn number (zone_line line)
 line_turn (Some slots) number line = request_turn slots number (octets_in line)
 
 -- what a line does; before the zone is taken there is no table
-unfoldable pub answer_turn : State → ℕ → Octets → Turn State End
+abbrev pub answer_turn : State → ℕ → Octets → Turn State End
 answer_turn state number line = if is_skipped line then goes_on [] state else line_turn state number line
 
 -- a line past the limit is bad
@@ -87,7 +87,7 @@ abbrev pub answer_too_long : State → ℕ → Said State End
 answer_too_long state number = record { text = bad number; state = state; ending = BadInput }
 
 -- the first line must be there
-unfoldable pub answer_finish : State → ℕ → Said State End
+abbrev pub answer_finish : State → ℕ → Said State End
 answer_finish None number = record { text = bad number; state = None; ending = BadInput }
 answer_finish (Some slots) number = record { text = []; state = Some slots; ending = Done }
 

@@ -144,7 +144,7 @@ ask_turn c moment transport peer request None = query_turn c moment transport re
 ask_turn c moment transport peer request (Some zone) = notify_turn c peer request zone
 
 -- an event, by its kind
-unfoldable pub event_turn : Core → ℕ → ℕ → Event → Turn State End
+abbrev pub event_turn : Core → ℕ → ℕ → Event → Turn State End
 event_turn c number moment Job = job_turn c moment
 event_turn c number moment (Take ticket octets) = take_turn c number moment octets (job_in c.flight ticket)
 event_turn c number moment (Fail ticket) = fail_turn c number moment (job_in c.flight ticket)
@@ -168,7 +168,7 @@ group_line (opening config) number name group = add_group config number name gro
 group_line (running c) number name group = bad_line (running c) number
 
 -- a line, by its kind; one without a form is bad
-unfoldable pub line_turn : State → ℕ → Option Line → Turn State End
+abbrev pub line_turn : State → ℕ → Option Line → Turn State End
 line_turn state number None = bad_line state number
 line_turn state number (Some lines.Skip) = goes_on [] state
 line_turn state number (Some (lines.Catalog settings)) = catalog_line state number settings
@@ -176,7 +176,7 @@ line_turn state number (Some (lines.Group name group)) = group_line state number
 line_turn state number (Some (lines.Event moment event)) = event_line state number moment event
 
 -- a line by its octets
-unfoldable pub replay_turn : State → ℕ → Octets → Turn State End
+abbrev pub replay_turn : State → ℕ → Octets → Turn State End
 replay_turn state number line = line_turn state number (line_of line)
 
 -- a line past the limit is bad

@@ -23,5 +23,5 @@ two_fields None = None
 two_fields (Some fields) = with_name (name_of_text fields.0) fields.1
 
 -- `zone <name> <hex>`: the name of the apex, and the octets of the message; none of any other line
-unfoldable pub zone_line : Octets → Option (Name × Octets)
+abbrev pub zone_line : Octets → Option (Name × Octets)
 zone_line line = if starts_with nat_eq line (codes "zone ") then two_fields (cut 32 (drop 5 line)) else None

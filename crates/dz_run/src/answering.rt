@@ -76,7 +76,6 @@ impl Answering {
     }
 
     /// Takes a line: what it says, and how it ends the input if it does.
-    #[tactic(auto, unfolding(crate::specs::Answering::answer_turn))]
     pub fn take_line(
         &mut self,
         alloc: Global,
@@ -96,7 +95,6 @@ impl Answering {
     }
 
     /// Takes a line that isn't skipped: the zone's, or a request.
-    #[tactic(auto, unfolding(crate::specs::Answering::line_turn))]
     fn take_content(
         &mut self,
         alloc: Global,
@@ -245,7 +243,6 @@ fn make_table(
 }
 
 /// The table of one slot.
-#[tactic(auto, unfolding(dz_table::specs::Table::put))]
 fn table_of(alloc: Global, slot: Slot) -> Result<Table, AllocError>
     ensures { IfOk result (λ table. table ≡ slot ∷ []) }
 {

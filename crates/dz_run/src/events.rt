@@ -154,7 +154,6 @@ impl<K: Sink, J: Naming> Running<K, J> {
     }
 
     /// Takes an event at a moment, in seconds below 2^40.
-    #[tactic(auto, unfolding(crate::specs::Replaying::event_turn))]
     pub fn take_event<R: Wait>(
         &mut self,
         rt: &R,
@@ -240,7 +239,6 @@ impl<K: Sink, J: Naming> Running<K, J> {
             Some(place) => match take_stream(alloc, &self.jobs[place], octets) {
                 Err(_) => Err(TurnError::OutOfMemory),
                 Ok(finished) => {
-                    self.provisioner.count();
                     let job = self.jobs.remove(place);
                     by_settling(self.provisioner.settle(rt, alloc, job, finished, moment))
                 }
@@ -259,7 +257,6 @@ impl<K: Sink, J: Naming> Running<K, J> {
         match place_of(self.jobs.as_slice(), ticket) {
             None => Ok(Took::Bad),
             Some(place) => {
-                self.provisioner.count();
                 let job = self.jobs.remove(place);
                 by_failing(self.provisioner.fail(job, moment))
             }

@@ -107,7 +107,6 @@ impl<'a, R: Wait, K: Sink, J: Naming> Replaying<'a, R, K, J> {
     }
 
     /// Takes a line.
-    #[tactic(auto, unfolding(crate::specs::Replaying::replay_turn, crate::specs::Replaying::line_turn))]
     fn take_line(
         &mut self,
         alloc: Global,
@@ -127,7 +126,6 @@ impl<'a, R: Wait, K: Sink, J: Naming> Replaying<'a, R, K, J> {
     }
 
     /// Takes a line that has one of the forms.
-    #[tactic(auto, unfolding(crate::specs::Replaying::line_turn))]
     fn take_read(
         &mut self,
         alloc: Global,

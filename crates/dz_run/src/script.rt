@@ -93,7 +93,6 @@ impl<'a, K: Sink> Script for AnswerScript<'a, K> {
     }
 
     /// Ends the input; the zone's line must have come.
-    #[tactic(auto, unfolding(crate::specs::Answering::answer_finish))]
     fn finish(&mut self, alloc: Global, number: u64) -> Result<End, TurnError> {
         if self.answering.has_table() {
             Ok(End::Done)

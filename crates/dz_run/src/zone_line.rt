@@ -10,7 +10,6 @@ use dz_settings::cut;
 use std::alloc::{AllocError, Global};
 
 /// The name of the apex and the octets of the message in `zone <name> <hex>`; none where the line is of another form.
-#[tactic(auto, unfolding(crate::specs::ZoneLine::zone_line))]
 pub fn read_zone_line(alloc: Global, line: &[u8]) -> Result<Option<(Name, Vec<u8>)>, AllocError>
     ensures fields { IfOk result (λ r. option_map (λ x. (x.0, x.1.items)) r ≡ zone_line line.now) }
     ensures short { IfOk result (λ r. IfSome r (λ x. length x.1.items ≤ MESSAGE_OCTETS)) }

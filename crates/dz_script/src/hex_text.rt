@@ -10,7 +10,6 @@ use hex::FromHexError;
 use std::alloc::{AllocError, Global};
 
 /// The octets of a message in hex, at least one and no more than a message has; none where the text is of another form.
-#[tactic(auto, unfolding(crate::specs::Hex::octets_in))]
 pub fn read_octets(alloc: Global, text: &[u8]) -> Result<Option<Vec<u8>>, AllocError>
     ensures octets { IfOk result (λ r. option_map (λ x. x.items) r ≡ octets_in text.now) }
     ensures short { IfOk result (λ r. IfSome r (λ x. length x.items ≤ MESSAGE_OCTETS)) }
@@ -35,7 +34,6 @@ fn within_limit(octets: Vec<u8>) -> Option<Vec<u8>>
 }
 
 /// The octets that a job got, in hex, or `-` for none.
-#[tactic(auto, unfolding(crate::specs::Hex::taken_octets))]
 pub(crate) fn read_taken(alloc: Global, text: &[u8]) -> Result<Option<Vec<u8>>, AllocError>
     ensures { IfOk result (λ r. option_map (λ x. x.items) r ≡ taken_octets text.now) }
 {

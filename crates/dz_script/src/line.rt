@@ -62,7 +62,6 @@ pub enum LineError {
 }
 
 /// Reads a line of a script, which comes without its newline.
-#[tactic(auto, unfolding(crate::specs::Line::line_of))]
 pub fn read_line(alloc: Global, line: &[u8]) -> Result<Line, LineError>
     ensures { Reads line.now result }
 {

@@ -35,7 +35,6 @@ pub fn covering<'a, L: Ledger>(
     ensures cost { TakesSearches 2 (length version.now.records) (steps.new - steps.old) }
     ensures counted { steps.old ≤ steps.new }
 {
-    version.records();
     if !version.is_secure() {
         return &[];
     }
@@ -82,7 +81,6 @@ impl<'a> Evidence<'a> {
 /// NSEC RRsets for a type or a name that isn't there, and at a cut its DS or the NSEC that proves that it has none (RFC
 /// 4035 sections 3.1.3 and 3.1.4). Each owner is first looked for near a number in the index, and searched where it
 /// isn't there, five times at most; any number gives the same RRsets. A zone without records of DNSSEC isn't searched.
-#[tactic(auto, unfolding(crate::specs::Secure::proof))]
 pub fn proof<'a, L: Ledger>(
     version: &'a Version,
     name: &Name,
@@ -100,7 +98,6 @@ pub fn proof<'a, L: Ledger>(
     ensures cost { TakesSearches 5 (length version.now.records) (steps.new - steps.old) }
     ensures counted { steps.old ≤ steps.new }
 {
-    version.records();
     if !version.is_secure() {
         return Evidence::of_one(&[]);
     }

@@ -31,7 +31,6 @@ pub fn signatures<'a, L: Ledger>(
     ensures cost { TakesSearches 1 (length version.now.records) (steps.new - steps.old) }
     ensures counted { steps.old ≤ steps.new }
 {
-    version.records();
     if !version.is_secure() {
         return &[];
     }

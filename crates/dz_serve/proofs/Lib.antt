@@ -1,5 +1,5 @@
+pub mod ConfigLemmas
 pub mod CrossLemmas
 pub mod EndLemmas
 pub mod RowLemmas
 pub mod RunLemmas
-pub mod SettingLemmas

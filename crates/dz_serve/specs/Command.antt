@@ -17,9 +17,9 @@ use Rattle.dz_serve.specs.Rows.{Rows, AreUnused}
 use Rattle.dz_serve.specs.Runs.{HasRun, IsListOf}
 use Rattle.dz_serve.specs.declared.status.ServeEnd.{ServeEnd}
 use Rattle.dz_serve.specs.declared.status.ServeEnd.TheVariants as ends
-use Rattle.dz_serve.specs.declared.served.Setting.{Setting}
-use Rattle.dz_serve.specs.declared.command.Unset.{Unset}
-use Rattle.dz_serve.specs.declared.command.Unset.TheVariants as unset
+use Rattle.dz_serve.specs.declared.served.ServerConfig.{ServerConfig}
+use Rattle.dz_serve.specs.declared.command.Unconfigured.{Unconfigured}
+use Rattle.dz_serve.specs.declared.command.Unconfigured.TheVariants as unconfigured
 
 -- a text was read to the source's end, or as much of it as is longer than any configuration
 pub record IsText (text : Octets) (before after : Option Octets) : Type 0 where
@@ -28,18 +28,18 @@ pub record IsText (text : Octets) (before after : Option Octets) : Type 0 where
 
 -- what was read from a text: its configuration and the addresses to which zones are sent, or its fault; where memory
 -- runs out, nothing is told
-abbrev pub IsSetting : Octets → Result Setting ConfigError → Type 0
-IsSetting octets (Ok setting) = Reads octets (Ok (setting.listen, setting.config)) × ReadsDownstream octets (Ok setting.downstream)
-IsSetting octets (Err (Fault fault)) = Reads octets (Err (Fault fault))
-IsSetting octets (Err OutOfMemory) = ⊤
+abbrev pub IsServerConfig : Octets → Result ServerConfig ConfigError → Type 0
+IsServerConfig octets (Ok server) = Reads octets (Ok (server.listen, server.config)) × ReadsDownstream octets (Ok server.downstream)
+IsServerConfig octets (Err (Fault fault)) = Reads octets (Err (Fault fault))
+IsServerConfig octets (Err OutOfMemory) = ⊤
 
 -- what was read from an input with these octets: its configuration and the addresses to which zones are sent, or its
 -- fault; where the source fails or memory runs out, nothing is told
-abbrev pub IsSettingOf : Octets → Result Setting Unset → Type 0
-IsSettingOf octets (Ok setting) = Reads octets (Ok (setting.listen, setting.config)) × ReadsDownstream octets (Ok setting.downstream)
-IsSettingOf octets (Err (unset.Bad fault)) = Reads octets (Err (Fault fault))
-IsSettingOf octets (Err unset.Read) = ⊤
-IsSettingOf octets (Err unset.OutOfMemory) = ⊤
+abbrev pub IsServerConfigOf : Octets → Result ServerConfig Unconfigured → Type 0
+IsServerConfigOf octets (Ok server) = Reads octets (Ok (server.listen, server.config)) × ReadsDownstream octets (Ok server.downstream)
+IsServerConfigOf octets (Err (unconfigured.Bad fault)) = Reads octets (Err (Fault fault))
+IsServerConfigOf octets (Err unconfigured.Read) = ⊤
+IsServerConfigOf octets (Err unconfigured.OutOfMemory) = ⊤
 
 -- the line that is said of a fault
 abbrev pub bad_config : ConfigFault → Octets

@@ -50,8 +50,6 @@ pub(crate) fn begin<'d, K: Sink, J: Naming, D: Disk + Drop, R: Wait>(
     ensures legal { IsLegal provisioner.new.core.list }
     ensures seated { IsSeated J.publisher reading.new }
 {
-    // what is known of a core is known of this one
-    provisioner.count();
     reading.learn(rt, provisioner.tell());
     let Some(disk) = disk else {
         return Ok(None);
@@ -59,7 +57,6 @@ pub(crate) fn begin<'d, K: Sink, J: Naming, D: Disk + Drop, R: Wait>(
     match Store::open(alloc, disk) {
         Ok(mut store) => {
             let restored = restore(rt, alloc, provisioner, reading, &mut store);
-            provisioner.count();
             match restored {
                 Restored::Done => Ok(Some(store)),
                 Restored::LogFault | Restored::OutOfMemory => Err(halt(provisioner)),

@@ -12,12 +12,12 @@ ghost use Rattle.dz_config.specs.Answers.{Reads};
 ghost use Rattle.dz_config.specs.declared.fault.ConfigFault.{ConfigFault};
 ghost use Rattle.dz_config.specs.declared.fault.ConfigError.TheVariants.{Fault};
 ghost use Rattle.dz_desk.specs.Seen.{IsAtRest};
-ghost use Rattle.dz_serve.specs.Command.{IsServe, IsSetting, IsSettingOf, SaysBad, bad_config};
+ghost use Rattle.dz_serve.specs.Command.{IsServe, IsServerConfig, IsServerConfigOf, SaysBad, bad_config};
 ghost use Rattle.dz_serve.specs.Ends.{is_write_fault};
 ghost use Rattle.dz_serve.specs.Rows.{rows};
 ghost use Rattle.dz_serve.specs.Workers.{AreBack};
 
-use crate::served::{Served, Setting, serve, unserved};
+use crate::served::{Served, ServerConfig, serve, unserved};
 use crate::status::ServeEnd;
 use crate::text::{TextError, read_text};
 use dz_config::{ConfigError, ConfigFault, read_config, read_downstream};
@@ -29,9 +29,9 @@ use std::alloc::Global;
 use std::sync::Wait;
 use std::thread::Threads;
 
-/// Why an input gave no setting.
+/// Why an input gave no configuration of a server.
 #[derive(Clone, Copy, Debug, PartialEq, Eq)]
-pub(crate) enum Unset {
+pub(crate) enum Unconfigured {
     /// The source failed.
     Read,
     /// The input is no configuration.
@@ -40,40 +40,43 @@ pub(crate) enum Unset {
     OutOfMemory,
 }
 
-/// Reads a setting from a source, to its end.
+/// Reads the configuration of a server from a source, to its end.
 ///
 /// # Errors
 ///
 /// `Read` where the source failed; `Bad` with the least fault where the input is no configuration; `OutOfMemory` where
 /// no memory is left.
-pub(crate) fn read_setting<S: Source>(alloc: Global, source: &mut S) -> Result<Setting, Unset>
+pub(crate) fn read_server_config<S: Source>(
+    alloc: Global,
+    source: &mut S,
+) -> Result<ServerConfig, Unconfigured>
     ensures reads { (octets : Octets) → S.left source.old ≡ Some octets
-        → IsSettingOf octets result }
+        → IsServerConfigOf octets result }
     ensures allowed { IfOk result (λ s. IsAllowed s.config) }
     ensures end { IfOk result (λ s. (octets : Octets) → S.left source.old ≡ Some octets →
         S.left source.new ≡ Some []) }
-    ensures cause { HasCauseOf (S.faults source.old) (S.faults source.new) result Unset.Read }
-    ensures kept { (fault : ConfigFault) → result ≡ Err (Unset.Bad fault) →
+    ensures cause { HasCauseOf (S.faults source.old) (S.faults source.new) result Unconfigured.Read }
+    ensures kept { (fault : ConfigFault) → result ≡ Err (Unconfigured.Bad fault) →
         S.faults source.new ≡ S.faults source.old }
 {
     match read_text(alloc, source) {
-        Err(TextError::Read) => Err(Unset::Read),
-        Err(TextError::OutOfMemory) => Err(Unset::OutOfMemory),
-        Ok(text) => match setting_of(alloc, &text) {
-            Ok(setting) => Ok(setting),
-            Err(ConfigError::Fault(fault)) => Err(Unset::Bad(fault)),
-            Err(ConfigError::OutOfMemory) => Err(Unset::OutOfMemory),
+        Err(TextError::Read) => Err(Unconfigured::Read),
+        Err(TextError::OutOfMemory) => Err(Unconfigured::OutOfMemory),
+        Ok(text) => match server_config_of(alloc, &text) {
+            Ok(server) => Ok(server),
+            Err(ConfigError::Fault(fault)) => Err(Unconfigured::Bad(fault)),
+            Err(ConfigError::OutOfMemory) => Err(Unconfigured::OutOfMemory),
         },
     }
 }
 
-/// The setting that a text has.
-fn setting_of(alloc: Global, text: &[u8]) -> Result<Setting, ConfigError>
-    ensures { IsSetting text.now result }
+/// The configuration of a server that a text has.
+fn server_config_of(alloc: Global, text: &[u8]) -> Result<ServerConfig, ConfigError>
+    ensures { IsServerConfig text.now result }
 {
     let (listen, config) = read_config(alloc, text)?;
     let downstream = read_downstream(alloc, text)?;
-    Ok(Setting {
+    Ok(ServerConfig {
         listen,
         config,
         downstream,
@@ -126,13 +129,13 @@ pub fn serve_input<
         → HasRisen (P.faults ports.old) (P.faults ports.new) }
     ensures ports_later { P.faults ports.old ≤ P.faults ports.new }
 {
-    match read_setting(alloc, input) {
-        Ok(setting) => serve::<K, J, P, C, D, R>(
-            rt, alloc, setting, output, desk, ports, clock, disk,
+    match read_server_config(alloc, input) {
+        Ok(server) => serve::<K, J, P, C, D, R>(
+            rt, alloc, server, output, desk, ports, clock, disk,
         ),
-        Err(Unset::Read) => unserved(ServeEnd::ReadFault, output, desk),
-        Err(Unset::OutOfMemory) => unserved(ServeEnd::NoMemory, output, desk),
-        Err(Unset::Bad(fault)) => say_bad(fault, output, desk),
+        Err(Unconfigured::Read) => unserved(ServeEnd::ReadFault, output, desk),
+        Err(Unconfigured::OutOfMemory) => unserved(ServeEnd::NoMemory, output, desk),
+        Err(Unconfigured::Bad(fault)) => say_bad(fault, output, desk),
     }
 }
 

@@ -2,9 +2,9 @@
 #![tactic(auto)]
 
 mod begin;
+mod clocks;
 mod close;
 mod command;
-mod crew;
 mod devices;
 mod pair;
 mod sending;
@@ -13,10 +13,10 @@ mod status;
 mod tcp_worker;
 mod text;
 mod together;
-mod tools;
 mod transfer_worker;
 mod udp_worker;
+mod workers;
 
 pub use command::serve_input;
-pub use served::{Served, Setting, serve};
+pub use served::{Served, ServerConfig, serve};
 pub use status::ServeEnd;

@@ -1,31 +1,33 @@
 //! A server, from its devices' opening to their end.
 
-ghost use Rattle.std.specs.Prelude.{◌≡◌, ◌≢◌, ◌≤◌, ◌<◌, ◌+◌, ◌-◌, [], ◌∷◌, ◌++◌, length, vec_len, vec_capacity, is_none, is_some, None, true, IfSome, MatchBool, All};
+ghost use Rattle.std.specs.Prelude.{◌≡◌, ◌≢◌, ◌≤◌, ◌<◌, ◌+◌, ◌-◌, [], ◌∷◌, ◌++◌, length, vec_len, vec_capacity, is_none, is_some, None, Some, true, List, slice_get, IfSome, MatchBool, All};
 ghost use Rattle.std.specs.Mem.{manually_drop_value};
 ghost use mathlib.Core.List.{IsPrefix};
 ghost use Rattle.dz_io.specs.Counts.{HasRisen};
 ghost use Rattle.dz_io.specs.Ports.{exchange, accepts, dials, IsFreshExchange, IsFreshAccepts, IsFreshDials};
 ghost use Rattle.dz_settings.specs.Config.{IsAllowed};
+ghost use Rattle.dz_settings.specs.declared.config.CatalogSettings.{CatalogSettings};
 ghost use Rattle.dz_desk.specs.Seen.{IsAtRest};
 ghost use Rattle.dz_history.specs.Legal.{IsLegal};
+ghost use Rattle.dz_history.specs.declared.entry.Entry.TheVariants.{Setup};
 ghost use Rattle.dz_provision.specs.Log.{IsLogged};
 ghost use Rattle.dz_serve.specs.Ends.{is_write_fault};
-ghost use Rattle.dz_serve.specs.Rows.{AreUnused, both_back, rows};
+ghost use Rattle.dz_serve.specs.Rows.{Rows, AreUnused, both_at, both_back, both_made, rows};
 ghost use Rattle.dz_serve.specs.Runs.{IsRun, HasRun, IsListOf};
 ghost use Rattle.dz_serve.specs.Workers.{IsSeated, AreSeated, AreBack};
 
 use crate::begin::begin;
+use crate::clocks::make_clocks;
 use crate::close::{close_acceptors, close_datagrams, close_dialers};
-use crate::crew::{Gear, Seats, end_crew, run_crew, teach_all};
 use crate::devices::{Devices, open_devices};
 use crate::pair::Pair;
 use crate::sending::publishers_may_be_sent;
 use crate::status::{ServeEnd, judge};
 use crate::tcp_worker::Linked;
-use crate::together::Crew;
-use crate::tools::{Tools, make_tools};
+use crate::together::Workers;
 use crate::transfer_worker::Transferred;
 use crate::udp_worker::Listened;
+use crate::workers::{Seats, WorkerInputs, end_workers, run_workers, teach_all};
 use dz_config::Downstream;
 use dz_desk::{Desk, Reading};
 use dz_disk::Disk;
@@ -40,7 +42,7 @@ use std::thread::Threads;
 
 /// Where a server listens, what it serves, and the addresses to which it sends zones.
 #[derive(Drop)]
-pub struct Setting {
+pub struct ServerConfig {
     pub listen: Peer,
     pub config: Config,
     pub downstream: Downstream,
@@ -67,14 +69,14 @@ pub fn serve<
 >(
     rt: &R,
     alloc: Global,
-    setting: Setting,
+    server: ServerConfig,
     output: K,
     desk: Desk,
     ports: &mut P,
     clock: &C,
     disk: Option<&mut D>,
 ) -> Served<K>
-    requires config { IsAllowed setting.config }
+    requires config { IsAllowed server.config }
     requires written { IfSome (K.held output) (λ text. text ≡ []) }
     requires faultless { K.faults output ≡ 0 }
     requires publisher { (desk.publisher.list ≡ []) × (desk.publisher.staged ≡ None)
@@ -87,10 +89,10 @@ pub fn serve<
     ensures logged { IsLogged result.desk.publisher.list (K.held result.output)
         (is_write_fault result.end) }
     ensures served { result.desk.publisher.list ≢ []
-        → IsListOf setting.config result.desk.publisher.list
-        × HasRun (is_some disk.entry) result.end setting.downstream
+        → IsListOf server.config result.desk.publisher.list
+        × HasRun (is_some disk.entry) result.end server.downstream
         ((k : K) × HasRisen 0 (K.faults k)) (C.may_give clock.now)
-        result.desk.publisher.list setting.listen
+        result.desk.publisher.list server.listen
         (rows (P.datagrams ports.old) (P.acceptors ports.old) (P.dialers ports.old))
         (rows (P.datagrams ports.new) (P.acceptors ports.new) (P.dialers ports.new)) }
     ensures unserved { result.desk.publisher.list ≡ [] → (result.output ≡ output)
@@ -105,40 +107,137 @@ pub fn serve<
         → HasRisen (P.faults ports.old) (P.faults ports.new) }
     ensures later { P.faults ports.old ≤ P.faults ports.new }
 {
-    let Ok(tools) = make_tools(alloc, clock) else {
+    let Ok(clocks) = make_clocks(alloc, clock) else {
         return unserved(ServeEnd::NoMemory, output, desk);
     };
-    let Ok(devices) = open_devices(ports, &setting.listen) else {
+    let Ok(devices) = open_devices(ports, &server.listen) else {
         return unserved(ServeEnd::PortFault, output, desk);
     };
     let Desk {
         publisher,
         readings,
     } = desk;
-    match Provisioner::<K, J>::start(rt, alloc, setting.config, publisher, output) {
+    match Provisioner::<K, J>::start(rt, alloc, server.config, publisher, output) {
         Err(unstarted) => {
             close_devices(ports, devices);
             not_started(unstarted, readings)
         }
-        Ok(mut begun) => {
-            let (mut seats, readings) = seat_all::<J>(readings);
-            match begin(rt, alloc, &mut begun, &mut seats.transferring.first, disk) {
-                Err(end) => {
-                    close_devices(ports, devices);
-                    halted(end, begun, seats, readings)
-                }
-                Ok(store) => {
-                    let rig = Rig {
-                        seats,
-                        readings,
-                        devices,
-                        tools,
-                        downstream: setting.downstream,
-                    };
-                    serve_over(rt, alloc, begun, store, rig, ports, clock)
-                }
-            }
+        Ok(begun) => {
+            let (seats, readings) = seat_all::<J>(readings);
+            let inputs = WorkerInputs::new(seats, devices, clocks, server.downstream);
+            begin_over(rt, alloc, begun, inputs, readings, ports, clock, disk)
         }
+    }
+}
+
+/// Gives the zones of a provisioner that has begun back what a disk keeps, where there is one, and runs all workers over it.
+fn begin_over<
+    K: Sink + Send,
+    J: Naming + Send + Sync,
+    P: Ports,
+    C: Clock + Send + Drop,
+    D: Disk + Send + Drop,
+    R: Threads + Wait + Sync,
+>(
+    rt: &R,
+    alloc: Global,
+    provisioner: Provisioner<K, J>,
+    inputs: WorkerInputs<P::D, P::A, P::L, C>,
+    readings: Vec<Reading>,
+    ports: &mut P,
+    clock: &C,
+    disk: Option<&mut D>,
+) -> Served<K>
+    requires seated { AreSeated J.publisher
+        inputs.seats.listening.first inputs.seats.listening.second
+        inputs.seats.linking.first inputs.seats.linking.second
+        inputs.seats.transferring.first inputs.seats.transferring.second }
+    requires empty { length readings.items ≡ 0 }
+    requires room { 6 ≤ vec_capacity readings }
+    requires out { (2 ≤ (P.datagrams ports.old).out) × (2 ≤ (P.acceptors ports.old).out)
+        × (2 ≤ (P.dialers ports.old).out) }
+    requires datagrams_one { IsFreshExchange
+        (exchange (P.D.received inputs.devices.datagrams.first)
+        (P.D.sent inputs.devices.datagrams.first)
+        (P.D.is_closed inputs.devices.datagrams.first)
+        (P.D.faults inputs.devices.datagrams.first)) }
+    requires datagrams_two { IsFreshExchange
+        (exchange (P.D.received inputs.devices.datagrams.second)
+        (P.D.sent inputs.devices.datagrams.second)
+        (P.D.is_closed inputs.devices.datagrams.second)
+        (P.D.faults inputs.devices.datagrams.second)) }
+    requires acceptors_one { IsFreshAccepts
+        (accepts (P.A.links inputs.devices.acceptors.first)
+        (P.A.out inputs.devices.acceptors.first)
+        (P.A.is_closed inputs.devices.acceptors.first)
+        (P.A.faults inputs.devices.acceptors.first)) }
+    requires acceptors_two { IsFreshAccepts
+        (accepts (P.A.links inputs.devices.acceptors.second)
+        (P.A.out inputs.devices.acceptors.second)
+        (P.A.is_closed inputs.devices.acceptors.second)
+        (P.A.faults inputs.devices.acceptors.second)) }
+    requires dialers_one { IsFreshDials
+        (dials (P.L.links inputs.devices.dialers.first) (P.L.out inputs.devices.dialers.first)
+        (P.L.faults inputs.devices.dialers.first)) }
+    requires dialers_two { IsFreshDials
+        (dials (P.L.links inputs.devices.dialers.second) (P.L.out inputs.devices.dialers.second)
+        (P.L.faults inputs.devices.dialers.second)) }
+    requires listening_one { C.may_give inputs.clocks.listening.first.clock
+        ≡ C.may_give clock.now }
+    requires listening_two { C.may_give inputs.clocks.listening.second.clock
+        ≡ C.may_give clock.now }
+    requires linking_one { C.may_give inputs.clocks.linking.first.clock ≡ C.may_give clock.now }
+    requires linking_two { C.may_give inputs.clocks.linking.second.clock ≡ C.may_give clock.now }
+    requires transferring_one { C.may_stop inputs.clocks.transferring.first
+        ≡ C.may_stop clock.now }
+    requires transferring_two { C.may_stop inputs.clocks.transferring.second
+        ≡ C.may_stop clock.now }
+    requires gives_one { C.may_give inputs.clocks.transferring.first ≡ C.may_give clock.now }
+    requires gives_two { C.may_give inputs.clocks.transferring.second ≡ C.may_give clock.now }
+    ensures publisher { (result.desk.publisher.staged ≡ None)
+        × (result.desk.publisher.book ≡ J.publisher) }
+    ensures back { AreBack J.publisher result.desk.readings.items }
+    ensures begun { (config : List CatalogSettings)
+        → slice_get provisioner.core.list 0 ≡ Some (Setup config)
+        → IsListOf config result.desk.publisher.list }
+    ensures logged { IsLogged result.desk.publisher.list (K.held result.output)
+        (is_write_fault result.end) }
+    ensures served { (config : List CatalogSettings) (listen : Peer) (before : Rows)
+        → slice_get provisioner.core.list 0 ≡ Some (Setup config)
+        → P.datagrams ports.old ≡ both_at listen before.datagrams
+        → P.acceptors ports.old ≡ both_at listen before.acceptors
+        → P.dialers ports.old ≡ both_made before.dialers
+        → HasRun (is_some disk.entry) result.end inputs.downstream
+        ((k : K) × HasRisen 0 (K.faults k)) (C.may_give clock.now)
+        result.desk.publisher.list listen before
+        (rows (P.datagrams ports.new) (P.acceptors ports.new) (P.dialers ports.new)) }
+    ensures input { (result.end ≢ ServeEnd.BadInput) × (result.end ≢ ServeEnd.ReadFault) }
+    ensures done { result.end ≡ ServeEnd.Done → C.may_stop clock.now ≡ true }
+    ensures write { MatchBool (is_write_fault result.end) (HasRisen 0 (K.faults result.output))
+        (K.faults result.output ≡ 0) }
+    ensures port { result.end ≡ ServeEnd.PortFault
+        → HasRisen (P.faults ports.old) (P.faults ports.new) }
+    ensures later { P.faults ports.old ≤ P.faults ports.new }
+{
+    let mut provisioner = provisioner;
+    let mut inputs = inputs;
+    let reading = &mut inputs.seats.transferring.first;
+    match begin(rt, alloc, &mut provisioner, reading, disk) {
+        Err(end) => {
+            let (seats, devices) = inputs.unused();
+            close_devices(ports, devices);
+            halted(end, provisioner, seats, readings)
+        }
+        Ok(store) => serve_over(
+            rt,
+            alloc,
+            provisioner,
+            store,
+            inputs,
+            readings,
+            ports,
+            clock,
+        ),
     }
 }
 
@@ -202,17 +301,8 @@ pub(crate) fn unserved<K>(end: ServeEnd, output: K, desk: Desk) -> Served<K>
     Served { end, output, desk }
 }
 
-/// What a crew is made of.
-struct Rig<D, A, L, C> {
-    seats: Seats,
-    readings: Vec<Reading>,
-    devices: Devices<D, A, L>,
-    tools: Tools<C>,
-    downstream: Downstream,
-}
-
-/// Runs a crew over a provisioner that has begun, and gives the devices back. What is taken is kept in the store, where
-/// there is one.
+/// Runs all workers over a provisioner that has begun, and gives the devices back. What is taken is kept in the store, where
+/// there is one. The readings go where there is room for them.
 fn serve_over<
     K: Sink + Send,
     J: Naming + Send + Sync,
@@ -225,44 +315,57 @@ fn serve_over<
     alloc: Global,
     provisioner: Provisioner<K, J>,
     store: Option<Store<D>>,
-    rig: Rig<P::D, P::A, P::L, C>,
+    inputs: WorkerInputs<P::D, P::A, P::L, C>,
+    readings: Vec<Reading>,
     ports: &mut P,
     clock: &C,
 ) -> Served<K>
-    requires seated { AreSeated J.publisher rig.seats.listening.first rig.seats.listening.second
-        rig.seats.linking.first rig.seats.linking.second
-        rig.seats.transferring.first rig.seats.transferring.second }
-    requires empty { length rig.readings.items ≡ 0 }
-    requires room { 6 ≤ vec_capacity rig.readings }
+    requires seated { AreSeated J.publisher
+        inputs.seats.listening.first inputs.seats.listening.second
+        inputs.seats.linking.first inputs.seats.linking.second
+        inputs.seats.transferring.first inputs.seats.transferring.second }
+    requires empty { length readings.items ≡ 0 }
+    requires room { 6 ≤ vec_capacity readings }
     requires out { (2 ≤ (P.datagrams ports.old).out) × (2 ≤ (P.acceptors ports.old).out)
         × (2 ≤ (P.dialers ports.old).out) }
     requires datagrams_one { IsFreshExchange
-        (exchange (P.D.received rig.devices.datagrams.first) (P.D.sent rig.devices.datagrams.first)
-        (P.D.is_closed rig.devices.datagrams.first) (P.D.faults rig.devices.datagrams.first)) }
+        (exchange (P.D.received inputs.devices.datagrams.first)
+        (P.D.sent inputs.devices.datagrams.first)
+        (P.D.is_closed inputs.devices.datagrams.first)
+        (P.D.faults inputs.devices.datagrams.first)) }
     requires datagrams_two { IsFreshExchange
-        (exchange (P.D.received rig.devices.datagrams.second)
-        (P.D.sent rig.devices.datagrams.second)
-        (P.D.is_closed rig.devices.datagrams.second) (P.D.faults rig.devices.datagrams.second)) }
+        (exchange (P.D.received inputs.devices.datagrams.second)
+        (P.D.sent inputs.devices.datagrams.second)
+        (P.D.is_closed inputs.devices.datagrams.second)
+        (P.D.faults inputs.devices.datagrams.second)) }
     requires acceptors_one { IsFreshAccepts
-        (accepts (P.A.links rig.devices.acceptors.first) (P.A.out rig.devices.acceptors.first)
-        (P.A.is_closed rig.devices.acceptors.first) (P.A.faults rig.devices.acceptors.first)) }
+        (accepts (P.A.links inputs.devices.acceptors.first)
+        (P.A.out inputs.devices.acceptors.first)
+        (P.A.is_closed inputs.devices.acceptors.first)
+        (P.A.faults inputs.devices.acceptors.first)) }
     requires acceptors_two { IsFreshAccepts
-        (accepts (P.A.links rig.devices.acceptors.second) (P.A.out rig.devices.acceptors.second)
-        (P.A.is_closed rig.devices.acceptors.second) (P.A.faults rig.devices.acceptors.second)) }
+        (accepts (P.A.links inputs.devices.acceptors.second)
+        (P.A.out inputs.devices.acceptors.second)
+        (P.A.is_closed inputs.devices.acceptors.second)
+        (P.A.faults inputs.devices.acceptors.second)) }
     requires dialers_one { IsFreshDials
-        (dials (P.L.links rig.devices.dialers.first) (P.L.out rig.devices.dialers.first)
-        (P.L.faults rig.devices.dialers.first)) }
+        (dials (P.L.links inputs.devices.dialers.first) (P.L.out inputs.devices.dialers.first)
+        (P.L.faults inputs.devices.dialers.first)) }
     requires dialers_two { IsFreshDials
-        (dials (P.L.links rig.devices.dialers.second) (P.L.out rig.devices.dialers.second)
-        (P.L.faults rig.devices.dialers.second)) }
-    requires listening_one { C.may_give rig.tools.listening.first.clock ≡ C.may_give clock.now }
-    requires listening_two { C.may_give rig.tools.listening.second.clock ≡ C.may_give clock.now }
-    requires linking_one { C.may_give rig.tools.linking.first.clock ≡ C.may_give clock.now }
-    requires linking_two { C.may_give rig.tools.linking.second.clock ≡ C.may_give clock.now }
-    requires transferring_one { C.may_stop rig.tools.transferring.first ≡ C.may_stop clock.now }
-    requires transferring_two { C.may_stop rig.tools.transferring.second ≡ C.may_stop clock.now }
-    requires gives_one { C.may_give rig.tools.transferring.first ≡ C.may_give clock.now }
-    requires gives_two { C.may_give rig.tools.transferring.second ≡ C.may_give clock.now }
+        (dials (P.L.links inputs.devices.dialers.second) (P.L.out inputs.devices.dialers.second)
+        (P.L.faults inputs.devices.dialers.second)) }
+    requires listening_one { C.may_give inputs.clocks.listening.first.clock
+        ≡ C.may_give clock.now }
+    requires listening_two { C.may_give inputs.clocks.listening.second.clock
+        ≡ C.may_give clock.now }
+    requires linking_one { C.may_give inputs.clocks.linking.first.clock ≡ C.may_give clock.now }
+    requires linking_two { C.may_give inputs.clocks.linking.second.clock ≡ C.may_give clock.now }
+    requires transferring_one { C.may_stop inputs.clocks.transferring.first
+        ≡ C.may_stop clock.now }
+    requires transferring_two { C.may_stop inputs.clocks.transferring.second
+        ≡ C.may_stop clock.now }
+    requires gives_one { C.may_give inputs.clocks.transferring.first ≡ C.may_give clock.now }
+    requires gives_two { C.may_give inputs.clocks.transferring.second ≡ C.may_give clock.now }
     ensures publisher { (result.desk.publisher.staged ≡ None)
         × (result.desk.publisher.book ≡ J.publisher) }
     ensures back { AreBack J.publisher result.desk.readings.items }
@@ -271,7 +374,7 @@ fn serve_over<
     ensures logged { IsLogged result.desk.publisher.list (K.held result.output)
         (is_write_fault result.end) }
     ensures served { 0 < length provisioner.core.list →
-        IsRun (is_none store) result.end rig.downstream ((k : K) × HasRisen 0 (K.faults k))
+        IsRun (is_none store) result.end inputs.downstream ((k : K) × HasRisen 0 (K.faults k))
         (C.may_give clock.now) result.desk.publisher.list
         (rows (P.datagrams ports.old) (P.acceptors ports.old) (P.dialers ports.old))
         (rows (P.datagrams ports.new) (P.acceptors ports.new) (P.dialers ports.new)) }
@@ -283,29 +386,17 @@ fn serve_over<
         → HasRisen (P.faults ports.old) (P.faults ports.new) }
     ensures later { P.faults ports.old ≤ P.faults ports.new }
 {
-    let Rig {
-        seats,
-        readings,
-        devices,
-        tools,
-        downstream,
-    } = rig;
+    let mut inputs = inputs;
     let must_dial = store.is_none();
-    let seats = teach_all(rt, &provisioner, seats);
+    teach_all(rt, &provisioner, &mut inputs.seats);
     // what the lock guards may be shared
     publishers_may_be_sent();
     let shared = Shared::over(provisioner);
     let store = store.map(|store| Mutex::new(store));
-    let gear = Gear {
-        seats,
-        devices,
-        tools,
-        downstream,
-    };
-    let crew = run_crew(rt, alloc, &Keeping::over(&shared, store.as_ref()), gear);
-    let parts = end_crew(rt, shared, &crew);
-    let end = judge(parts.log_failed, &crew, must_dial);
-    let readings = give_back(ports, crew, readings);
+    let ended = run_workers(rt, alloc, &Keeping::over(&shared, store.as_ref()), inputs);
+    let parts = end_workers(rt, shared, &ended);
+    let end = judge(parts.log_failed, &ended, must_dial);
+    let readings = give_back(ports, ended, readings);
     let Parts {
         fleet: _,
         publisher,
@@ -319,62 +410,62 @@ fn serve_over<
     Served { end, output, desk }
 }
 
-/// Gives all devices of a crew back, and puts its readings together.
+/// Gives all devices of workers back, and puts their readings together.
 fn give_back<P: Ports, C: Drop>(
     ports: &mut P,
-    crew: Crew<Pair<Listened<P::D, C>>, Pair<Linked<P::A, C>>, Pair<Transferred<P::L>>>,
+    ended: Workers<Listened<P::D, C>, Linked<P::A, C>, Transferred<P::L>>,
     readings: Vec<Reading>,
 ) -> Vec<Reading>
     requires out { (2 ≤ (P.datagrams ports.old).out) × (2 ≤ (P.acceptors ports.old).out)
         × (2 ≤ (P.dialers ports.old).out) }
     requires empty { length readings.items ≡ 0 }
     requires room { 6 ≤ vec_capacity readings }
-    ensures readings { result.items ≡ crew.datagrams.first.reading
-        ∷ crew.datagrams.second.reading ∷ crew.links.first.reading ∷ crew.links.second.reading
-        ∷ crew.transfers.first.reading ∷ crew.transfers.second.reading ∷ [] }
+    ensures readings { result.items ≡ ended.datagrams.first.reading
+        ∷ ended.datagrams.second.reading ∷ ended.links.first.reading ∷ ended.links.second.reading
+        ∷ ended.transfers.first.reading ∷ ended.transfers.second.reading ∷ [] }
     ensures datagrams { P.datagrams ports.new ≡ both_back
-        (exchange (P.D.received (manually_drop_value crew.datagrams.first.device))
-        (P.D.sent (manually_drop_value crew.datagrams.first.device))
-        (P.D.is_closed (manually_drop_value crew.datagrams.first.device))
-        (P.D.faults (manually_drop_value crew.datagrams.first.device)))
-        (exchange (P.D.received (manually_drop_value crew.datagrams.second.device))
-        (P.D.sent (manually_drop_value crew.datagrams.second.device))
-        (P.D.is_closed (manually_drop_value crew.datagrams.second.device))
-        (P.D.faults (manually_drop_value crew.datagrams.second.device)))
+        (exchange (P.D.received (manually_drop_value ended.datagrams.first.device))
+        (P.D.sent (manually_drop_value ended.datagrams.first.device))
+        (P.D.is_closed (manually_drop_value ended.datagrams.first.device))
+        (P.D.faults (manually_drop_value ended.datagrams.first.device)))
+        (exchange (P.D.received (manually_drop_value ended.datagrams.second.device))
+        (P.D.sent (manually_drop_value ended.datagrams.second.device))
+        (P.D.is_closed (manually_drop_value ended.datagrams.second.device))
+        (P.D.faults (manually_drop_value ended.datagrams.second.device)))
         (P.datagrams ports.old) }
     ensures acceptors { P.acceptors ports.new ≡ both_back
-        (accepts (P.A.links (manually_drop_value crew.links.first.acceptor))
-        (P.A.out (manually_drop_value crew.links.first.acceptor))
-        (P.A.is_closed (manually_drop_value crew.links.first.acceptor))
-        (P.A.faults (manually_drop_value crew.links.first.acceptor)))
-        (accepts (P.A.links (manually_drop_value crew.links.second.acceptor))
-        (P.A.out (manually_drop_value crew.links.second.acceptor))
-        (P.A.is_closed (manually_drop_value crew.links.second.acceptor))
-        (P.A.faults (manually_drop_value crew.links.second.acceptor)))
+        (accepts (P.A.links (manually_drop_value ended.links.first.acceptor))
+        (P.A.out (manually_drop_value ended.links.first.acceptor))
+        (P.A.is_closed (manually_drop_value ended.links.first.acceptor))
+        (P.A.faults (manually_drop_value ended.links.first.acceptor)))
+        (accepts (P.A.links (manually_drop_value ended.links.second.acceptor))
+        (P.A.out (manually_drop_value ended.links.second.acceptor))
+        (P.A.is_closed (manually_drop_value ended.links.second.acceptor))
+        (P.A.faults (manually_drop_value ended.links.second.acceptor)))
         (P.acceptors ports.old) }
     ensures dialers { P.dialers ports.new ≡ both_back
-        (dials (P.L.links (manually_drop_value crew.transfers.first.dialer))
-        (P.L.out (manually_drop_value crew.transfers.first.dialer))
-        (P.L.faults (manually_drop_value crew.transfers.first.dialer)))
-        (dials (P.L.links (manually_drop_value crew.transfers.second.dialer))
-        (P.L.out (manually_drop_value crew.transfers.second.dialer))
-        (P.L.faults (manually_drop_value crew.transfers.second.dialer)))
+        (dials (P.L.links (manually_drop_value ended.transfers.first.dialer))
+        (P.L.out (manually_drop_value ended.transfers.first.dialer))
+        (P.L.faults (manually_drop_value ended.transfers.first.dialer)))
+        (dials (P.L.links (manually_drop_value ended.transfers.second.dialer))
+        (P.L.out (manually_drop_value ended.transfers.second.dialer))
+        (P.L.faults (manually_drop_value ended.transfers.second.dialer)))
         (P.dialers ports.old) }
     ensures later { P.faults ports.old ≤ P.faults ports.new }
-    ensures datagram_one { HasRisen 0 (P.D.faults (manually_drop_value crew.datagrams.first.device))
+    ensures datagram_one { HasRisen 0 (P.D.faults (manually_drop_value ended.datagrams.first.device))
         → HasRisen (P.faults ports.old) (P.faults ports.new) }
-    ensures datagram_two { HasRisen 0 (P.D.faults (manually_drop_value crew.datagrams.second.device))
+    ensures datagram_two { HasRisen 0 (P.D.faults (manually_drop_value ended.datagrams.second.device))
         → HasRisen (P.faults ports.old) (P.faults ports.new) }
-    ensures acceptor_one { HasRisen 0 (P.A.faults (manually_drop_value crew.links.first.acceptor))
+    ensures acceptor_one { HasRisen 0 (P.A.faults (manually_drop_value ended.links.first.acceptor))
         → HasRisen (P.faults ports.old) (P.faults ports.new) }
-    ensures acceptor_two { HasRisen 0 (P.A.faults (manually_drop_value crew.links.second.acceptor))
+    ensures acceptor_two { HasRisen 0 (P.A.faults (manually_drop_value ended.links.second.acceptor))
         → HasRisen (P.faults ports.old) (P.faults ports.new) }
 {
-    let Crew {
+    let Workers {
         datagrams,
         links,
         transfers,
-    } = crew;
+    } = ended;
     let (datagrams, listening) = part_listened(datagrams);
     let (acceptors, linking) = part_linked(links);
     let (dialers, transferring) = part_transferred(transfers);

@@ -4,9 +4,8 @@ ghost use Rattle.std.specs.Prelude.{◌≡◌, ◌≢◌, ◌⊎◌, true, false
 ghost use Rattle.dz_query.specs.Links.{starved_at, unheard_at};
 ghost use Rattle.dz_serve.specs.Ends.{has_closed, is_whole, is_write_fault, unheard_in, IsClear};
 
-use crate::pair::Pair;
 use crate::tcp_worker::Linked;
-use crate::together::Crew;
+use crate::together::Workers;
 use crate::transfer_worker::Transferred;
 use crate::udp_worker::Listened;
 use dz_query::{LinksEnd, SessionEnd};
@@ -34,81 +33,79 @@ pub enum ServeEnd {
 /// was kept is due at each moment until its first job.
 pub(crate) fn judge<D, A, L, C>(
     log_failed: bool,
-    crew: &Crew<Pair<Listened<D, C>>, Pair<Linked<A, C>>, Pair<Transferred<L>>>,
+    ended: &Workers<Listened<D, C>, Linked<A, C>, Transferred<L>>,
     must_dial: bool,
 ) -> ServeEnd
     ensures log { is_write_fault result ≡ log_failed }
-    ensures session_one { result ≡ ServeEnd.Done → is_whole crew.now.datagrams.first.end ≡ true }
-    ensures session_two { result ≡ ServeEnd.Done → is_whole crew.now.datagrams.second.end ≡ true }
-    ensures links_one { result ≡ ServeEnd.Done → has_closed crew.now.links.first.end ≡ true }
-    ensures links_two { result ≡ ServeEnd.Done → has_closed crew.now.links.second.end ≡ true }
-    ensures fed_one { result ≡ ServeEnd.Done → starved_at crew.now.links.first.end ≡ false }
-    ensures fed_two { result ≡ ServeEnd.Done → starved_at crew.now.links.second.end ≡ false }
-    ensures heard_one { result ≡ ServeEnd.Done → unheard_in crew.now.datagrams.first.end ≡ false }
-    ensures heard_two { result ≡ ServeEnd.Done → unheard_in crew.now.datagrams.second.end ≡ false }
-    ensures heard_three { result ≡ ServeEnd.Done → unheard_at crew.now.links.first.end ≡ false }
-    ensures heard_four { result ≡ ServeEnd.Done → unheard_at crew.now.links.second.end ≡ false }
-    ensures clear_one { result ≡ ServeEnd.Done → IsClear crew.now.transfers.first.transfers }
-    ensures clear_two { result ≡ ServeEnd.Done → IsClear crew.now.transfers.second.transfers }
+    ensures session_one { result ≡ ServeEnd.Done → is_whole ended.now.datagrams.first.end ≡ true }
+    ensures session_two { result ≡ ServeEnd.Done → is_whole ended.now.datagrams.second.end ≡ true }
+    ensures links_one { result ≡ ServeEnd.Done → has_closed ended.now.links.first.end ≡ true }
+    ensures links_two { result ≡ ServeEnd.Done → has_closed ended.now.links.second.end ≡ true }
+    ensures fed_one { result ≡ ServeEnd.Done → starved_at ended.now.links.first.end ≡ false }
+    ensures fed_two { result ≡ ServeEnd.Done → starved_at ended.now.links.second.end ≡ false }
+    ensures heard_one { result ≡ ServeEnd.Done → unheard_in ended.now.datagrams.first.end ≡ false }
+    ensures heard_two { result ≡ ServeEnd.Done → unheard_in ended.now.datagrams.second.end ≡ false }
+    ensures heard_three { result ≡ ServeEnd.Done → unheard_at ended.now.links.first.end ≡ false }
+    ensures heard_four { result ≡ ServeEnd.Done → unheard_at ended.now.links.second.end ≡ false }
+    ensures clear_one { result ≡ ServeEnd.Done → IsClear ended.now.transfers.first.transfers }
+    ensures clear_two { result ≡ ServeEnd.Done → IsClear ended.now.transfers.second.transfers }
     ensures dialed { result ≡ ServeEnd.Done → must_dial ≡ true →
-        (crew.now.transfers.first.transfers.dialed ≡ true)
-        ⊎ (crew.now.transfers.second.transfers.dialed ≡ true) }
+        (ended.now.transfers.first.transfers.dialed ≡ true)
+        ⊎ (ended.now.transfers.second.transfers.dialed ≡ true) }
     ensures memory { result ≡ ServeEnd.NoMemory →
-        (is_whole crew.now.datagrams.first.end ≡ true)
-        × (is_whole crew.now.datagrams.second.end ≡ true)
-        × (has_closed crew.now.links.first.end ≡ true)
-        × (has_closed crew.now.links.second.end ≡ true) }
+        (is_whole ended.now.datagrams.first.end ≡ true)
+        × (is_whole ended.now.datagrams.second.end ≡ true)
+        × (has_closed ended.now.links.first.end ≡ true)
+        × (has_closed ended.now.links.second.end ≡ true) }
     ensures input { (result ≢ ServeEnd.BadInput) × (result ≢ ServeEnd.ReadFault) }
     ensures port { result ≡ ServeEnd.PortFault →
-        (is_whole crew.now.datagrams.first.end ≡ false)
-        ⊎ ((is_whole crew.now.datagrams.second.end ≡ false)
-        ⊎ ((has_closed crew.now.links.first.end ≡ false)
-        ⊎ (has_closed crew.now.links.second.end ≡ false))) }
+        (is_whole ended.now.datagrams.first.end ≡ false)
+        ⊎ ((is_whole ended.now.datagrams.second.end ≡ false)
+        ⊎ ((has_closed ended.now.links.first.end ≡ false)
+        ⊎ (has_closed ended.now.links.second.end ≡ false))) }
 {
     if log_failed {
         return ServeEnd::WriteFault;
     }
-    if !is_whole(crew.datagrams.first.end) {
+    if !is_whole(ended.datagrams.first.end) {
         return ServeEnd::PortFault;
     }
-    if !is_whole(crew.datagrams.second.end) {
+    if !is_whole(ended.datagrams.second.end) {
         return ServeEnd::PortFault;
     }
-    if !has_closed(crew.links.first.end) {
+    if !has_closed(ended.links.first.end) {
         return ServeEnd::PortFault;
     }
-    if !has_closed(crew.links.second.end) {
+    if !has_closed(ended.links.second.end) {
         return ServeEnd::PortFault;
     }
-    if has_starved(crew.links.first.end) {
+    if has_starved(ended.links.first.end) {
         return ServeEnd::NoMemory;
     }
-    if has_starved(crew.links.second.end) {
+    if has_starved(ended.links.second.end) {
         return ServeEnd::NoMemory;
     }
-    if !all_heard(crew) {
+    if !all_heard(ended) {
         return ServeEnd::NoMemory;
     }
     judge_transfers(
-        &crew.transfers.first.transfers,
-        &crew.transfers.second.transfers,
+        &ended.transfers.first.transfers,
+        &ended.transfers.second.transfers,
         must_dial,
     )
 }
 
 /// Whether each NOTIFY was heard. None goes unheard while no write to the log has failed, but no clause can say so.
-fn all_heard<D, A, L, C>(
-    crew: &Crew<Pair<Listened<D, C>>, Pair<Linked<A, C>>, Pair<Transferred<L>>>,
-) -> bool
-    ensures one { result ≡ true → unheard_in crew.now.datagrams.first.end ≡ false }
-    ensures two { result ≡ true → unheard_in crew.now.datagrams.second.end ≡ false }
-    ensures three { result ≡ true → unheard_at crew.now.links.first.end ≡ false }
-    ensures four { result ≡ true → unheard_at crew.now.links.second.end ≡ false }
+fn all_heard<D, A, L, C>(ended: &Workers<Listened<D, C>, Linked<A, C>, Transferred<L>>) -> bool
+    ensures one { result ≡ true → unheard_in ended.now.datagrams.first.end ≡ false }
+    ensures two { result ≡ true → unheard_in ended.now.datagrams.second.end ≡ false }
+    ensures three { result ≡ true → unheard_at ended.now.links.first.end ≡ false }
+    ensures four { result ≡ true → unheard_at ended.now.links.second.end ≡ false }
 {
-    !unheard_in(crew.datagrams.first.end)
-        && !unheard_in(crew.datagrams.second.end)
-        && !unheard_at(crew.links.first.end)
-        && !unheard_at(crew.links.second.end)
+    !unheard_in(ended.datagrams.first.end)
+        && !unheard_in(ended.datagrams.second.end)
+        && !unheard_at(ended.links.first.end)
+        && !unheard_at(ended.links.second.end)
 }
 
 /// The end after these transfers, where nothing else has failed.

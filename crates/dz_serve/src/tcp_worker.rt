@@ -4,8 +4,8 @@ ghost use Rattle.std.specs.Prelude.{◌≡◌, None};
 ghost use Rattle.std.specs.Mem.{manually_drop_value};
 ghost use Rattle.dz_serve.specs.Workers.{IsSeated, ShowsLinking};
 
+use crate::clocks::ClockAndBuffer;
 use crate::together::{Work, held};
-use crate::tools::Tool;
 use dz_config::Downstream;
 use dz_desk::{Ear, Reading};
 use dz_header::ReplyBuffer;
@@ -25,19 +25,19 @@ pub(crate) struct Linking<A, C> {
 }
 
 impl<A, C> Linking<A, C> {
-    /// A link worker of these, with the tool's clock and buffer.
+    /// A link worker of these, with this clock and buffer.
     pub fn new(
         reading: Reading,
         acceptor: A,
-        tool: Tool<C>,
+        own: ClockAndBuffer<C>,
         downstream: Downstream,
     ) -> Linking<A, C>
         ensures reading { result.reading ≡ reading }
         ensures acceptor { manually_drop_value result.acceptor ≡ acceptor }
-        ensures clock { result.clock ≡ tool.clock }
+        ensures clock { result.clock ≡ own.clock }
         ensures downstream { result.downstream ≡ downstream }
     {
-        let Tool { clock, buffer } = tool;
+        let ClockAndBuffer { clock, buffer } = own;
         Linking {
             reading,
             acceptor: held(acceptor),

@@ -51,12 +51,12 @@ impl<B, T, W: Work<B, T>> Promise<T> for Showing<B, W> {
     ghost kept_by = { λ p r. W.shows p.before.value r };
 }
 
-/// What is done for each of three kinds of device.
+/// Two of each of three kinds: what workers work with, or what they hand on.
 #[derive(Drop)]
-pub(crate) struct Crew<T, U, V> {
-    pub datagrams: T,
-    pub links: U,
-    pub transfers: V,
+pub(crate) struct Workers<T, U, V> {
+    pub datagrams: Pair<T>,
+    pub links: Pair<U>,
+    pub transfers: Pair<V>,
 }
 
 /// A device that is given back, and so never dropped.
@@ -108,11 +108,11 @@ fn ask_both<
     F: FnOnce() -> T + Send + Drop + 's,
     G: FnOnce() -> T + Send + Drop + 's,
     T: Send + Drop + 's,
->(scope: &Scope<'s, E>, promises: Pair<P>, first: F, second: G) -> (Asked<F, T, P>, Asked<G, T, P>)
-    requires first { F.pre first }
-    requires second { G.pre second }
-    requires first_keeps { (r : T) → F.post first r → P.kept_by promises.first r }
-    requires second_keeps { (r : T) → G.post second r → P.kept_by promises.second r }
+>(scope: &Scope<'s, E>, promises: Pair<P>, tasks: (F, G)) -> (Asked<F, T, P>, Asked<G, T, P>)
+    requires first { F.pre tasks.0 }
+    requires second { G.pre tasks.1 }
+    requires first_keeps { (r : T) → F.post tasks.0 r → P.kept_by promises.first r }
+    requires second_keeps { (r : T) → G.post tasks.1 r → P.kept_by promises.second r }
     ensures first_promise { result.0.promise.value ≡ promises.first }
     ensures second_promise { result.1.promise.value ≡ promises.second }
     ensures first { MatchResult result.0.spawned (λ h. h.promise ≡ result.0.promise.value)
@@ -125,6 +125,7 @@ fn ask_both<
         (λ e. (r : T) → G.post e.value r → P.kept_by result.1.promise.value r) }
 {
     let (one, two) = promises.parts();
+    let (first, second) = tasks;
     (ask(scope, one, first), ask(scope, two, second))
 }
 
@@ -226,7 +227,7 @@ fn finish<
     datagrams: (Asked<F1, T, P>, Asked<F2, T, P>),
     links: (Asked<F3, U, Q>, Asked<F4, U, Q>),
     transfers: (Asked<F5, V, S>, Asked<F6, V, S>),
-) -> Crew<Pair<T>, Pair<U>, Pair<V>>
+) -> Workers<T, U, V>
     requires one { MatchResult datagrams.0.spawned (λ h. h.promise ≡ datagrams.0.promise.value)
         (λ e. F1.pre e.value) }
     requires one_keeps { IfErr datagrams.0.spawned
@@ -261,7 +262,7 @@ fn finish<
     let datagrams = start_both(datagrams);
     let links = start_both(links);
     let transfers = start_both(transfers);
-    Crew {
+    Workers {
         datagrams: join_both(rt, datagrams),
         links: join_both(rt, links),
         transfers: join_both(rt, transfers),
@@ -282,51 +283,39 @@ pub(crate) fn run_together<
     U: Send + Drop,
     V: Send + Drop,
     R: Threads + Wait + Sync,
->(
-    rt: &R,
-    crew: Crew<Pair<W>, Pair<X>, Pair<Y>>,
-    listen: &F,
-    link: &G,
-    transfer: &H,
-) -> Crew<Pair<T>, Pair<U>, Pair<V>>
-    requires one { F.pre listen.now crew.datagrams.first }
-    requires two { F.pre listen.now crew.datagrams.second }
-    requires three { G.pre link.now crew.links.first }
-    requires four { G.pre link.now crew.links.second }
-    requires five { H.pre transfer.now crew.transfers.first }
-    requires six { H.pre transfer.now crew.transfers.second }
+>(rt: &R, works: Workers<W, X, Y>, listen: &F, link: &G, transfer: &H) -> Workers<T, U, V>
+    requires one { F.pre listen.now works.datagrams.first }
+    requires two { F.pre listen.now works.datagrams.second }
+    requires three { G.pre link.now works.links.first }
+    requires four { G.pre link.now works.links.second }
+    requires five { H.pre transfer.now works.transfers.first }
+    requires six { H.pre transfer.now works.transfers.second }
     requires listens { (w : W) (r : T) → F.post listen.now w r → W.shows w r }
     requires links { (x : X) (r : U) → G.post link.now x r → X.shows x r }
     requires transfers { (y : Y) (r : V) → H.post transfer.now y r → Y.shows y r }
-    ensures one { W.shows crew.datagrams.first result.datagrams.first }
-    ensures two { W.shows crew.datagrams.second result.datagrams.second }
-    ensures three { X.shows crew.links.first result.links.first }
-    ensures four { X.shows crew.links.second result.links.second }
-    ensures five { Y.shows crew.transfers.first result.transfers.first }
-    ensures six { Y.shows crew.transfers.second result.transfers.second }
+    ensures one { W.shows works.datagrams.first result.datagrams.first }
+    ensures two { W.shows works.datagrams.second result.datagrams.second }
+    ensures three { X.shows works.links.first result.links.first }
+    ensures four { X.shows works.links.second result.links.second }
+    ensures five { Y.shows works.transfers.first result.transfers.first }
+    ensures six { Y.shows works.transfers.second result.transfers.second }
 {
     thread::scope(
         thread::scope_env(),
         rt,
-        move |scope| -> Crew<Pair<T>, Pair<U>, Pair<V>>
-            requires one { F.pre listen.now crew.datagrams.first }
-            requires two { F.pre listen.now crew.datagrams.second }
-            requires three { G.pre link.now crew.links.first }
-            requires four { G.pre link.now crew.links.second }
-            requires five { H.pre transfer.now crew.transfers.first }
-            requires six { H.pre transfer.now crew.transfers.second }
+        move |scope| -> Workers<T, U, V>
+            requires one { F.pre listen.now works.datagrams.first }
+            requires two { F.pre listen.now works.datagrams.second }
+            requires three { G.pre link.now works.links.first }
+            requires four { G.pre link.now works.links.second }
+            requires five { H.pre transfer.now works.transfers.first }
+            requires six { H.pre transfer.now works.transfers.second }
             requires listens { (w : W) (r : T) → F.post listen.now w r → W.shows w r }
             requires links { (x : X) (r : U) → G.post link.now x r → X.shows x r }
             requires transfers { (y : Y) (r : V) → H.post transfer.now y r → Y.shows y r }
-            ensures one { W.shows crew.datagrams.first result.datagrams.first }
-            ensures two { W.shows crew.datagrams.second result.datagrams.second }
-            ensures three { X.shows crew.links.first result.links.first }
-            ensures four { X.shows crew.links.second result.links.second }
-            ensures five { Y.shows crew.transfers.first result.transfers.first }
-            ensures six { Y.shows crew.transfers.second result.transfers.second }
         {
             run_within::<_, B, _, _, _, _, _, _, _, _, _, _>(
-                scope, rt, crew, listen, link, transfer,
+                scope, rt, works, listen, link, transfer,
             )
         },
     )
@@ -350,59 +339,46 @@ fn run_within<
 >(
     scope: &Scope<'s, E>,
     rt: &R,
-    crew: Crew<Pair<W>, Pair<X>, Pair<Y>>,
+    works: Workers<W, X, Y>,
     listen: &'s F,
     link: &'s G,
     transfer: &'s H,
-) -> Crew<Pair<T>, Pair<U>, Pair<V>>
-    requires one { F.pre listen.now crew.datagrams.first }
-    requires two { F.pre listen.now crew.datagrams.second }
-    requires three { G.pre link.now crew.links.first }
-    requires four { G.pre link.now crew.links.second }
-    requires five { H.pre transfer.now crew.transfers.first }
-    requires six { H.pre transfer.now crew.transfers.second }
+) -> Workers<T, U, V>
+    requires one { F.pre listen.now works.datagrams.first }
+    requires two { F.pre listen.now works.datagrams.second }
+    requires three { G.pre link.now works.links.first }
+    requires four { G.pre link.now works.links.second }
+    requires five { H.pre transfer.now works.transfers.first }
+    requires six { H.pre transfer.now works.transfers.second }
     requires listens { (w : W) (r : T) → F.post listen.now w r → W.shows w r }
     requires links { (x : X) (r : U) → G.post link.now x r → X.shows x r }
     requires transfers { (y : Y) (r : V) → H.post transfer.now y r → Y.shows y r }
-    ensures one { W.shows crew.datagrams.first result.datagrams.first }
-    ensures two { W.shows crew.datagrams.second result.datagrams.second }
-    ensures three { X.shows crew.links.first result.links.first }
-    ensures four { X.shows crew.links.second result.links.second }
-    ensures five { Y.shows crew.transfers.first result.transfers.first }
-    ensures six { Y.shows crew.transfers.second result.transfers.second }
+    ensures one { W.shows works.datagrams.first result.datagrams.first }
+    ensures two { W.shows works.datagrams.second result.datagrams.second }
+    ensures three { X.shows works.links.first result.links.first }
+    ensures four { X.shows works.links.second result.links.second }
+    ensures five { Y.shows works.transfers.first result.transfers.first }
+    ensures six { Y.shows works.transfers.second result.transfers.second }
 {
-    let (one, two) = crew.datagrams.parts();
-    let (three, four) = crew.links.parts();
-    let (five, six) = crew.transfers.parts();
-    let datagrams = ask_both(
-        scope,
-        Showing::<B, W>::of_both(&one, &two),
-        move || -> T
-            requires { F.pre listen.now one }
-        { listen(one) },
-        move || -> T
-            requires { F.pre listen.now two }
-        { listen(two) },
-    );
-    let links = ask_both(
-        scope,
-        Showing::<B, X>::of_both(&three, &four),
-        move || -> U
-            requires { G.pre link.now three }
-        { link(three) },
-        move || -> U
-            requires { G.pre link.now four }
-        { link(four) },
-    );
-    let transfers = ask_both(
-        scope,
-        Showing::<B, Y>::of_both(&five, &six),
-        move || -> V
-            requires { H.pre transfer.now five }
-        { transfer(five) },
-        move || -> V
-            requires { H.pre transfer.now six }
-        { transfer(six) },
-    );
+    let (one, two) = works.datagrams.parts();
+    let (three, four) = works.links.parts();
+    let (five, six) = works.transfers.parts();
+    let listened = Showing::<B, W>::of_both(&one, &two);
+    let linked = Showing::<B, X>::of_both(&three, &four);
+    let transferred = Showing::<B, Y>::of_both(&five, &six);
+    let datagrams = (move || call(listen, one), move || call(listen, two));
+    let links = (move || call(link, three), move || call(link, four));
+    let transfers = (move || call(transfer, five), move || call(transfer, six));
+    let datagrams = ask_both(scope, listened, datagrams);
+    let links = ask_both(scope, linked, links);
+    let transfers = ask_both(scope, transferred, transfers);
     finish(rt, datagrams, links, transfers)
+}
+
+/// Does one work.
+fn call<F: Fn(W) -> T, W, T>(task: &F, work: W) -> T
+    requires { F.pre task.now work }
+    ensures { F.post task.now work result }
+{
+    task(work)
 }

@@ -4,8 +4,8 @@ ghost use Rattle.std.specs.Prelude.{◌≡◌};
 ghost use Rattle.std.specs.Mem.{manually_drop_value};
 ghost use Rattle.dz_serve.specs.Workers.{IsSeated, ShowsListening};
 
+use crate::clocks::ClockAndBuffer;
 use crate::together::{Work, held};
-use crate::tools::Tool;
 use dz_desk::{Ear, Reading};
 use dz_header::ReplyBuffer;
 use dz_io::{Clock, Datagrams};
@@ -23,13 +23,13 @@ pub(crate) struct Listening<D, C> {
 }
 
 impl<D, C> Listening<D, C> {
-    /// A datagram worker of these, with the tool's clock and buffer.
-    pub fn new(reading: Reading, device: D, tool: Tool<C>) -> Listening<D, C>
+    /// A datagram worker of these, with this clock and buffer.
+    pub fn new(reading: Reading, device: D, own: ClockAndBuffer<C>) -> Listening<D, C>
         ensures reading { result.reading ≡ reading }
         ensures device { manually_drop_value result.device ≡ device }
-        ensures clock { result.clock ≡ tool.clock }
+        ensures clock { result.clock ≡ own.clock }
     {
-        let Tool { clock, buffer } = tool;
+        let ClockAndBuffer { clock, buffer } = own;
         Listening {
             reading,
             device: held(device),

@@ -44,10 +44,20 @@ impl<J: OfDesk> Ear for Early<J> {
 
     ghost may_fail = { ⊤ };
 
+    type Witness = ();
+
+    ghost witnesses = { λ witness list peer zone heard. ⊤ };
+
     /// Answers that the zone isn't served, while the reading has seen nothing.
-    fn hear<R: Wait>(&self, _rt: &R, _peer: &Peer, _zone: &Name, reading: &mut Reading) -> Hearing {
+    fn hear<R: Wait>(
+        &self,
+        _rt: &R,
+        _peer: &Peer,
+        _zone: &Name,
+        reading: &mut Reading,
+    ) -> Hearing<()> {
         if reading.count() == 0 {
-            Hearing::Heard(Heard::NotOurs)
+            Hearing::Heard(Heard::NotOurs, ())
         } else {
             Hearing::LogFault
         }
@@ -65,6 +75,10 @@ impl<J: OfDesk> Ear for Deaf<J> {
 
     ghost may_fail = { ⊤ };
 
+    type Witness = ();
+
+    ghost witnesses = { λ witness list peer zone heard. ⊤ };
+
     /// Answers that the log failed.
     fn hear<R: Wait>(
         &self,
@@ -72,7 +86,7 @@ impl<J: OfDesk> Ear for Deaf<J> {
         _peer: &Peer,
         _zone: &Name,
         _reading: &mut Reading,
-    ) -> Hearing {
+    ) -> Hearing<()> {
         Hearing::LogFault
     }
 }

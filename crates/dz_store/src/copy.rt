@@ -69,8 +69,6 @@ fn copy_one<D: Disk + Drop, E: Disk + Drop>(
     if source.has_failed() || target.has_failed() {
         return Err(RecordError::Disk);
     }
-    // brings in what is known of a list for this one
-    source.index();
     let Some(payload) = counting(alloc, source, zone)? else {
         return Ok(());
     };

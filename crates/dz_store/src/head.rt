@@ -33,7 +33,6 @@ impl<'a> Model for Head<'a> {
 }
 
 /// The head of a payload.
-#[tactic(auto, unfolding(crate::specs::Payload::head_of))]
 pub(crate) fn head_of(payload: &[u8]) -> Option<Head<'_>>
     ensures { result ≡ head_of payload.now }
 {
@@ -44,7 +43,6 @@ pub(crate) fn head_of(payload: &[u8]) -> Option<Head<'_>>
 }
 
 /// Both names, and what follows them.
-#[tactic(auto, unfolding(crate::specs::Payload::names_of))]
 fn names_of(octets: &[u8]) -> Option<Head<'_>>
     ensures { result ≡ names_of octets.now }
 {
@@ -58,7 +56,6 @@ fn names_of(octets: &[u8]) -> Option<Head<'_>>
 }
 
 /// What follows both names: a label preceded by its length, a moment in 8 octets, and the octets of the version.
-#[tactic(auto, unfolding(crate::specs::Payload::after_names))]
 fn after_names(zone: Name, catalog: Name, octets: &[u8]) -> Option<Head<'_>>
     ensures { result ≡ after_names zone catalog octets.now }
 {
@@ -79,7 +76,6 @@ fn after_names(zone: Name, catalog: Name, octets: &[u8]) -> Option<Head<'_>>
 }
 
 /// The name at the beginning of some octets, and what follows it.
-#[tactic(auto, unfolding(crate::specs::Payload::first_name))]
 pub(crate) fn first_name(octets: &[u8]) -> Option<(Name, &[u8])>
     ensures { option_map (λ x. (x.0, x.1.now)) result ≡ first_name octets.now }
 {
@@ -90,7 +86,6 @@ pub(crate) fn first_name(octets: &[u8]) -> Option<(Name, &[u8])>
 }
 
 /// The forgotten zone of which a payload is written.
-#[tactic(auto, unfolding(crate::specs::Payload::forgotten_of))]
 pub(crate) fn forgotten_of(payload: &[u8]) -> Option<Name>
     ensures { result ≡ forgotten_of payload.now }
 {
@@ -101,7 +96,6 @@ pub(crate) fn forgotten_of(payload: &[u8]) -> Option<Name>
 }
 
 /// The name of which some octets are the wire form.
-#[tactic(auto, unfolding(crate::specs::Payload::whole_name))]
 fn whole_name(octets: &[u8]) -> Option<Name>
     ensures { result ≡ whole_name octets.now }
 {
@@ -150,7 +144,6 @@ pub(crate) fn is_kept(payload: &[u8]) -> bool
 }
 
 /// The number in the first eight octets.
-#[tactic(auto, unfolding(crate::specs::Kept::number_of_eight))]
 fn number_of_eight(octets: &[u8]) -> u64
     requires { 8 ≤ length octets.now }
     ensures { result ≡ number_of_eight octets.now }

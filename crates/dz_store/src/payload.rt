@@ -34,8 +34,6 @@ pub(crate) fn payload_of(alloc: Global, kept: &Kept) -> Result<Vec<u8>, StoreFau
         ⊎ ((e ≡ StoreFault.Unfit) × (is_fit (arc_value kept.now.version) ≡ false))) }
 {
     let version = Arc::try_clone(&kept.version)?;
-    // brings in what is known of a version for this one
-    version.records();
     let outgoing = match Outgoing::start(version, 0) {
         Ok(outgoing) => outgoing,
         Err(_) => return Err(StoreFault::Unfit),
@@ -47,7 +45,6 @@ pub(crate) fn payload_of(alloc: Global, kept: &Kept) -> Result<Vec<u8>, StoreFau
 }
 
 /// What the payload of a kept zone has before the version. `AllocError` where memory runs out.
-#[tactic(auto, unfolding(crate::specs::Kept::head_octets))]
 pub(crate) fn head_octets(alloc: Global, kept: &Kept) -> Result<Vec<u8>, AllocError>
     ensures head { IfOk result (λ v. v.items ≡ head_octets (meaning_of kept.now)) }
     ensures names { OnOk result (IsName kept.now.zone × IsName kept.now.catalog) }
@@ -79,7 +76,6 @@ fn push_label(label: &Option<Label>, out: &mut Vec<u8>) -> Result<(), AllocError
 }
 
 /// A number in eight octets.
-#[tactic(auto, unfolding(crate::specs::Kept::eight))]
 fn eight(number: u64) -> [u8; 8]
     ensures { result ≡ eight number }
 {
@@ -98,7 +94,6 @@ fn push_stream(outgoing: Outgoing, writer: &mut Writer, out: &mut Vec<u8>) -> Re
 }
 
 /// The payload of a forgotten zone. `AllocError` where memory runs out.
-#[tactic(auto, unfolding(crate::specs::Kept::forgotten))]
 pub(crate) fn forgotten(alloc: Global, zone: &Name) -> Result<Vec<u8>, AllocError>
     ensures payload { IfOk result (λ v. v.items ≡ forgotten zone.now) }
     ensures zone { IsName zone.now }

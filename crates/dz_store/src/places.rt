@@ -75,7 +75,6 @@ impl RecordIndex for Places {
 
     /// Whether a payload can be read: whether it is written of a kept or a forgotten zone. `AllocError` where memory
     /// runs out.
-    #[tactic(auto, unfolding(crate::specs::Payload::reads))]
     fn is_payload(alloc: Global, payload: &[u8]) -> Result<bool, AllocError> {
         if MOST < payload.len() as u64 {
             return Ok(false);

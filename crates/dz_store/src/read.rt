@@ -19,7 +19,6 @@ use std::alloc::{AllocError, Global};
 use std::sync::Arc;
 
 /// The kept zone of which a payload is written. `AllocError` where memory runs out.
-#[tactic(auto, unfolding(crate::specs::Payload::kept_of))]
 pub(crate) fn kept_of(alloc: Global, payload: &[u8]) -> Result<Option<Kept>, AllocError>
     ensures { IfOk result (λ o. option_map meaning_of o ≡ kept_of payload.now) }
 {
@@ -50,7 +49,6 @@ fn version_in(alloc: Global, zone: Name, octets: &[u8]) -> Result<Option<Arc<Ver
     let mut taking = Taking::start(alloc, zone, Ask::Axfr, 0, None);
     read_frames(&mut taking, octets)?;
     let finished = taking.finish()?;
-    finished.octets();
     match finished.outcome() {
         Outcome::New(version) => Ok(Some(Arc::try_clone(version)?)),
         Outcome::UpToDate => Ok(None),

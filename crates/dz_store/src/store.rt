@@ -64,8 +64,6 @@ impl<D: Disk + Drop> Store<D> {
         ensures never_unfit { IsErrOf result StoreFault.Unfit → ⊥ }
     {
         let log = RecordLog::<D, Places>::open(alloc, disk)?;
-        // brings in what is known of a list for this one
-        log.index();
         Ok(Store { log })
     }
 
@@ -114,11 +112,8 @@ impl<D: Disk + Drop> Store<D> {
         if self.log.has_failed() {
             return Err(StoreFault::DiskFault);
         }
-        // brings in what is known of a list for this one
-        self.log.index();
         let payload = payload::payload_of(alloc, kept)?;
         self.log.append(alloc, &payload)?;
-        self.log.end();
         Ok(())
     }
 
@@ -158,11 +153,8 @@ impl<D: Disk + Drop> Store<D> {
         if self.log.has_failed() {
             return Err(StoreFault::DiskFault);
         }
-        // brings in what is known of a list for this one
-        self.log.index();
         let payload = payload::forgotten(alloc, zone)?;
         self.log.append(alloc, &payload)?;
-        self.log.end();
         Ok(())
     }
 
@@ -238,7 +230,6 @@ impl<D: Disk + Drop> Store<D> {
         ensures sure { self.now.has_failed ≡ false → (f : List ℕ)
             → D.file self.now.disk ≡ Some f → IsSure f (D.may_leave self.now.disk) }
     {
-        self.log.index();
         self.log.end()
     }
 

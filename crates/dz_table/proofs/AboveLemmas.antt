@@ -1,5 +1,5 @@
 -- The zone above a name.
-use Rattle.std.proofs.Common.{◌≡◌, ℕ, ◌<◌, List, [], ◌∷◌, ◌++◌, length, drop, refl, ap, arith, ◌∙◌, Option, Some, None}
+use Rattle.std.proofs.Common.{◌≡◌, ◌<◌, List, [], ◌∷◌, length, drop, refl, ap, arith, None}
 use Rattle.dz_name.specs.Words.{Name}
 use Rattle.dz_name.specs.Name.{IsWithin}
 use Rattle.dz_table.specs.Slot.{SlotOf}

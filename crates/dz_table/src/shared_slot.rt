@@ -46,8 +46,6 @@ impl SharedSlot {
         ensures slot { IfOk result (λ shared. shared ≡ entry.now.1) }
         ensures counted { steps.new ≡ steps.old + 1 }
     {
-        // the key of an entry is the zone of its slot
-        entry.value();
         Ok(SharedSlot {
             entry: entry.copied(steps)?,
         })

@@ -96,14 +96,7 @@ impl Slot {
         ensures valid { IsSlot self.now }
         ensures held { ForSome self.now.version (λ v. All IsRecord v.records) }
     {
-        match &self.version {
-            None => None,
-            Some(version) => {
-                // what is known of the records of a version is known of the slot's
-                version.records();
-                Some(&**version)
-            }
-        }
+        Version::shared(&self.version)
     }
 
     /// The version as slots share it: a clone of the handle is one more owner of the same records.

@@ -201,7 +201,6 @@ impl Table {
     /// The slot that answers for a name and a type: that of the closest enclosing zone, but for a DS that of the
     /// closest zone above the name, if there is one (RFC 4035 section 3.1.4.1). It takes no more searches than the name
     /// has labels and one, but for a DS as many as there are names above it before these.
-    #[tactic(auto, unfolding(crate::specs::Table::closest_for))]
     pub fn closest<L: Ledger>(&self, name: &Name, kind: u16, steps: &mut Steps<L>) -> Option<&Slot>
         ensures value { option_map (λ r. r.now) result ≡ closest_for self.now name.now kind }
         ensures encloses { IfSome result (λ slot. IsWithin name.now slot.now.zone) }

@@ -95,7 +95,6 @@ impl Finished {
         ensures held { option_map (λ r. r.now.value) result ≡ self.now.transfer.held }
         ensures valid { IsTransfer self.now.transfer }
     {
-        self.transfer.held();
         self.transfer.shared()
     }
 
@@ -107,9 +106,10 @@ impl Finished {
         &self.octets
     }
 
-    /// The octets that were read, by value.
+    /// The octets that were read, by value. All of them are used.
     pub fn into_octets(self) -> Octets
-        ensures { result ≡ self.octets }
+        ensures octets { result ≡ self.octets }
+        ensures used { octets_used self.transfer self.octets ≡ length self.octets }
     {
         self.octets
     }

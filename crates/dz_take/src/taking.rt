@@ -3,7 +3,7 @@
 ghost use Rattle.std.specs.Prelude.{◌≡◌, ◌≤◌, ◌++◌, ◌∷◌, [], None, length, IfOk, OnOk, OnErr, option_map};
 ghost use Rattle.std.specs.Arc.{arc_value};
 ghost use Rattle.dz_message.specs.Frame.{frame, messages_in};
-ghost use Rattle.dz_take.specs.Outcome.{decided};
+ghost use Rattle.dz_take.specs.Outcome.{decided, octets_used};
 ghost use Rattle.dz_take.specs.Taken.{nothing_read, IsOfZone, CanAsk, Shows};
 ghost use Rattle.dz_take.specs.inner.Following.{IsProgress, IsOutcome};
 
@@ -97,13 +97,14 @@ impl Taking {
         }
     }
 
-    /// The transfer with what came of it. No version is hashed here ([`Finished::digested`]).
+    /// The transfer with what came of it; all of its octets are used. No version is hashed here ([`Finished::digested`]).
     ///
     /// # Errors
     ///
     /// `AllocError` where memory runs out.
     pub fn finish(self) -> Result<Finished, AllocError>
-        ensures { IfOk result (λ f. f ≡ self) }
+        ensures same { IfOk result (λ f. f ≡ self) }
+        ensures used { IfOk result (λ f. octets_used f.transfer f.octets ≡ length f.octets) }
     {
         let outcome = outcome_of(self.state);
         Ok(Finished::new(self.transfer, Octets::from_vec(self.octets), outcome))

@@ -82,9 +82,10 @@ impl Transfer {
         self.id
     }
 
-    /// The held version as it is shared.
+    /// The held version, which is of the zone, as it is shared.
     pub fn shared(&self) -> Option<&Arc<Version>>
-        ensures { option_map (λ r. r.now.value) result ≡ self.now.held }
+        ensures held { option_map (λ r. r.now.value) result ≡ self.now.held }
+        ensures valid { IsTransfer self.now }
     {
         self.held.as_ref()
     }

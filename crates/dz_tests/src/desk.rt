@@ -18,7 +18,6 @@ use std::sync::{Arc, Wait};
 use std::test::*;
 
 /// The entry of a configuration, with its table.
-#[tactic(auto, unfolding(dz_history::specs::Legal::IsLegalFrom, dz_history::specs::After::step))]
 fn setup(alloc: Global, config: Config) -> Result<Step, AllocError>
     requires { IsAllowed config }
     ensures legal { IfOk result (λ step. IsLegal (step.entry ∷ [])) }

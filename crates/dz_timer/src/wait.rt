@@ -11,7 +11,6 @@ pub(crate) struct Wait {
 }
 
 /// The wait for the earlier moment; for the same moment the one at the lower place.
-#[tactic(auto, unfolding(crate::specs::inner::Tournament::earlier))]
 pub(crate) fn earlier(a: Wait, b: Wait) -> Wait
     ensures { result ≡ earlier a b }
 {

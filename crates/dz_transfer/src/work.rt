@@ -102,24 +102,20 @@ fn transfer<B: Jobs, D: Dialer, C: Clock, R: Wait>(
     ensures give { C.may_give clock.new ≡ C.may_give clock.old }
     ensures stop { C.may_stop clock.new ≡ C.may_stop clock.old }
 {
-    // what is known of a list that was seen is known of the reading's
     match fetch(alloc, dialer, &job) {
         Fetched::Finished(finished) => {
             let now = clock.now();
             let ended = jobs.settle(rt, alloc, reading, job, finished, now);
-            reading.count();
             dialled(settled_report(ended.answer), ended.ending)
         }
         Fetched::LinkFault => {
             let now = clock.now();
             let ended = jobs.fail(rt, reading, job, now);
-            reading.count();
             dialled(failed_report(ended.answer, Report::LinkFault), ended.ending)
         }
         Fetched::OutOfMemory => {
             let now = clock.now();
             let ended = jobs.starve(rt, reading, job, now);
-            reading.count();
             dialled(
                 failed_report(ended.answer, Report::OutOfMemory),
                 ended.ending,

@@ -100,7 +100,6 @@ pub(crate) fn start_after(key: &Key, prior: &[u8; MAC_OCTETS]) -> MacHasher
 }
 
 /// Judges one more message: what is known after it, or its fault.
-#[tactic(auto, unfolding(crate::specs::Checking::step))]
 fn step(
     key: &Key,
     moment: u64,
@@ -219,7 +218,6 @@ fn mac_of(
 }
 
 /// Puts a message without its TSIG.
-#[tactic(auto, unfolding(crate::specs::Signing::without_tsig))]
 fn put_without_tsig(mac: &mut MacHasher, message: &[u8], tsig: &Tsig<'_>)
     requires { IsPlacedTsig message.now tsig.now }
     ensures { (key text : Octets) → IsOf mac.old key text

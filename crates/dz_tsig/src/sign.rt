@@ -27,7 +27,6 @@ pub const FUDGE: u16 = 300;
 const RDATA_OCTETS: u16 = 61;
 
 /// The algorithm's name, `hmac-sha256.` (RFC 8945 section 6).
-#[tactic(auto, unfolding(dz_name::specs::Name::wire_of))]
 pub(crate) fn algorithm() -> Name
     ensures { result ≡ hmac_sha256 }
 {
@@ -78,7 +77,6 @@ pub(crate) fn put_error(mac: &mut MacHasher, error: u16, other: &[u8])
 }
 
 /// The MAC with which a query is signed (RFC 8945 section 5.1). The MACs of its answer cover it too.
-#[tactic(auto, unfolding(crate::specs::Signing::request_mac))]
 pub fn request_mac(key: &Key, query: &[u8], moment: u64) -> [u8; MAC_OCTETS]
     requires { IsKey key.now }
     ensures { result ≡ request_mac key.now query.now moment }
@@ -95,7 +93,6 @@ pub fn request_mac(key: &Key, query: &[u8], moment: u64) -> [u8; MAC_OCTETS]
 /// # Errors
 ///
 /// `AllocError` where memory runs out.
-#[tactic(auto, unfolding(crate::specs::Signing::signed))]
 pub fn sign_query(alloc: Global, key: &Key, query: &[u8], moment: u64) -> Result<Octets, AllocError>
     requires key { IsKey key.now }
     requires header { HEADER_OCTETS ≤ length query.now }
@@ -110,7 +107,6 @@ pub fn sign_query(alloc: Global, key: &Key, query: &[u8], moment: u64) -> Result
 }
 
 /// Appends a message with a TSIG. `AllocError` where memory runs out.
-#[tactic(auto, unfolding(crate::specs::Signing::with_tsig))]
 pub(crate) fn push_signed(
     key: &Name,
     time: u64,
@@ -154,7 +150,6 @@ fn push_tsig(
 }
 
 /// Appends type, class, TTL and the length of RDATA. `AllocError` where memory runs out.
-#[tactic(auto, unfolding(crate::specs::Signing::tsig_head))]
 fn push_head(size: u16, out: &mut Vec<u8>) -> Result<(), AllocError>
     ensures { OnOk result (out.new.items ≡ out.old.items ++ tsig_head size) }
 {
@@ -165,7 +160,6 @@ fn push_head(size: u16, out: &mut Vec<u8>) -> Result<(), AllocError>
 }
 
 /// Appends RDATA. `AllocError` where memory runs out.
-#[tactic(auto, unfolding(crate::specs::Signing::tsig_rdata))]
 fn push_rdata(
     time: u64,
     mac: &[u8; MAC_OCTETS],

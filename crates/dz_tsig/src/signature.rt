@@ -28,7 +28,6 @@ pub(crate) enum Signature<'m> {
 }
 
 /// The TSIG of a message.
-#[tactic(auto, unfolding(crate::specs::Signature::signature_of))]
 pub(crate) fn signature_of(message: &[u8]) -> Signature<'_>
     ensures value { result ≡ signature_of message.now }
     ensures placed { IsPlaced message.now result }

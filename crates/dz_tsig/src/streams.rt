@@ -80,7 +80,6 @@ fn are_messages(alloc: Global, octets: &Octets) -> Result<bool, AllocError>
 }
 
 /// Whether octets are a message. `AllocError` where memory runs out.
-#[tactic(auto, unfolding(crate::specs::Streams::is_message))]
 fn is_message(alloc: Global, octets: &[u8]) -> Result<bool, AllocError>
     ensures { IfOk result (λ b. b ≡ is_message octets.now) }
 {
@@ -142,7 +141,6 @@ fn push_signed_frame(
 }
 
 /// The MAC of a message that follows another MAC.
-#[tactic(auto, unfolding(crate::specs::Streams::next_mac))]
 fn next_mac(
     key: &Key,
     prior: &[u8; MAC_OCTETS],

@@ -48,7 +48,6 @@ impl<'m> Model for Tsig<'m> {
 
 /// The TSIG that begins at an offset of a message and ends it; none where class or TTL isn't a TSIG's, or where its
 /// owner name or RDATA can't be read.
-#[tactic(auto, unfolding(crate::specs::Signature::tsig_at))]
 pub(crate) fn tsig_at<'m>(
     message: &'m [u8],
     at: usize,
@@ -74,7 +73,6 @@ pub(crate) fn tsig_at<'m>(
 
 /// The TSIG of these names, of the rest of its RDATA: time, fudge and MAC size in ten octets; the MAC; original ID,
 /// error and other length in six; other data.
-#[tactic(auto, unfolding(crate::specs::Tsig::after_names, crate::specs::Tsig::after_size))]
 fn after_names(at: usize, key: Name, algorithm: Name, octets: &[u8]) -> Option<Tsig<'_>>
     ensures value { result ≡ after_names at key algorithm octets.now }
     ensures at { IfSome result (λ t. t.at ≡ at) }
@@ -105,7 +103,6 @@ fn after_names(at: usize, key: Name, algorithm: Name, octets: &[u8]) -> Option<T
 }
 
 /// The number in the first six octets.
-#[tactic(auto, unfolding(crate::specs::Numbers::number_of_six))]
 fn number_of_six(octets: &[u8]) -> u64
     requires { 6 ≤ length octets.now }
     ensures { result ≡ number_of_six octets.now }
@@ -116,7 +113,6 @@ fn number_of_six(octets: &[u8]) -> u64
 }
 
 /// A number of six octets.
-#[tactic(auto, unfolding(crate::specs::Numbers::six))]
 pub(crate) fn six(number: u64) -> [u8; 6]
     ensures { result ≡ six number }
 {

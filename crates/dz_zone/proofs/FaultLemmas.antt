@@ -2,7 +2,7 @@
 use Rattle.std.proofs.Common.{◌≡◌, ℕ, ◌≤◌, Bool, true, false, not, ◌&&◌, ◌||◌, cond, List, [], ◌∷◌, length, refl, sym, ◌∙◌, ap, subst, arith, is_lt, Ordering, Less, Equal, Greater, Some, None, inl, inr, get_or, take, drop, suc, ◌-◌}
 use Rattle.std.proofs.lemmas.List.{take_all}
 use Rattle.std.specs.Ordering.{ordering_reverse, ordering_then, nat_cmp}
-use Rattle.std.specs.Prelude.{filter, ◌==◌, nat_lt, if◌then◌else◌}
+use Rattle.std.specs.Prelude.{All, filter, ◌==◌, nat_lt, if◌then◌else◌}
 use Rattle.std.specs.List.{list_any, find, IsAllAdjacentAnswer}
 use Rattle.std.specs.List.Sorted.{IsStrictlySortedBy}
 use Rattle.std.specs.Cmp.{tied_itself}
@@ -10,7 +10,7 @@ use Rattle.std.proofs.lemmas.Bool.{cases_Bool, and_parts, not-true, eqb-true}
 use Rattle.std.proofs.lemmas.Bool.Decides.{nat_tests}
 use Rattle.dz_name.specs.Name.{same_name, canonical_order, is_within}
 use Rattle.dz_name.specs.Order.{canonical_total, canonical_same, same_decides, names_equal}
-use Rattle.dz_record.specs.Record.{Record, record_order, soa_of}
+use Rattle.dz_record.specs.Record.{Record, IsRecord, record_order, soa_of}
 use Rattle.dz_record.specs.Records.{in_order}
 use Rattle.dz_zone.specs.inner.Neighbours.{neighbours_from, neighbours}
 use Rattle.dz_zone.specs.Valid.{some_two, at_apex, no_soa, soa_twice, soa_below, no_ns, out_of_zone, cname_beside, owned_twice, too_many, is_beside_any, is_cname_and_other, clash, both_are, fault_of}
@@ -213,6 +213,15 @@ found_passes p (s ∷ rs) r e =
     elim (cases_Bool (p s)) [
       | inl t ↦ let g : Some r ≡ Some s = rw t at e in let q : r ≡ s = cc in rw q t
       | inr f ↦ found_passes p rs r (rw f at e)
+    ]
+
+-- what is known of all records is known of one that is found
+pub found_held : (p : Record → Bool) (rs : List Record) (r : Record) → Some r ≡ find p rs → All IsRecord rs → IsRecord r
+found_held p [] r e held = absurd (cc)
+found_held p (s ∷ rs) r e held =
+    elim (cases_Bool (p s)) [
+      | inl t ↦ let g : Some r ≡ Some s = rw t at e in let q : r ≡ s = cc in rw q (held 0 s (omega arith))
+      | inr f ↦ found_held p rs r (rw f at e) (λ k d lt. held (suc k) d (omega arith))
     ]
 
 pub soa_kind : (apex : List (List ℕ)) (rs : List Record) (r : Record) → Some r ≡ find (at_apex 6 apex) rs → soa_of r ≡ None → ⊥

@@ -5,7 +5,7 @@ use Rattle.std.proofs.lemmas.List.{get_or_default, get_or_append_left, get_or_pu
 use Rattle.std.proofs.lemmas.Bool.{cases_lt}
 use Rattle.std.proofs.lemmas.Bool.Decides.{nat_tests}
 use Rattle.std.specs.Prelude.{nat_lt}
-use Rattle.dz_record.specs.Record.{Record}
+use Rattle.dz_record.specs.Record.{Record, IsRecord}
 use Rattle.dz_zone.specs.Version.{IsLastNsec}
 use Rattle.dz_zone.specs.inner.Kept.{AreNsecs}
 
@@ -102,3 +102,11 @@ upto_all upto records nsecs le ge are = record {
   complete = λ k d lt e. are.complete k d (omega arith) e;
   rise = are.rise;
 }
+
+-- what is known of the record at a place, and of those before it
+pub held_more : (upto : ℕ) (records : List Record) (r : Record) → ((d : Record) → r ≡ get_or records upto d) → IsRecord r
+    → ((k : ℕ) (d : Record) → k < upto → IsRecord (get_or records k d)) → (k : ℕ) (d : Record) → k < upto + 1 → IsRecord (get_or records k d)
+held_more upto records r there held below k d lt = elim (cases_lt k upto) [
+  | inl less ↦ below k d less
+  | inr ge ↦ let e : k ≡ upto = omega arith in rw e (subst IsRecord (there d) held)
+]

@@ -1,11 +1,11 @@
 //! The index of a version.
 
-ghost use Rattle.std.specs.Prelude.{◌≡◌, ◌==◌, ◌&&◌, ◌<◌, ◌≤◌, not, [], length, take, false, slice_index_or, IfOk, IfSome, IsTrue};
+ghost use Rattle.std.specs.Prelude.{◌≡◌, ◌==◌, ◌&&◌, ◌<◌, ◌≤◌, not, [], length, take, false, slice_index_or, All, IfOk, IfSome, IsTrue};
 ghost use Rattle.std.specs.Ordering.{is_gt};
 ghost use Rattle.std.specs.List.{list_any};
 ghost use Rattle.std.specs.List.Sorted.{IsStrictlySortedBy};
 ghost use Rattle.dz_name.specs.Name.{same_name};
-ghost use Rattle.dz_record.specs.Record.{record_order};
+ghost use Rattle.dz_record.specs.Record.{IsRecord, record_order};
 ghost use Rattle.dz_index.specs.Index.{order_behind};
 ghost use Rattle.dz_index.specs.Rows.{IsIndex};
 ghost use Rattle.dz_zone.specs.Version.{owners_of, is_of_dnssec};
@@ -133,7 +133,8 @@ fn is_of_dnssec(kind: u16) -> bool
 /// The places of the NSEC records, in order. The error is out of memory.
 pub(crate) fn nsecs_of(alloc: Global, records: &[Rr]) -> Result<Vec<u32>, AllocError>
     requires { length records.now ≤ ZONE_RECORDS }
-    ensures { IfOk result (λ nsecs. AreNsecs records.now nsecs.items) }
+    ensures nsecs { IfOk result (λ nsecs. AreNsecs records.now nsecs.items) }
+    ensures held { IfOk result (λ _. All IsRecord records.now) }
 {
     let mut nsecs = Vec::new(alloc);
     'records: for place in 0..records.len() {

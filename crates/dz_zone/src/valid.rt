@@ -16,7 +16,6 @@ use dz_name::dns::{
 use dz_record::Rr;
 
 /// The first fault that holds.
-#[tactic(auto, unfolding(crate::specs::Valid::fault_of))]
 pub(crate) fn fault_of(apex: &Name, records: &[Rr]) -> Option<ZoneFault>
     requires { IsStrictlySortedBy record_order records.now }
     ensures { result ≡ fault_of apex.now records.now }
@@ -120,7 +119,6 @@ fn is_cname_and_other(first: &Rr, other: &Rr) -> bool
 
 /// Whether two records have one owner, and one is a CNAME and the other of a type that may not be beside it. Types are
 /// quicker to tell apart than owners, so they are compared first.
-#[tactic(auto, unfolding(crate::specs::Valid::clash))]
 fn clash(a: &Rr, b: &Rr) -> bool
     ensures { result ≡ clash a.now b.now }
 {
@@ -128,7 +126,6 @@ fn clash(a: &Rr, b: &Rr) -> bool
 }
 
 /// Whether two records have one owner and are of this type; the types are compared first.
-#[tactic(auto, unfolding(crate::specs::Valid::both_are))]
 fn both_are(kind: u16, a: &Rr, b: &Rr) -> bool
     ensures { result ≡ both_are kind a.now b.now }
 {

@@ -4,7 +4,8 @@ ghost use Rattle.std.specs.Prelude.{◌≡◌, Some, None, All, true, option_map
 ghost use Rattle.dz_name.specs.Name.{is_within};
 ghost use Rattle.std.specs.List.{find};
 ghost use Rattle.std.specs.List.Sorted.{IsStrictlySortedBy};
-ghost use Rattle.std.specs.Option.{option_and_then};
+ghost use Rattle.std.specs.Option.{option_and_then, ForSome};
+ghost use Rattle.std.specs.Arc.{arc_value};
 ghost use Rattle.dz_record.specs.Record.{soa_of, IsRecord, record_order};
 ghost use Rattle.dz_index.specs.Rows.{IsIndex};
 ghost use Rattle.dz_zone.specs.Version.{IsValid, apex_soa, owners_of, has_cuts, has_dnames, is_secure, IsLastNsec};
@@ -19,9 +20,10 @@ use crate::valid::fault_of;
 use dz_index::Index;
 use dz_name::dns::TYPE_SOA;
 use dz_name::{Name, NameRef};
-use dz_record::{Rr, Soa, look_at_all};
+use dz_record::{Rr, Soa};
 use std::alloc::Global;
 use std::marker::Model;
+use std::sync::Arc;
 
 /// A version of a zone: its distinct records in canonical order, which have no fault, so that the apex owns the first.
 /// With them it has an index of the owners and the places of NSEC records, and it knows whether there is a zone cut, a
@@ -49,6 +51,20 @@ impl Model for Version {
 }
 
 impl Version {
+    /// The version that a handle leads to, if there is one.
+    pub fn shared(handle: &Option<Arc<Version>>) -> Option<&Version>
+        ensures version { option_map (λ r. r.now) result ≡ option_map arc_value handle.now }
+        ensures held { ForSome (option_map arc_value handle.now) (λ v. All IsRecord v.records) }
+    {
+        match handle {
+            None => None,
+            Some(version) => {
+                let _ = &version.records;
+                Some(&**version)
+            }
+        }
+    }
+
     /// The name of the apex, as the first record has it.
     pub fn apex(&self) -> NameRef<'_>
         ensures { result ≡ self.now.apex }
@@ -78,21 +94,24 @@ impl Version {
 
     /// Whether there is a zone cut: a name below the apex that owns an NS record (RFC 1034 section 4.2.1).
     pub fn has_cuts(&self) -> bool
-        ensures { result ≡ has_cuts self.now }
+        ensures cuts { result ≡ has_cuts self.now }
+        ensures valid { IsValid self.now }
     {
         self.has_cuts
     }
 
     /// Whether a name owns a DNAME (RFC 6672).
     pub fn has_dnames(&self) -> bool
-        ensures { result ≡ has_dnames self.now }
+        ensures dnames { result ≡ has_dnames self.now }
+        ensures valid { IsValid self.now }
     {
         self.has_dnames
     }
 
     /// Whether there is a record of DNSSEC: a DS, an RRSIG or an NSEC (RFC 4034).
     pub fn is_secure(&self) -> bool
-        ensures { result ≡ is_secure self.now }
+        ensures secure { result ≡ is_secure self.now }
+        ensures valid { IsValid self.now }
     {
         self.is_secure
     }
@@ -113,7 +132,8 @@ impl Version {
 
     /// The SOA record of the apex. It is among the first of the records, since the apex comes first.
     pub fn apex_soa(&self) -> &Rr
-        ensures { Some result.now ≡ apex_soa self.now }
+        ensures soa { Some result.now ≡ apex_soa self.now }
+        ensures held { IsRecord result.now }
     {
         match find_at_apex(TYPE_SOA, &self.apex(), self.records.as_slice()) {
             Some(record) => record,
@@ -183,6 +203,7 @@ fn version_of(apex: &Name, records: Vec<Rr>, index: Index, nsecs: Vec<u32>) -> V
     requires faultless { fault_of apex.now records.items ≡ None }
     requires indexed { IsIndex (owners_of records.items) index }
     requires nsecs { AreNsecs records.items nsecs.items }
+    requires held { All IsRecord records.items }
     ensures { result ≡ zone_in records.items }
 {
     fitted(made_of(apex, records, index, nsecs))
@@ -219,9 +240,9 @@ fn made_of(apex: &Name, records: Vec<Rr>, index: Index, nsecs: Vec<u32>) -> Vers
     requires faultless { fault_of apex.now records.items ≡ None }
     requires indexed { IsIndex (owners_of records.items) index }
     requires nsecs { AreNsecs records.items nsecs.items }
+    requires held { All IsRecord records.items }
     ensures { result ≡ zone_in records.items }
 {
-    prove!(are_records(records.as_slice()));
     let has_cuts = has_cuts(apex, records.as_slice());
     let has_dnames = has_dnames(records.as_slice());
     let is_secure = is_secure(records.as_slice());
@@ -233,15 +254,6 @@ fn made_of(apex: &Name, records: Vec<Rr>, index: Index, nsecs: Vec<u32>) -> Vers
         is_secure,
         nsecs,
     }
-}
-
-/// What is known of every record is known of all of these.
-fn are_records(records: &[Rr]) -> bool
-    ensures value { result ≡ true }
-    ensures held { All IsRecord records.now }
-{
-    look_at_all(records);
-    true
 }
 
 /// The first record of the apex and of the type, if there is one.

@@ -49,7 +49,6 @@ fn standing_from<L: Ledger>(blank: Blank, apex: &Name, records: &[Rr]) -> Standi
 
 /// The same as [`standing`]. A step is one hash of the zone: there are two at most, one for each algorithm of which one
 /// record alone is.
-#[tactic(auto, unfolding(crate::specs::Standing::standing))]
 pub fn counted_standing<L: Ledger>(apex: &Name, records: &[Rr], steps: &mut Steps<L>) -> Standing
     requires { IsStrictlySortedBy record_order records.now }
     ensures value { result ≡ standing apex.now records.now }

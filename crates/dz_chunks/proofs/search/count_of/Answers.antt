@@ -1,4 +1,4 @@
-use Rattle.std.proofs.Common.{arith, ap, sym, ◌∙◌, ◌-◌, ◌+◌, ◌≡◌, ◌/◌, ◌<◌, length, true, false}
+use Rattle.std.proofs.Common.{arith, sym, ◌∙◌, ◌-◌, ◌+◌, ◌≡◌, true, false}
 use Rattle.dz_chunks.proofs.SearchLemmas.{halved, doubled, before_more, behind_more}
 use Rattle.dz_chunks.proofs.search.count_of.Goals as goal
 

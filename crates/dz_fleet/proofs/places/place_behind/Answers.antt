@@ -1,6 +1,4 @@
-use Rattle.std.proofs.Common.{sym, ◌∙◌, ap, refl, arith}
-use Rattle.std.specs.Prelude.{length}
-use Rattle.std.proofs.lemmas.List.{length-map}
+use Rattle.std.proofs.Common.{refl, arith}
 use Rattle.dz_name.specs.Name.{same_name}
 use Rattle.dz_history.proofs.FindLemmas.{place_within}
 use Rattle.dz_history.proofs.PlaceLemmas.{place_catalog, place_member}
@@ -9,8 +7,8 @@ use Rattle.dz_fleet.proofs.places.place_behind.Goals as goal
 pub overflow_add-result : goal.overflow_add-result
 overflow_add-result c =
     let w = place_within (λ m. same_name m.zone c.args.zone.now) c.args.holdings.now.fold.members c.args.member c.requires in
-    let many = sym (length-map c.memberships-members.result.now _) ∙ ap length (rw c.fold-fold.ensures.fold at c.memberships-members.ensures.members) in
-    omega (arith, w, many, c.catalogs-catalogs.type_inv, c.memberships-members.type_inv)
+    let few = rw c.fold-fold.ensures.fold at c.catalogs-catalogs.ensures.few in
+    omega (arith, w, few, c.catalogs-catalogs.type_inv)
 
 pub returns-in-Some : goal.returns-in-Some
 returns-in-Some c = place_catalog c.args.holdings.now c.args.zone.now c.in-Some.number (rw c.fold-fold.ensures.fold at c.in-Some.ensures)

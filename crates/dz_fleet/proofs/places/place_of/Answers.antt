@@ -1,6 +1,4 @@
-use Rattle.std.proofs.Common.{sym, ◌∙◌, ap, refl, arith}
-use Rattle.std.specs.Prelude.{length}
-use Rattle.std.proofs.lemmas.List.{length-map}
+use Rattle.std.proofs.Common.{sym, refl, arith}
 use Rattle.dz_name.specs.Name.{same_name}
 use Rattle.dz_history.proofs.FindLemmas.{place_within}
 use Rattle.dz_history.proofs.PlaceLemmas.{place_catalog, place_member}
@@ -9,8 +7,7 @@ use Rattle.dz_fleet.proofs.places.place_of.Goals as goal
 pub overflow_add-result : goal.overflow_add-result
 overflow_add-result c =
     let w = place_within (λ m. same_name m.zone c.args.zone.now) c.fold-fold.result.now.members c.in-Some-place_of.place c.in-Some-place_of.ensures in
-    let many = sym (length-map c.memberships-members.result.now _) ∙ ap length c.memberships-members.ensures.members in
-    omega (arith, w, many, c.catalogs-catalogs.type_inv, c.memberships-members.type_inv)
+    omega (arith, w, c.catalogs-catalogs.ensures.few, c.catalogs-catalogs.type_inv)
 
 pub returns-in-Some : goal.returns-in-Some
 returns-in-Some c = sym (place_catalog c.args.holdings.now c.args.zone.now c.in-Some.number (rw c.fold-fold.ensures.fold at c.in-Some.ensures))

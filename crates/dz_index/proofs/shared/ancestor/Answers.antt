@@ -5,5 +5,5 @@ use Rattle.dz_index.proofs.shared.ancestor.Goals as goal
 pub of_wire-requires : goal.of_wire-requires
 of_wire-requires c = is_wire _ _ c.behind.ensures.name c.behind.ensures.wire
 
-pub returns : goal.returns
-returns c = c.of_wire.ensures ∙ labels_of-wire _ _ c.behind.ensures.name c.behind.ensures.wire
+pub returns-clause-rest : goal.returns-clause-rest
+returns-clause-rest c = c.of_wire.ensures ∙ labels_of-wire _ _ c.behind.ensures.name c.behind.ensures.wire

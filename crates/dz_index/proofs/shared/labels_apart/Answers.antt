@@ -7,30 +7,30 @@ use Rattle.dz_index.proofs.shared.labels_apart.Goals as goal
 
 pub labels-init : goal.labels-init
 labels-init c = record {
-  near = c.ancestor-near.ensures;
+  near = c.ancestor-near.ensures.rest;
   within = omega arith;
-  far = ([], sym c.ancestor-far.ensures);
-  keep = λ zone w v. (rw c.ancestor-near.ensures w, rw c.ancestor-far.ensures v);
+  far = ([], sym c.ancestor-far.ensures.rest);
+  keep = λ zone w v. (rw c.ancestor-near.ensures.rest w, rw c.ancestor-far.ensures.rest v);
 }
 
 pub above-near-requires : goal.above-near-requires
 above-near-requires c =
     let apart : c.labels.near ≢ c.labels.far = λ e. false≢true (sym c.labels-test.true ∙ c.same.ensures.equal.1 e) in
-    some_left c.labels.near c.labels.far apart (omega (arith, c.if-wire.true, ap length c.wire-in-labels.ensures.wire, ap length c.wire-in-labels-2.ensures.wire))
+    some_left c.labels.near c.labels.far apart (omega (arith, c.if-wire.true, ap length c.wire.ensures.wire, ap length c.wire-in-labels.ensures.wire))
 
 pub overflow_add-apart : goal.overflow_add-apart
-overflow_add-apart c = omega (arith, few_labels _ c.wire.ensures.name, c.labels.invariant.within)
+overflow_add-apart c = omega (arith, few_labels _ c.ancestor-near.ensures.name, c.labels.invariant.within)
 
 pub labels-smaller-then-wire : goal.labels-smaller-then-wire
 labels-smaller-then-wire c =
     let apart : c.labels.near ≢ c.labels.far = λ e. false≢true (sym c.labels-test.true ∙ c.same.ensures.equal.1 e) in
-    let some = some_left c.labels.near c.labels.far apart (omega (arith, c.if-wire.true, ap length c.wire-in-labels.ensures.wire, ap length c.wire-in-labels-2.ensures.wire)) in
+    let some = some_left c.labels.near c.labels.far apart (omega (arith, c.if-wire.true, ap length c.wire.ensures.wire, ap length c.wire-in-labels.ensures.wire)) in
     omega (arith, some, ap length c.above-near.ensures, length-drop 1 c.labels.near)
 
 pub labels-preserved-then-wire : goal.labels-preserved-then-wire
 labels-preserved-then-wire c =
     let apart : c.labels.near ≢ c.labels.far = λ e. false≢true (sym c.labels-test.true ∙ c.same.ensures.equal.1 e) in
-    let long : length (wire_of c.labels.far) ≤ length (wire_of c.labels.near) = omega (arith, c.if-wire.true, ap length c.wire-in-labels.ensures.wire, ap length c.wire-in-labels-2.ensures.wire) in
+    let long : length (wire_of c.labels.far) ≤ length (wire_of c.labels.near) = omega (arith, c.if-wire.true, ap length c.wire.ensures.wire, ap length c.wire-in-labels.ensures.wire) in
     let some = some_left c.labels.near c.labels.far apart long in
     record {
       near = further c.args.name.now _ _ c.labels.apart c.labels.invariant.near c.above-near.ensures;
@@ -41,16 +41,16 @@ labels-preserved-then-wire c =
     }
 
 pub above-far-requires : goal.above-far-requires
-above-far-requires c = longer_left c.labels.near c.labels.far (omega (arith, c.if-wire.false, ap length c.wire-in-labels.ensures.wire, ap length c.wire-in-labels-2.ensures.wire))
+above-far-requires c = longer_left c.labels.near c.labels.far (omega (arith, c.if-wire.false, ap length c.wire.ensures.wire, ap length c.wire-in-labels.ensures.wire))
 
 pub labels-smaller : goal.labels-smaller
 labels-smaller c =
-    let some = longer_left c.labels.near c.labels.far (omega (arith, c.if-wire.false, ap length c.wire-in-labels.ensures.wire, ap length c.wire-in-labels-2.ensures.wire)) in
+    let some = longer_left c.labels.near c.labels.far (omega (arith, c.if-wire.false, ap length c.wire.ensures.wire, ap length c.wire-in-labels.ensures.wire)) in
     omega (arith, some, ap length c.above-far.ensures, length-drop 1 c.labels.far)
 
 pub labels-preserved : goal.labels-preserved
 labels-preserved c =
-    let long : length (wire_of c.labels.near) < length (wire_of c.labels.far) = omega (arith, c.if-wire.false, ap length c.wire-in-labels.ensures.wire, ap length c.wire-in-labels-2.ensures.wire) in
+    let long : length (wire_of c.labels.near) < length (wire_of c.labels.far) = omega (arith, c.if-wire.false, ap length c.wire.ensures.wire, ap length c.wire-in-labels.ensures.wire) in
     record {
       near = c.labels.invariant.near;
       within = c.labels.invariant.within;

@@ -1,12 +1,24 @@
-use Rattle.std.proofs.Common.{◌≡◌, sym, ◌∙◌, map, append-nil}
+use Rattle.std.proofs.Common.{rules, ◌≡◌, sym, ◌∙◌, map, append-nil}
+use Rattle.std.proofs.lemmas.List.Elements.{recursion_from_All}
 use Rattle.std.specs.Prelude.{drop}
 use Rattle.std.specs.Option.{option_map}
 use Rattle.dz_member.specs.Membership.{shown, settings_at, IsNumbered}
 use Rattle.dz_member.specs.Process.{in_zone_order}
 use Rattle.dz_member.specs.inner.Walk.{judge_of, pair_of}
+use Rattle.dz_member.proofs.OrderLemmas.{sorted_rise}
 use Rattle.dz_member.proofs.SpotLemmas.{steps, spots_end, first_behind, left_of}
 use Rattle.dz_member.proofs.WalkedLemmas.{parts_of, is_some_map, walked_members, walked_changes}
 use Rattle.dz_member.proofs.walk.walk.Goals as goal
+
+pub zones-init : goal.zones-init
+zones-init c = record {
+  held = c.memberships-members.ensures.order;
+  listed = sorted_rise c.args.listing.now c.nodes-nodes.ensures.listing.zones;
+  numbered = recursion_from_All (IsNumbered c.args.fold.now.config) _ c.memberships-members.ensures.numbered;
+  kept = search rules;
+  members = search rules;
+  changes = search rules;
+}
 
 pub zones-smaller : goal.zones-smaller
 zones-smaller c =
@@ -17,7 +29,7 @@ zones-smaller c =
     let p = pair_of c.in-Some.pair in
     let first = sym (rw (c.node_by_zone.ensures, first_behind ns c.zones.at) at c.in-Some.ensures) in
     let s = steps judge c.zones.held.now (drop c.zones.at ns) p (map (shown fold.config) c.zones.processed.members.items) c.zones.processed.changes.items _ _ (inv.held, inv.listed) first inv.members inv.changes in
-    let next : drop c.behind-at.result ns ≡ left_of p (drop c.zones.at ns) = rw (is_some_map (λ r. r.now) c.in-Some.pair.node, ← c.is_some.ensures) c.behind-at.ensures in
+    let next : drop c.behind-at.result ns ≡ left_of p (drop c.zones.at ns) = rw (is_some_map (λ r. r.now) c.in-Some.pair.node, ← c.is_some.ensures) (rw c.nodes-nodes.ensures.nodes at c.behind-at.ensures) in
     rw next s.goes.less
 
 pub zones-preserved : goal.zones-preserved
@@ -30,7 +42,7 @@ zones-preserved c =
     let o = option_map (λ r. r.now) c.node_by_zone.result in
     let first = sym (rw (c.node_by_zone.ensures, first_behind ns c.zones.at) at c.in-Some.ensures) in
     let s = steps judge c.zones.held.now (drop c.zones.at ns) p (map (shown fold.config) c.zones.processed.members.items) c.zones.processed.changes.items _ _ (inv.held, inv.listed) first inv.members inv.changes in
-    let next : drop c.behind-at.result ns ≡ left_of p (drop c.zones.at ns) = rw (is_some_map (λ r. r.now) c.in-Some.pair.node, ← c.is_some.ensures) c.behind-at.ensures in
+    let next : drop c.behind-at.result ns ≡ left_of p (drop c.zones.at ns) = rw (is_some_map (λ r. r.now) c.in-Some.pair.node, ← c.is_some.ensures) (rw c.nodes-nodes.ensures.nodes at c.behind-at.ensures) in
     let parts = parts_of (IsNumbered fold.config) c.zones.held.now o p (sym c.in-Some.ensures) inv.numbered in
     record {
       held = s.goes.held;

@@ -15,3 +15,10 @@ returns-clause-spells c =
     let header = subst IsHeader c.query_header.ensures c.in_ok-write_head.ensures.held in
     let question = subst IsAsking c.query_question.ensures c.in_ok-write_question.ensures.held in
     subst (λ o. Spells o (query_content c.args.id c.args.zone.now held)) (sym octets) (query_spells c.args.id c.args.zone.now held header question c.in_ok-write_held.ensures.held)
+
+pub returns-clause-octets : goal.returns-clause-octets
+unfolding query_octets
+returns-clause-octets c = grind (arith, common_steps)
+
+pub returns-clause-name : goal.returns-clause-name
+returns-clause-name c = (subst IsAsking c.query_question.ensures c.in_ok-write_question.ensures.held).name

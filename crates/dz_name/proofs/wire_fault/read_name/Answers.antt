@@ -1,6 +1,6 @@
 use Rattle.std.proofs.Common.{◌+◌, refl, arith, length-append, [], ◌∷◌}
 use Rattle.dz_name.specs.Name.{wire_of}
-use Rattle.dz_name.specs.Reading.{at_root, at_label, at_pointer, no_octet, cut_label, cut_pointer, bad_kind, forward, too_long, label_at, target_at}
+use Rattle.dz_name.specs.Reading.{at_root, at_label, at_pointer, no_octet, cut_pointer, bad_kind, forward, label_at, target_at}
 use Rattle.dz_name.proofs.ReadingLemmas.{in_front-root, in_front-label, in_front-pointer, in_front-nothing, length_label}
 use Rattle.dz_name.proofs.LandingLemmas.{lands_before, lands_like, landing_lands, in_piece, takes_few, takes_label, takes_pointer}
 use Rattle.dz_name.proofs.wire_fault.read_name.Goals as goal
@@ -25,30 +25,32 @@ pub returns-then-first-eq0-clause-most : goal.returns-then-first-eq0-clause-most
 returns-then-first-eq0-clause-most g c = λ ends.
     omega (arith, takes_few c.args.message.now (c.octets.invariant.most ends), c.octets.invariant.short, c.tick.ensures)
 
-pub returns-then-message-offset-clause-reads : goal.returns-then-message-offset-clause-reads
-returns-then-message-offset-clause-reads g c = c.octets.invariant.read _ (cut_label (omega arith) (omega arith) (omega arith) (omega arith))
-
-pub returns-then-message-offset-clause-most : goal.returns-then-message-offset-clause-most
-returns-then-message-offset-clause-most g c = λ ends.
-    omega (arith, takes_few c.args.message.now (c.octets.invariant.most ends), c.octets.invariant.short, c.tick.ensures)
-
-pub returns-then-used-first-ge255-clause-reads : goal.returns-then-used-first-ge255-clause-reads
-returns-then-used-first-ge255-clause-reads g c = c.octets.invariant.read _ (too_long (omega arith) (omega arith) (omega arith) (omega arith) (omega arith))
-
-pub returns-then-used-first-ge255-clause-most : goal.returns-then-used-first-ge255-clause-most
-returns-then-used-first-ge255-clause-most g c = λ ends.
-    omega (arith, takes_few c.args.message.now (c.octets.invariant.most ends), c.octets.invariant.short, c.tick.ensures)
-
 pub octets-preserved-then-first-lt64 : goal.octets-preserved-then-first-lt64
-octets-preserved-then-first-lt64 g c = record {
-  wire = omega (arith, c.octets.invariant.wire, c.push_label.ensures.wire, length_label c.args.message.now c.octets.offset (omega arith));
-  short = omega arith;
-  before = omega (arith, c.octets.invariant.before);
-  read = λ rest reads. rw (c.push_label.ensures.labels, ← in_front-label c.octets.name c.octets.behind (label_at c.args.message.now c.octets.offset) rest)
-      (c.octets.invariant.read _ (at_label (omega arith) (omega arith) (omega arith) (omega arith) (omega arith) reads));
-  least = rw c.push_label.ensures.labels (omega (arith, c.octets.invariant.least, c.tick.ensures, length-append c.octets.name (label_at c.args.message.now c.octets.offset ∷ [])));
-  most = λ ends. takes_label c.args.message.now _ _ _ (c.octets.invariant.most ends) (omega arith) (omega (arith, c.tick.ensures, c.octets.invariant.least));
-}
+octets-preserved-then-first-lt64 g c =
+    let whole = c.in_ok-check_label.ensures.whole in
+    let room = c.in_ok-check_label.ensures.room in
+    record {
+      wire = omega (
+        arith,
+        whole,
+        c.octets.invariant.wire,
+        c.push_label.ensures.wire,
+        length_label c.args.message.now c.octets.offset (omega (arith, whole)),
+      );
+      short = omega (arith, room);
+      before = omega (arith, c.octets.invariant.before);
+      read = λ rest reads.
+          rw (c.push_label.ensures.labels, ← in_front-label c.octets.name c.octets.behind (label_at c.args.message.now c.octets.offset) rest)
+          (c.octets.invariant.read _ (at_label (omega arith) (omega arith) (omega arith) whole room reads));
+      least = rw c.push_label.ensures.labels (omega (
+        arith,
+        c.octets.invariant.least,
+        c.tick.ensures,
+        length-append c.octets.name (label_at c.args.message.now c.octets.offset ∷ []),
+      ));
+      most = λ ends. takes_label c.args.message.now _ _ _ (c.octets.invariant.most ends) (omega arith)
+          (omega (arith, c.tick.ensures, c.octets.invariant.least));
+    }
 
 pub returns-then-first-lt192-clause-reads : goal.returns-then-first-lt192-clause-reads
 returns-then-first-lt192-clause-reads g c = c.octets.invariant.read _ (bad_kind (omega arith) (omega arith) (omega arith))

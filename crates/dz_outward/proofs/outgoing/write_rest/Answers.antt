@@ -33,7 +33,7 @@ returns c = λ questions current holds.
           let holds-now = rw w.if-add.true at next in
           rw w.stage-is record {
             message = answer_message c.args.id questions (all ++ soa ∷ []);
-            are = rest_over c.args.version.now c.args.id questions current reached.more c.args.place c.add_others-place.result c.add_others-place.new.piece c.add_others-place.new.out soa (reached.same _) reached.holds c.apex_soa.ensures (omega (arith, past)) (sym c.add.ensures.room ∙ w.if-add.true);
+            are = rest_over c.args.version.now c.args.id questions current reached.more c.args.place c.add_others-place.result c.add_others-place.new.piece c.add_others-place.new.out soa (reached.same _) reached.holds c.apex_soa.ensures.soa (omega (arith, past)) (sym c.add.ensures.room ∙ w.if-add.true);
             octets = c.end-2.ensures.octets c.args.id questions (all ++ soa ∷ []) holds-now;
             short = c.end-2.ensures.short;
           }
@@ -41,7 +41,7 @@ returns c = λ questions current holds.
           let holds-now = rw w.if-add.false at next in
           rw w.stage-is record {
             message = answer_message c.args.id questions all;
-            are = rest_cut c.args.version.now c.args.id questions current reached.more c.args.place c.add_others-place.result c.add_others-place.new.piece c.add_others-place.new.out soa (reached.same _) reached.holds c.apex_soa.ensures (omega (arith, past)) (sym c.add.ensures.room ∙ w.if-add.false) c.requires.fit;
+            are = rest_cut c.args.version.now c.args.id questions current reached.more c.args.place c.add_others-place.result c.add_others-place.new.piece c.add_others-place.new.out soa (reached.same _) reached.holds c.apex_soa.ensures.soa (omega (arith, past)) (sym c.add.ensures.room ∙ w.if-add.false) c.requires.fit;
             octets = c.end-2.ensures.octets c.args.id questions all holds-now;
             short = c.end-2.ensures.short;
           }

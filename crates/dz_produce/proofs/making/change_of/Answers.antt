@@ -8,5 +8,5 @@ returns-then-not-newer c = old_serial c.args.version c.args.serial [] [] (rw c.r
 
 pub returns-else-branch : goal.returns-else-branch
 returns-else-branch c =
-    let good = rw c.in_ok-change.ensures at c.in_ok-is_faultless.ensures in
+    let good = rw c.in_ok-change.ensures at c.in_ok-is_faultless.ensures.good in
     not_false (sym good ∙ c.if-branch.false)

@@ -56,7 +56,7 @@ pub returns-then-not-is_fit-clause-made : goal.returns-then-not-is_fit-clause-ma
 returns-then-not-is_fit-clause-made c =
     let nodes = c.args.nodes.now in
     let large : is_fit (produced c.args.apex.now c.args.serial (values nodes)) ≡ false =
-    ap is_fit (sym c.in_ok-version.ensures.version) ∙ (sym c.is_fit.ensures ∙ c.if-not-is_fit.true) in
+    ap is_fit (sym c.in_ok-version.ensures.version) ∙ (sym c.is_fit.ensures.fit ∙ c.if-not-is_fit.true) in
     many_fault c.args.apex.now c.args.serial nodes (sym c.if-branch.false ∙ c.in_ok-has_label_twice.ensures)
     (sym c.if-branch-2.false ∙ c.in_ok-some_bad_group.ensures)
     (sym c.if-is_version_long.false ∙ c.is_version_long.ensures)
@@ -67,7 +67,7 @@ returns-then-branch-3-clause-made c =
     let nodes = c.args.nodes.now in
     let few : nat_lt 65536 (length nodes) ≡ false = let h = c.if-nodes-gt-NODES.false in grind (arith, nat_tests) in
     let fits : is_fit (produced c.args.apex.now c.args.serial (values nodes)) ≡ true =
-    ap is_fit (sym c.in_ok-version.ensures.version) ∙ (sym c.is_fit.ensures ∙ c.if-not-is_fit.false) in
+    ap is_fit (sym c.in_ok-version.ensures.version) ∙ (sym c.is_fit.ensures.fit ∙ c.if-not-is_fit.false) in
     let not = not_many c.args.apex.now c.args.serial nodes few
     (sym c.has_too_many_records.ensures ∙ c.if-has_too_many_records.false) fits in
     zone_fault c.args.apex.now c.args.serial nodes (sym c.if-branch.false ∙ c.in_ok-has_label_twice.ensures)
@@ -81,7 +81,7 @@ returns-clause-made c =
     let nodes = c.args.nodes.now in
     let few : nat_lt 65536 (length nodes) ≡ false = let h = c.if-nodes-gt-NODES.false in grind (arith, nat_tests) in
     let fits : is_fit (produced c.args.apex.now c.args.serial (values nodes)) ≡ true =
-    ap is_fit (sym c.in_ok-version.ensures.version) ∙ (sym c.is_fit.ensures ∙ c.if-not-is_fit.false) in
+    ap is_fit (sym c.in_ok-version.ensures.version) ∙ (sym c.is_fit.ensures.fit ∙ c.if-not-is_fit.false) in
     let not = not_many c.args.apex.now c.args.serial nodes few
     (sym c.has_too_many_records.ensures ∙ c.if-has_too_many_records.false) fits in (
       none_holds c.args.apex.now c.args.serial nodes (sym c.if-branch.false ∙ c.in_ok-has_label_twice.ensures)

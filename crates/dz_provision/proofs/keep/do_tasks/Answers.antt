@@ -7,7 +7,7 @@ use Rattle.dz_provision.proofs.TaskListLemmas.{last_is_kept}
 use Rattle.dz_provision.proofs.keep.do_tasks.Goals as goal
 
 pub returns-in_err-forget_gone-clause-saved : goal.returns-in_err-forget_gone-clause-saved
-returns-in_err-forget_gone-clause-saved g c = last_is_kept c.args.fleet.now.list c.args.verdict.now c.last.ensures.refreshed c.requires.last
+returns-in_err-forget_gone-clause-saved g c = last_is_kept c.args.fleet.now.list c.args.verdict.now c.last-last.ensures.refreshed c.requires.last
 
 pub returns-in_err-forget_gone-clause-stopped : goal.returns-in_err-forget_gone-clause-stopped
 returns-in_err-forget_gone-clause-stopped g c =
@@ -23,7 +23,7 @@ returns-in_err-forget_gone-clause-crash g c =
     (rw c.changes_of.ensures at c.in_err-forget_gone.ensures.crash)
 
 pub returns-clause-saved : goal.returns-clause-saved
-returns-clause-saved g c = last_is_kept c.args.fleet.now.list c.args.verdict.now c.last.ensures.refreshed c.requires.last
+returns-clause-saved g c = last_is_kept c.args.fleet.now.list c.args.verdict.now c.last-last.ensures.refreshed c.requires.last
 
 pub returns-clause-done : goal.returns-clause-done
 returns-clause-done g c =

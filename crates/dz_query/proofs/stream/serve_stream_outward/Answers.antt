@@ -1,4 +1,4 @@
-use Rattle.std.proofs.Common.{rules, ◌≡◌, ◌≤◌, true, take, length, refl}
+use Rattle.std.proofs.Common.{sym, ◌∙◌, rules, ◌≡◌, ◌≤◌, true, take, length, refl}
 use Rattle.dz_io.specs.Device.{Gains}
 use Rattle.dz_io.specs.Packets.{Packet, packet}
 use Rattle.dz_message.specs.Frame.{frame}
@@ -28,7 +28,8 @@ returns-in-Err-clause-stream g c =
     let answer = c.answer_or_send in
     let message = take c.in-Message.size c.as_slice-octets.result.now in
     let request : Packet = packet message c.args.peer.now in
-    let held : g.L.Sink.held c.read_message.new.source ≡ g.L.Sink.held c.messages.link = search rules in
+    let held : g.L.Sink.held c.read_message.new.source ≡ g.L.Sink.held c.messages.link =
+    sym (g.met.L.Link.reads_leave c.read_message.new.source) ∙ (e.beside ∙ g.met.L.Link.reads_leave c.messages.link) in
     let may : g.C.Clock.may_give c.args.clock.now c.now.result ≡ true = search rules in
     let fits : length message ≤ 65535 = search rules in
     let asks : asks_for_zone c.args.downstream.now request ≡ true = search rules in

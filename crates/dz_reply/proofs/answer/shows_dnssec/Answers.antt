@@ -13,4 +13,4 @@ returns-clause-asked c is = sym c.asks_for_dnssec.ensures ∙ c.if-not-asks_for_
 
 pub returns-clause-plain : goal.returns-clause-plain
 returns-clause-plain c is name kind =
-    sections_are c.args.version.now c.records.ensures.valid.rises (sym c.is_secure.ensures ∙ is) (asks_dnssec c.args.frame.now.asked.now.edns) name kind
+    sections_are c.args.version.now c.is_secure.ensures.valid.rises (sym c.is_secure.ensures.secure ∙ is) (asks_dnssec c.args.frame.now.asked.now.edns) name kind

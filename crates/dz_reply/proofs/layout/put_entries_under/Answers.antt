@@ -11,7 +11,7 @@ returns-then-is_over c q o h =
 
 pub records-preserved : goal.records-preserved
 records-preserved c = record {
-  least = entry_least c.args.records.now _ _ c.rr-item.result c.kind-kind.ensures c.ttl_of-ttl.ensures;
+  least = entry_least c.args.records.now _ _ c.rr-item.result c.kind-kind.ensures.kind c.ttl_of-ttl.ensures;
   octets = λ q o h.
       also_more _ _ _ (entry_in q o c.args.records.now) c.args.records.now c.records.rr-index c.rr-item.result (omega arith) c.rr-item.is
       (c.records.invariant.octets q o h) (rw c.ttl_of-ttl.ensures at (c.put_entry_under.ensures q o h));

@@ -1,8 +1,9 @@
-use Rattle.std.proofs.Common.{◌∙◌, ap}
+use Rattle.std.proofs.Common.{rules, ◌∙◌, ap}
 use Rattle.dz_header.specs.Writing.{writing_of}
 use Rattle.dz_request.specs.Frame.{query_of, is_tcp, limit_of}
 use Rattle.dz_lookup.specs.Found.{meaning}
-use Rattle.dz_reply.specs.Answer.{octets_of}
+use Rattle.dz_reply.specs.Answer.{octets_of, at_end}
+use Rattle.dz_reply.specs.Secure.{secure_of_ending}
 use Rattle.dz_reply.proofs.SecureLemmas.{ends_alone, ends_empty, ends_nowhere, ends_at_cut}
 use Rattle.dz_reply.proofs.secure.secure_end.Goals as goal
 
@@ -35,3 +36,11 @@ returns-in-Some c =
     let is = rw c.in-Some.is at c.alone.ensures in
     c.secure_alone.ensures ∙ ap (λ s. writing_of (limit_of (is_tcp frame.transport) query.edns) (octets_of (is_tcp frame.transport) query s))
     (ends_alone zone frame.asked.now.question.kind c.args.chain.now (meaning c.args.last.now) c.args.name.now c.in-Some.records.now is.0 (is.1 zone.records))
+
+pub returns-in-Here : goal.returns-in-Here
+unfolding at_end secure_of_ending
+returns-in-Here c = search rules
+
+pub returns-in-Alias : goal.returns-in-Alias
+unfolding at_end secure_of_ending
+returns-in-Alias c = search rules

@@ -5,7 +5,7 @@ use Rattle.dz_secure.proofs.evidence.covering.Goals as goal
 
 pub returns-then-not-is_secure-clause-covering : goal.returns-then-not-is_secure-clause-covering
 returns-then-not-is_secure-clause-covering g c =
-    sym (covering_none c.args.version.now c.records.ensures.valid.rises (sym c.is_secure.ensures ∙ c.if-not-is_secure.true) c.args.name.now)
+    sym (covering_none c.args.version.now c.is_secure.ensures.valid.rises (sym c.is_secure.ensures.secure ∙ c.if-not-is_secure.true) c.args.name.now)
 
 pub returns-clause-covering : goal.returns-clause-covering
 returns-clause-covering g c = c.covering_at.ensures.covering c.args.name.now (rw c.as_ref.ensures at c.place_near-place.ensures.place)

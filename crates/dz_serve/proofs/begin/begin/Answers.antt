@@ -16,7 +16,7 @@ returns-in-Ok-say_unkept g c =
       halt = tt;
       write = tt;
       first = λ e first. same_begun _ _ e same first;
-      legal = same_legal _ _ same c.count.ensures.sound.legal;
+      legal = same_legal _ _ same c.tell.ensures.legal;
       seated = seated_on _ _ _ c.learn.ensures.same c.requires.seated;
     }
 
@@ -30,6 +30,6 @@ returns g c =
       halt = c.halt-in-Err-say_unkept.ensures.halt;
       write = c.halt-in-Err-say_unkept.ensures.write;
       first = λ e first. same_begun _ _ e same first;
-      legal = same_legal _ _ same c.count.ensures.sound.legal;
+      legal = same_legal _ _ same c.tell.ensures.legal;
       seated = seated_on _ _ _ c.learn.ensures.same c.requires.seated;
     }

@@ -1,5 +1,5 @@
 use Rattle.std.proofs.Common.{◌≡◌, rules, refl, sym, ap, ◌∙◌}
-use Rattle.dz_serve.proofs.SettingLemmas.{says_bad, says_part}
+use Rattle.dz_serve.proofs.ConfigLemmas.{says_bad, says_part}
 use Rattle.dz_serve.proofs.command.say_bad.Goals as goal
 
 pub returns-in-Ok-clause-said : goal.returns-in-Ok-clause-said

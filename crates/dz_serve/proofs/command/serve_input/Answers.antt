@@ -14,9 +14,9 @@ returns-in-Ok-clause-serve g c =
             u.1,
           );
       served = λ some. record {
-        listen = c.in-Ok.setting.listen;
-        config = c.in-Ok.setting.config;
-        downstream = c.in-Ok.setting.downstream;
+        listen = c.in-Ok.server.listen;
+        config = c.in-Ok.server.config;
+        downstream = c.in-Ok.server.downstream;
         reads = λ octets told. (c.in-Ok.ensures.reads octets told).0;
         lists = λ octets told. (c.in-Ok.ensures.reads octets told).1;
         begins = (s.served some).0;

@@ -1,8 +1,7 @@
 -- A run that no worker began, and one over a list that begins with the configuration.
 use Rattle.std.proofs.Common.{◌≡◌, refl, sym, ap, ◌∙◌}
 use Rattle.dz_serve.specs.Ends.{is_write_fault}
-use Rattle.dz_serve.specs.Runs as runs
-use Rattle.dz_serve.proofs.RunLemmas.{no_log, none_used, both_used, begins_at, begun_of, err_not_ok, ok_same, first_opened, listed_as, ran_as, some_begun, some_is}
+use Rattle.dz_serve.proofs.RunLemmas.{no_log, none_used, both_used, begun_of, first_opened}
 use Rattle.dz_serve.proofs.served.serve.Goals as goal
 
 pub returns-in_default-clause-logged : goal.returns-in_default-clause-logged
@@ -33,36 +32,18 @@ returns-in-Err-clause-unserved g c empty =
           (rw o.datagrams at c.close_devices.ensures.datagrams) (rw o.acceptors at c.close_devices.ensures.acceptors) (rw o.dialers at c.close_devices.ensures.dialers),
     )
 
-pub returns-in-Err-begin-clause-served : goal.returns-in-Err-begin-clause-served
-returns-in-Err-begin-clause-served g c some =
+pub returns-in-Ok-start-clause-served : goal.returns-in-Ok-start-clause-served
+returns-in-Ok-start-clause-served g c some =
     let o = c.in-Ok-open_devices.ensures in
-    let d = c.close_devices-in-Err-begin.ensures in
-    let first = c.begin.ensures.first _ (first_opened _ _ (ap (λ p. p.core.list) c.in-Ok-start.ensures.ok)) in (
-      listed_as _ _ _ c.halted.ensures.list c.begin.ensures.legal first,
-      runs.halted (some_is _ (λ none. err_not_ok _ _ (c.in-Err-begin.ensures.none (rw none refl)).0)) (rw c.halted.ensures.end c.in-Err-begin.ensures.halt)
-          (both_used _ _ _ _ _ _ _ _ _ o.datagram_one o.datagram_two o.acceptor_one o.acceptor_two o.dialer_one o.dialer_two
-          (rw o.datagrams at d.datagrams) (rw o.acceptors at d.acceptors) (rw o.dialers at d.dialers)),
-    )
+    let first = first_opened _ _ (ap (λ p. p.core.list) c.in-Ok-start.ensures.ok) in
+    (c.begin_over.ensures.begun _ first, rw c.new-inputs.ensures.downstream at (c.begin_over.ensures.served _ _ _ first o.datagrams o.acceptors o.dialers))
 
-pub returns-in-Err-begin-clause-unserved : goal.returns-in-Err-begin-clause-unserved
-returns-in-Err-begin-clause-unserved g c empty =
-    let first = c.begin.ensures.first _ (first_opened _ _ (ap (λ p. p.core.list) c.in-Ok-start.ensures.ok)) in
-    absurd (begun_of _ _ first (sym c.halted.ensures.list ∙ empty))
+pub returns-in-Ok-start-clause-unserved : goal.returns-in-Ok-start-clause-unserved
+returns-in-Ok-start-clause-unserved g c empty =
+    let first = first_opened _ _ (ap (λ p. p.core.list) c.in-Ok-start.ensures.ok) in
+    absurd (begun_of _ _ (c.begin_over.ensures.begun _ first).begins empty)
 
-pub returns-in-Ok-begin-clause-served : goal.returns-in-Ok-begin-clause-served
-returns-in-Ok-begin-clause-served g c some =
-    let o = c.in-Ok-open_devices.ensures in
-    let first = c.begin.ensures.first _ (first_opened _ _ (ap (λ p. p.core.list) c.in-Ok-start.ensures.ok)) in (
-      record { legal = c.serve_over.ensures.legal; begins = begins_at _ _ _ first c.serve_over.ensures.begins },
-      ran_as c.args.disk c.in-Ok-begin.store _ _ _ _ _ _ _ _ _ _ _ (λ none. ok_same _ _ (c.in-Ok-begin.ensures.none (rw none refl)).0) o.datagrams o.acceptors o.dialers (c.serve_over.ensures.served (some_begun _ _ first)),
-    )
-
-pub returns-in-Ok-begin-clause-unserved : goal.returns-in-Ok-begin-clause-unserved
-returns-in-Ok-begin-clause-unserved g c empty =
-    let first = c.begin.ensures.first _ (first_opened _ _ (ap (λ p. p.core.list) c.in-Ok-start.ensures.ok)) in
-    absurd (begun_of _ _ (begins_at _ _ _ first c.serve_over.ensures.begins) empty)
-
-pub returns-in-Ok-begin-clause-done : goal.returns-in-Ok-begin-clause-done
-returns-in-Ok-begin-clause-done g c is =
-    let first = c.begin.ensures.first _ (first_opened _ _ (ap (λ p. p.core.list) c.in-Ok-start.ensures.ok)) in
-    (begun_of _ _ (begins_at _ _ _ first c.serve_over.ensures.begins), c.serve_over.ensures.done is)
+pub returns-in-Ok-start-clause-done : goal.returns-in-Ok-start-clause-done
+returns-in-Ok-start-clause-done g c is =
+    let first = first_opened _ _ (ap (λ p. p.core.list) c.in-Ok-start.ensures.ok) in
+    (begun_of _ _ (c.begin_over.ensures.begun _ first).begins, c.begin_over.ensures.done is)

@@ -9,17 +9,17 @@ use Rattle.dz_serve.proofs.served.serve_over.Goals as goal
 
 pub returns-clause-begins : goal.returns-clause-begins
 returns-clause-begins g c =
-    prefix_trans _ _ _ c.teach_all-seats.ensures.listening_one
-    (prefix_trans _ _ _ c.run_crew-crew.ensures.listening_one.more.seen c.end_crew-parts.ensures.listening_one)
+    prefix_trans _ _ _ c.teach_all.ensures.listening_one
+    (prefix_trans _ _ _ c.run_workers-ended.ensures.listening_one.more.seen c.end_workers-parts.ensures.listening_one)
 
 pub returns-clause-logged : goal.returns-clause-logged
-returns-clause-logged g c = rw c.judge-end.ensures.log c.end_crew-parts.ensures.logged
+returns-clause-logged g c = rw c.judge-end.ensures.log c.end_workers-parts.ensures.logged
 
 pub returns-clause-served : goal.returns-clause-served
 returns-clause-served g c some =
-    let t = c.teach_all-seats.ensures in
-    let r = c.run_crew-crew.ensures in
-    let e = c.end_crew-parts.ensures in
+    let t = c.teach_all.ensures in
+    let r = c.run_workers-ended.ensures in
+    let e = c.end_workers-parts.ensures in
     let j = c.judge-end.ensures in
     let b = c.give_back-readings.ensures in
     let one = listened_run _ _ _ _ _ _ _ _ _ _ _ _ some t.listening_one e.listening_one c.requires.listening_one c.requires.datagrams_one r.listening_one in
@@ -34,7 +34,7 @@ returns-clause-served g c some =
 
 pub returns-clause-port : goal.returns-clause-port
 returns-clause-port g c is =
-    let r = c.run_crew-crew.ensures in
+    let r = c.run_workers-ended.ensures in
     let b = c.give_back-readings.ensures in
     by_each
     (λ e. b.datagram_one (listened_risen _ _ _ _ _ _ _ _ c.requires.datagrams_one.faultless r.listening_one e))
@@ -43,16 +43,16 @@ returns-clause-port g c is =
     (λ e. b.acceptor_two (linked_risen _ _ _ _ _ _ _ _ _ _ c.requires.acceptors_two.faultless r.linking_two e))
     (c.judge-end.ensures.port is)
 
-pub run_crew-crew-requires-sync-B : goal.run_crew-crew-requires-sync-B
-run_crew-crew-requires-sync-B g c κs within =
+pub run_workers-ended-requires-sync-B : goal.run_workers-ended-requires-sync-B
+run_workers-ended-requires-sync-B g c κs within =
     let shared = locked_sync _ (provisioner_send _ _ g.K.Sink g.J.Naming c.type_bounds.send-K c.type_bounds.send-J c.publishers_may_be_sent.ensures) in
     let store = store_send _ g.D.Disk c.type_bounds.send-D in
     record { shared = (keeping_sync record { mir = named 0; lft = _ } _ _ shared store).shared }
 
 pub returns-clause-back : goal.returns-clause-back
 returns-clause-back g c =
-    let r = c.run_crew-crew.ensures in
-    let t = c.teach_all-seats.ensures.seated in
+    let r = c.run_workers-ended.ensures in
+    let t = c.teach_all.ensures.seated in
     six_back _ _ _ _ _ _ _ _ c.give_back-readings.ensures.readings record {
       first = seated_more _ _ _ t.first r.listening_one.more;
       second = seated_more _ _ _ t.second r.listening_two.more;

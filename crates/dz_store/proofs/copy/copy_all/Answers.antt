@@ -28,7 +28,7 @@ zones-preserved g c =
       able = one.able.0 ∙ so_far.able;
       same = one.able.1 ∙ so_far.same;
       far = λ f e told empty none.
-          let stored = c.index.ensures.settled (sym c.has_failed.ensures ∙ c.if-has_failed.false) f told in
+          let stored = c.index.ensures.settled (sym c.has_failed.ensures.value ∙ c.if-has_failed.false) f told in
           let far = so_far.far f e told empty none in
           let more = one.copied f far.0 (so_far.quiet.same ∙ told) far.1 in
           (more.0, more.1, copied_more (records reads f) c.deref-zone-items.result.now c.zones.zone-index c.zone-item.result (records reads far.0) (records reads more.0) stored.fits far.2 (omega arith) c.zone-item.is more.2);
@@ -36,7 +36,7 @@ zones-preserved g c =
 
 pub returns-clause-copied : goal.returns-clause-copied
 returns-clause-copied g c = λ f e told empty none.
-    let stored = c.index.ensures.settled (sym c.has_failed.ensures ∙ c.if-has_failed.false) f told in
+    let stored = c.index.ensures.settled (sym c.has_failed.ensures.value ∙ c.if-has_failed.false) f told in
     let far = c.zones.invariant.far f e told empty none in
     let all : take c.zones.zone-index c.deref-zone-items.result.now ≡ c.deref-zone-items.result.now = take_all c.zones.zone-index c.deref-zone-items.result.now (omega arith) in
     let index = c.args.source.now.index in (

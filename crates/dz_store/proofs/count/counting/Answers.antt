@@ -18,14 +18,14 @@ IsOf index list = (zone : Name) → get canonical_order index.entries zone ≡ (
 
 pub returns-in-None-clause-counting : goal.returns-in-None-clause-counting
 returns-in-None-clause-counting g c = λ f told.
-    let stored = c.index.ensures.settled (sym c.has_failed.ensures ∙ c.if-has_failed.false) f told in
+    let stored = c.index.ensures.settled (sym c.has_failed.ensures.value ∙ c.if-has_failed.false) f told in
     let agree = counts IsOf (g.D.Disk.may_leave c.args.log.now.disk) c.args.zone.now f c.args.log.now.index c.args.log.now.end stored in
     let found = c.find.ensures (records reads f) (subst (λ i. IsOf i (records reads f)) (sym c.index.ensures.index) stored.known) in
     none_counts f c.args.log.now.end (places c.args.zone.now (records reads f)).place (counting c.args.zone.now (records reads f)) agree (sym c.in-None.is ∙ found)
 
 pub returns-then-place-gt-FAR-clause-counting : goal.returns-then-place-gt-FAR-clause-counting
 returns-then-place-gt-FAR-clause-counting g c = λ f told.
-    let stored = c.index.ensures.settled (sym c.has_failed.ensures ∙ c.if-has_failed.false) f told in
+    let stored = c.index.ensures.settled (sym c.has_failed.ensures.value ∙ c.if-has_failed.false) f told in
     let agree = counts IsOf (g.D.Disk.may_leave c.args.log.now.disk) c.args.zone.now f c.args.log.now.index c.args.log.now.end stored in
     let found = c.find.ensures (records reads f) (subst (λ i. IsOf i (records reads f)) (sym c.index.ensures.index) stored.known) in
     let within = one_within f c.args.log.now.end (places c.args.zone.now (records reads f)).place (counting c.args.zone.now (records reads f)) c.in-Some.place agree (sym c.in-Some.is ∙ found) in
@@ -37,7 +37,7 @@ returns-then-place-gt-FAR-clause-counting g c = λ f told.
 
 pub returns-else-place-gt-FAR-2-clause-counting : goal.returns-else-place-gt-FAR-2-clause-counting
 returns-else-place-gt-FAR-2-clause-counting g c = IfOk-weaker c.payload.result _ _ (λ o part f told.
-    let stored = c.index.ensures.settled (sym c.has_failed.ensures ∙ c.if-has_failed.false) f told in
+    let stored = c.index.ensures.settled (sym c.has_failed.ensures.value ∙ c.if-has_failed.false) f told in
     let agree = counts IsOf (g.D.Disk.may_leave c.args.log.now.disk) c.args.zone.now f c.args.log.now.index c.args.log.now.end stored in
     let found = c.find.ensures (records reads f) (subst (λ i. IsOf i (records reads f)) (sym c.index.ensures.index) stored.known) in
     one_counts f c.args.log.now.end (places c.args.zone.now (records reads f)).place (counting c.args.zone.now (records reads f)) c.in-Some.place (option_map (λ v. v.items) o) agree (sym c.in-Some.is ∙ found) (part f told))

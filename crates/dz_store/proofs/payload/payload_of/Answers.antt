@@ -13,13 +13,12 @@ returns-clause-payload c =
 
 pub returns-clause-can : goal.returns-clause-can
 returns-clause-can c =
-    let version : IsVersion c.deref.result.now = record { valid = c.records.ensures.valid; held = c.records.ensures.held } in
     record {
       zone = c.in_ok-payload.ensures.names.0;
       catalog = c.in_ok-payload.ensures.names.1;
       label = c.in_ok-payload.ensures.label;
       refreshed = c.requires.moment;
       apex = c.requires.zone;
-      version = subst IsVersion (c.deref.ensures ∙ c.in_ok-version.ensures) version;
+      version = subst IsVersion c.in_ok-version.ensures c.in-Ok.ensures.version;
       fit = ap is_fit (sym c.in_ok-version.ensures) ∙ sym c.in-Ok.ensures.fit;
     }

@@ -9,7 +9,7 @@ settle-ended-requires-clause-transfer g c = read_transfer _ _ _ _ _ _ c.in-Finis
 pub returns-in-Finished-clause-worked : goal.returns-in-Finished-clause-worked
 returns-in-Finished-clause-worked g c =
     rw (c.dialled.ensures.report, c.dialled.ensures.ending, c.settled_report.ensures)
-    (settled_work c.args.job _ _ c.requires.due c.settle-ended.ensures.seen c.count.ensures.legal c.settle-ended.result.answer c.in-Finished.finished c.settle-ended.result.ending c.now-now.result _ _ _ _ c.in-Finished.ensures.fetched c.settle-ended.ensures.ending c.settle-ended.ensures.settled)
+    (settled_work c.args.job _ _ c.requires.due c.settle-ended.ensures.seen c.settle-ended.ensures.legal c.settle-ended.result.answer c.in-Finished.finished c.settle-ended.result.ending c.now-now.result _ _ _ _ c.in-Finished.ensures.fetched c.settle-ended.ensures.ending c.settle-ended.ensures.settled)
 
 pub returns-in-Finished-clause-busy : goal.returns-in-Finished-clause-busy
 returns-in-Finished-clause-busy g c = rw (c.dialled.ensures.report, c.settled_report.ensures) (settled_busy c.settle-ended.result.answer)
@@ -26,7 +26,7 @@ returns-in-Finished-clause-ended g c = rw c.dialled.ensures.ending (settled_amon
 pub returns-in-LinkFault-clause-worked : goal.returns-in-LinkFault-clause-worked
 returns-in-LinkFault-clause-worked g c =
     rw (c.dialled-in-LinkFault.ensures.report, c.dialled-in-LinkFault.ensures.ending, c.failed_report.ensures)
-    (fault_work c.args.job _ _ c.requires.due c.fail-ended.ensures.seen c.count-in-LinkFault.ensures.legal c.fail-ended.result.answer c.fail-ended.result.ending c.now-now-in-LinkFault.result _ _ _ _ c.in-LinkFault.ensures.fetched c.fail-ended.ensures.ending c.fail-ended.ensures.failed)
+    (fault_work c.args.job _ _ c.requires.due c.fail-ended.ensures.seen c.fail-ended.ensures.legal c.fail-ended.result.answer c.fail-ended.result.ending c.now-now-in-LinkFault.result _ _ _ _ c.in-LinkFault.ensures.fetched c.fail-ended.ensures.ending c.fail-ended.ensures.failed)
 
 pub returns-in-LinkFault-clause-busy : goal.returns-in-LinkFault-clause-busy
 returns-in-LinkFault-clause-busy g c = rw (c.dialled-in-LinkFault.ensures.report, c.failed_report.ensures) (failed_busy c.fail-ended.result.answer report.LinkFault refl)
@@ -44,7 +44,7 @@ returns-in-LinkFault-clause-ended g c = rw c.dialled-in-LinkFault.ensures.ending
 pub returns-in-OutOfMemory-clause-worked : goal.returns-in-OutOfMemory-clause-worked
 returns-in-OutOfMemory-clause-worked g c =
     rw (c.dialled-in-OutOfMemory.ensures.report, c.dialled-in-OutOfMemory.ensures.ending, c.failed_report-in-OutOfMemory.ensures)
-    (starved_work c.args.job _ _ c.requires.due c.starve-ended.ensures.seen c.count-in-OutOfMemory.ensures.legal c.starve-ended.result.answer c.starve-ended.result.ending c.now-now-in-OutOfMemory.result _ _ _ _ c.in-OutOfMemory.ensures.fetched c.starve-ended.ensures.ending c.starve-ended.ensures.failed)
+    (starved_work c.args.job _ _ c.requires.due c.starve-ended.ensures.seen c.starve-ended.ensures.legal c.starve-ended.result.answer c.starve-ended.result.ending c.now-now-in-OutOfMemory.result _ _ _ _ c.in-OutOfMemory.ensures.fetched c.starve-ended.ensures.ending c.starve-ended.ensures.failed)
 
 pub returns-in-OutOfMemory-clause-busy : goal.returns-in-OutOfMemory-clause-busy
 returns-in-OutOfMemory-clause-busy g c = rw (c.dialled-in-OutOfMemory.ensures.report, c.failed_report-in-OutOfMemory.ensures) (failed_busy c.starve-ended.result.answer report.OutOfMemory refl)

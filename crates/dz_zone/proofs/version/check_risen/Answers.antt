@@ -25,4 +25,7 @@ nsecs_of-requires c =
     rw c.as_slice-in-None.ensures.value (few_records c.args.apex.now c.args.records.items (rw c.as_slice.ensures.value at (sym c.in-None.ensures)))
 
 pub version_of-requires-clause-nsecs : goal.version_of-requires-clause-nsecs
-version_of-requires-clause-nsecs c = rw c.as_slice-in-None.ensures.value at c.in_ok-nsecs-in-None.ensures
+version_of-requires-clause-nsecs c = rw c.as_slice-in-None.ensures.value at c.in_ok-nsecs-in-None.ensures.nsecs
+
+pub version_of-requires-clause-held : goal.version_of-requires-clause-held
+version_of-requires-clause-held c = rw c.as_slice-in-None.ensures.value at c.in_ok-nsecs-in-None.ensures.held

@@ -1,4 +1,4 @@
-use Rattle.std.proofs.Common.{◌∙◌, ◌<◌, sym, ap, arith, subst, length, ◌-◌}
+use Rattle.std.proofs.Common.{◌∙◌, ◌<◌, sym, ap, arith, length, ◌-◌}
 use Rattle.std.specs.Ordering.{is_lt}
 use Rattle.dz_chunks.specs.inner.Chunked.{ends_before}
 use Rattle.dz_chunks.proofs.ChunkLemmas.{ends_in_last}

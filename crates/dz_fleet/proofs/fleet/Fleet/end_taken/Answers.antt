@@ -23,7 +23,7 @@ own_place-place-requires c =
     let none = rw (← c.self.view_is) at c.requires.standing in
     let r = rw (← c.self.view_is) at c.requires.renewed in
     let are = are_taken c.renew.new.holdings i.history i.tickets i.flying.items i.schedule c.renew.new.schedule j o _ _ r c.renew.ensures.state c.renew.ensures.values in
-    rw c.zone-2.ensures (some_place c.renew.new.holdings j.flight.zone j.flight.incarnation (taken_seated i.holdings c.renew.new.holdings i.history i.tickets i.flying.items i.schedule c.renew.new.schedule c.self.invariant.0 j o f.there none c.renew.ensures.valid are))
+    rw c.zone-2.ensures (some_place c.renew.new.holdings j.flight.zone j.flight.incarnation (taken_seated i.holdings c.renew.new.holdings i.history i.tickets i.flying.items i.schedule c.renew.new.schedule c.self.invariant.0 j o f.there none c.held.ensures.state are))
 
 pub at-requires : goal.at-requires
 at-requires c =
@@ -35,7 +35,7 @@ at-requires c =
     let r = rw (← c.self.view_is) at c.requires.renewed in
     let are = are_taken c.renew.new.holdings i.history i.tickets i.flying.items i.schedule c.renew.new.schedule j o _ _ r c.renew.ensures.state c.renew.ensures.values in
     let at = rw c.zone-2.ensures at c.own_place-place.ensures in
-    taken_fits i.holdings c.renew.new.holdings i.history i.tickets i.flying.items i.schedule c.renew.new.schedule c.self.invariant.0 j o f.there none c.renew.ensures.valid are c.own_place-place.result at
+    taken_fits i.holdings c.renew.new.holdings i.history i.tickets i.flying.items i.schedule c.renew.new.schedule c.self.invariant.0 j o f.there none c.held.ensures.state are c.own_place-place.result at
 
 pub succeeded-values-requires-clause-busy : goal.succeeded-values-requires-clause-busy
 succeeded-values-requires-clause-busy c =
@@ -47,7 +47,7 @@ succeeded-values-requires-clause-busy c =
     let r = rw (← c.self.view_is) at c.requires.renewed in
     let are = are_taken c.renew.new.holdings i.history i.tickets i.flying.items i.schedule c.renew.new.schedule j o _ _ r c.renew.ensures.state c.renew.ensures.values in
     let at = rw c.zone-2.ensures at c.own_place-place.ensures in
-    taken_busy i.holdings c.renew.new.holdings i.history i.tickets i.flying.items i.schedule c.renew.new.schedule c.self.invariant.0 j o f.there none c.renew.ensures.valid are c.own_place-place.result c.at.result at c.at.ensures
+    taken_busy i.holdings c.renew.new.holdings i.history i.tickets i.flying.items i.schedule c.renew.new.schedule c.self.invariant.0 j o f.there none c.held.ensures.state are c.own_place-place.result c.at.result at c.at.ensures
 
 pub change-requires : goal.change-requires
 change-requires c =
@@ -59,7 +59,7 @@ change-requires c =
     let r = rw (← c.self.view_is) at c.requires.renewed in
     let are = are_taken c.renew.new.holdings i.history i.tickets i.flying.items i.schedule c.renew.new.schedule j o _ _ r c.renew.ensures.state c.renew.ensures.values in
     let at = rw c.zone-2.ensures at c.own_place-place.ensures in
-    taken_fits i.holdings c.renew.new.holdings i.history i.tickets i.flying.items i.schedule c.renew.new.schedule c.self.invariant.0 j o f.there none c.renew.ensures.valid are c.own_place-place.result at
+    taken_fits i.holdings c.renew.new.holdings i.history i.tickets i.flying.items i.schedule c.renew.new.schedule c.self.invariant.0 j o f.there none c.held.ensures.state are c.own_place-place.result at
 
 pub invariant_of-self : goal.invariant_of-self
 invariant_of-self c =
@@ -71,12 +71,13 @@ invariant_of-self c =
     let r = rw (← c.self.view_is) at c.requires.renewed in
     let are = are_taken c.renew.new.holdings i.history i.tickets i.flying.items i.schedule c.renew.new.schedule j o _ _ r c.renew.ensures.state c.renew.ensures.values in
     let at = rw c.zone-2.ensures at c.own_place-place.ensures in
-    let follows = subst (λ e. CanFollow (after i.history) e) c.requires.entry (rw (← c.self.view_is) at c.requires.follows) in (
+    let told = c.requires.follows c.moment.ensures.valid in
+    let follows = subst (λ e. CanFollow (after i.history) e) c.requires.entry (rw (← c.self.view_is) at told) in (
       rw (c.change.ensures, c.mark.ensures, c.land.ensures, c.ticket.ensures, c.count-position.ensures, c.succeeded-values.ensures, c.and.ensures)
           (subst (λ e. IsKept c.renew.new.holdings (i.history ++ e ∷ []) i.tickets
           (map (marked c.renew.new.holdings i.holdings.count) (filter (stay j.flight.ticket) i.flying.items)) (slice_set c.renew.new.schedule c.own_place-place.result (succeeded c.at.result c.moment.result c.refresh_of-refresh.result))) (sym c.requires.entry)
-          (taken_kept i.holdings c.renew.new.holdings i.history i.tickets i.flying.items i.schedule c.renew.new.schedule c.self.invariant.0 j o f.there none c.renew.ensures.valid are c.own_place-place.result c.at.result c.moment.result c.refresh_of-refresh.result follows at c.at.ensures)),
-      rw (c.zone-3.ensures, c.moment-2.ensures, c.and.ensures) (subst (λ e. Some (record { zone = j.flight.zone; moment = j.flight.moment }) ≡ last_of (i.history ++ e ∷ [])) (sym c.requires.entry) (last_after i.history j o)),
+          (taken_kept i.holdings c.renew.new.holdings i.history i.tickets i.flying.items i.schedule c.renew.new.schedule c.self.invariant.0 j o f.there none c.held.ensures.state are c.own_place-place.result c.at.result c.moment.result c.refresh_of-refresh.result follows at c.at.ensures)),
+      rw (c.zone-3.ensures, c.moment-2.ensures.moment, c.and.ensures) (subst (λ e. Some (record { zone = j.flight.zone; moment = j.flight.moment }) ≡ last_of (i.history ++ e ∷ [])) (sym c.requires.entry) (last_after i.history j o)),
     )
 
 pub returns : goal.returns
@@ -90,8 +91,8 @@ returns c =
     let are = are_taken c.renew.new.holdings i.history i.tickets i.flying.items i.schedule c.renew.new.schedule j o _ _ r c.renew.ensures.state c.renew.ensures.values in
     let at = rw c.zone-2.ensures at c.own_place-place.ensures in
     let refresh = rw (c.held.ensures.held, c.zone.ensures) at c.refresh_of-refresh.ensures in
-    rw (← c.self.view_is, c.change.ensures, c.mark.ensures, c.land.ensures, c.ticket.ensures, c.count-position.ensures, c.succeeded-values.ensures, c.and.ensures, c.moment.ensures, refresh)
+    rw (← c.self.view_is, c.change.ensures, c.mark.ensures, c.land.ensures, c.ticket.ensures, c.count-position.ensures, c.succeeded-values.ensures, c.and.ensures, c.moment.ensures.moment, refresh)
     (ap (λ e. core_in (i.history ++ e ∷ []) i.tickets
     (map (marked c.renew.new.holdings i.holdings.count) (filter (stay j.flight.ticket) i.flying.items))
     (slice_set c.renew.new.schedule c.own_place-place.result (succeeded c.at.result j.flight.moment (refresh_in (held_at c.renew.new.holdings j.flight.zone))))) c.requires.entry ∙
-    taken_core i.holdings c.renew.new.holdings i.history i.tickets i.flying.items i.schedule c.renew.new.schedule c.self.invariant.0 j o f.there none c.renew.ensures.valid are c.own_place-place.result c.at.result at c.at.ensures)
+    taken_core i.holdings c.renew.new.holdings i.history i.tickets i.flying.items i.schedule c.renew.new.schedule c.self.invariant.0 j o f.there none c.held.ensures.state are c.own_place-place.result c.at.result at c.at.ensures)

@@ -23,11 +23,11 @@ pub invariant_of-self : goal.invariant_of-self
 invariant_of-self c =
     let i = c.self.inside in
     let f : Flying = record { flight = c.flight.result.now; held = c.of.result; key = c.of-2.result; ended = None } in
-    let own : job_in f ≡ c.args.job = flying_is c.args.job f c.flight.ensures (ap (option_map arc_value) c.of.ensures ∙ c.shared.ensures) (c.of-2.ensures ∙ c.shared_key.ensures) in
+    let own : job_in f ≡ c.args.job = flying_is c.args.job f c.flight.ensures.flight (ap (option_map arc_value) c.of.ensures ∙ c.shared.ensures) (c.of-2.ensures ∙ c.shared_key.ensures) in
     let v = get_or_from_slice_get i.schedule c.args.place c.at.result fresh c.at.ensures in (
       rw (c.in-Ok.ensures.items, c.change.ensures, c.departed-values.ensures, ← v)
           (kept_due i.holdings i.history i.tickets i.flying.items i.schedule c.args.place c.args.job.flight.moment f c.self.invariant.0 (rw (← c.self.view_is) at c.requires.room) (rw (← c.self.view_is) at c.requires.first)
-          (own ∙ (rw (← c.self.view_is) at c.requires.job)) (subst IsJob (sym own) c.held.ensures.valid) refl),
+          (own ∙ (rw (← c.self.view_is) at c.requires.job)) (subst IsJob (sym own) c.flight.ensures.ready.valid) refl),
       c.self.invariant.1,
     )
 
@@ -36,7 +36,7 @@ returns-clause-due c = elim c.match-push.branch [
   | in-Ok w ↦
       let i = c.self.inside in
       let f : Flying = record { flight = c.flight.result.now; held = c.of.result; key = c.of-2.result; ended = None } in
-      let own : job_in f ≡ c.args.job = flying_is c.args.job f c.flight.ensures (ap (option_map arc_value) c.of.ensures ∙ c.shared.ensures) (c.of-2.ensures ∙ c.shared_key.ensures) in
+      let own : job_in f ≡ c.args.job = flying_is c.args.job f c.flight.ensures.flight (ap (option_map arc_value) c.of.ensures ∙ c.shared.ensures) (c.of-2.ensures ∙ c.shared_key.ensures) in
       let v = get_or_from_slice_get i.schedule c.args.place w.at.result fresh w.at.ensures in
       let first = rw (← c.self.view_is) at c.requires.first in
       rw (w.result-is, w.self-is) (
@@ -52,10 +52,10 @@ returns-clause-flying c = elim c.match-push.branch [
   | in-Ok w ↦
       let i = c.self.inside in
       let f : Flying = record { flight = c.flight.result.now; held = c.of.result; key = c.of-2.result; ended = None } in
-      let own : job_in f ≡ c.args.job = flying_is c.args.job f c.flight.ensures (ap (option_map arc_value) c.of.ensures ∙ c.shared.ensures) (c.of-2.ensures ∙ c.shared_key.ensures) in
+      let own : job_in f ≡ c.args.job = flying_is c.args.job f c.flight.ensures.flight (ap (option_map arc_value) c.of.ensures ∙ c.shared.ensures) (c.of-2.ensures ∙ c.shared_key.ensures) in
       let v = get_or_from_slice_get i.schedule c.args.place w.at.result fresh w.at.ensures in
       let k = kept_due i.holdings i.history i.tickets i.flying.items i.schedule c.args.place c.args.job.flight.moment f c.self.invariant.0 (rw (← c.self.view_is) at c.requires.room) (rw (← c.self.view_is) at c.requires.first)
-      (own ∙ (rw (← c.self.view_is) at c.requires.job)) (subst IsJob (sym own) c.held.ensures.valid) refl in
+      (own ∙ (rw (← c.self.view_is) at c.requires.job)) (subst IsJob (sym own) c.flight.ensures.ready.valid) refl in
       rw (w.result-is, w.self-is, w.in-Ok.ensures.items, w.change.ensures, w.departed-values.ensures, ← v)
       (handed_flies (core_in i.history (i.tickets + 1) (i.flying.items ++ f ∷ []) (slice_set i.schedule c.args.place (departed (value_at i.schedule c.args.place)))) (map job_in i.flying.items) c.args.job k.sound
       (map_push job_in i.flying.items f ∙ ap (λ j. map job_in i.flying.items ++ j ∷ []) own))

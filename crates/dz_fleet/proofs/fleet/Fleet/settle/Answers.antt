@@ -17,8 +17,8 @@ end_taken-requires-clause-follows c =
     let fits = c.requires.fits in
     let v = sym fits.verdict ∙ (sym c.into_parts-entry.ensures.verdict ∙ c.in-Published.is) in
     let none = standing_by c.args.self.now c.args.job o fits.used _ v (λ n h. absurd (cc)) in
-    rw (c.into_parts-entry.ensures.entry, fits.entry)
-    (follows c.args.self.now c.args.job o c.count.ensures.sound c.requires.flying c.held.ensures.valid none fits.used ((tells c.args.self.now c.args.job o).approved (rw v refl)))
+    λ valid. rw (c.into_parts-entry.ensures.entry, fits.entry)
+    (follows c.args.self.now c.args.job o (rw c.self.view_is at c.self.invariant.0.sound) c.requires.flying valid none fits.used ((tells c.args.self.now c.args.job o).approved (rw v refl)))
 
 pub end_taken-requires-clause-renewed : goal.end_taken-requires-clause-renewed
 end_taken-requires-clause-renewed c =
@@ -26,7 +26,7 @@ end_taken-requires-clause-renewed c =
     let fits = c.requires.fits in
     let v = sym fits.verdict ∙ (sym c.into_parts-entry.ensures.verdict ∙ c.in-Published.is) in
     let none = standing_by c.args.self.now c.args.job o fits.used _ v (λ n h. absurd (cc)) in
-    let held = c.requires.flying.held (among_stands c.args.self.now c.args.job c.count.ensures.sound c.requires.flying.there none) in
+    let held = c.requires.flying.held (among_stands c.args.self.now c.args.job (rw c.self.view_is at c.self.invariant.0.sound) c.requires.flying.there none) in
     let a = published_aftermath c.args.self.now c.args.job o fits.used _ _ _ v held in
     let w = sym c.into_parts-entry.ensures.verdict ∙ c.in-Published.is in
     let r = rw (w, a) at fits.renewed in
@@ -43,8 +43,8 @@ end_taken-requires-in-Confirmed-clause-follows c =
     let fits = c.requires.fits in
     let v = sym fits.verdict ∙ (sym c.into_parts-entry.ensures.verdict ∙ c.in-Confirmed.is) in
     let none = standing_by c.args.self.now c.args.job o fits.used _ v (λ n h. absurd (cc)) in
-    rw (c.into_parts-entry.ensures.entry, fits.entry)
-    (follows c.args.self.now c.args.job o c.count.ensures.sound c.requires.flying c.held.ensures.valid none fits.used ((tells c.args.self.now c.args.job o).approved (rw v refl)))
+    λ valid. rw (c.into_parts-entry.ensures.entry, fits.entry)
+    (follows c.args.self.now c.args.job o (rw c.self.view_is at c.self.invariant.0.sound) c.requires.flying valid none fits.used ((tells c.args.self.now c.args.job o).approved (rw v refl)))
 
 pub end_taken-requires-in-Confirmed-clause-renewed : goal.end_taken-requires-in-Confirmed-clause-renewed
 end_taken-requires-in-Confirmed-clause-renewed c =
@@ -52,7 +52,7 @@ end_taken-requires-in-Confirmed-clause-renewed c =
     let fits = c.requires.fits in
     let v = sym fits.verdict ∙ (sym c.into_parts-entry.ensures.verdict ∙ c.in-Confirmed.is) in
     let none = standing_by c.args.self.now c.args.job o fits.used _ v (λ n h. absurd (cc)) in
-    let held = c.requires.flying.held (among_stands c.args.self.now c.args.job c.count.ensures.sound c.requires.flying.there none) in
+    let held = c.requires.flying.held (among_stands c.args.self.now c.args.job (rw c.self.view_is at c.self.invariant.0.sound) c.requires.flying.there none) in
     let a = confirmed_aftermath c.args.self.now c.args.job o fits.used _ _ v held in
     let w = sym c.into_parts-entry.ensures.verdict ∙ c.in-Confirmed.is in
     let r = rw w at fits.renewed in
@@ -89,12 +89,12 @@ returns-clause-core c =
       | in-Published w ↦
           let v = sym fits.verdict ∙ (sym parts.verdict ∙ w.in-Published.is) in
           let none = standing_by s j o fits.used _ v (λ n h. absurd (cc)) in
-          let held = c.requires.flying.held (among_stands s j c.count.ensures.sound c.requires.flying.there none) in
+          let held = c.requires.flying.held (among_stands s j (rw c.self.view_is at c.self.invariant.0.sound) c.requires.flying.there none) in
           w.self-is ∙ ((rw parts.entry at w.end_taken.ensures) ∙ settled_published s j o fits.used c.args.weighed.moment _ _ _ v held)
       | in-Confirmed w ↦
           let v = sym fits.verdict ∙ (sym parts.verdict ∙ w.in-Confirmed.is) in
           let none = standing_by s j o fits.used _ v (λ n h. absurd (cc)) in
-          let held = c.requires.flying.held (among_stands s j c.count.ensures.sound c.requires.flying.there none) in
+          let held = c.requires.flying.held (among_stands s j (rw c.self.view_is at c.self.invariant.0.sound) c.requires.flying.there none) in
           w.self-is ∙ ((rw parts.entry at w.end_taken-in-Confirmed.ensures) ∙ settled_confirmed s j o fits.used c.args.weighed.moment _ _ v held)
       | in-Refused w ↦
           let v = sym fits.verdict ∙ (sym parts.verdict ∙ w.in-Refused.is) in

@@ -20,7 +20,7 @@ take-requires-clause-assigned c =
     rw c.requires.transfer (subst (λ s. IsSome (incarnation_at s c.args.job.now.flight.zone)) (sym k.after) (stands_some (after i.history) c.args.job.now.flight.zone c.args.job.now.flight.incarnation stood))
 
 pub take-requires-clause-moment : goal.take-requires-clause-moment
-take-requires-clause-moment c = rw c.moment.ensures c.held.ensures.valid.moment
+take-requires-clause-moment c = rw c.moment.ensures.moment c.moment.ensures.valid.moment
 
 pub take-requires-clause-room : goal.take-requires-clause-room
 take-requires-clause-room c =
@@ -37,7 +37,7 @@ renewal-requires c =
     let f = rw (← c.self.view_is) at c.requires.flying in
     let none = rw (← c.self.view_is) at c.requires.standing in
     let stood = among_stands (core_in i.history i.tickets i.flying.items i.schedule) j k.sound f.there none in
-    let state = rw (c.requires.transfer, c.moment.ensures) at c.in_ok-holdings.ensures.state in
+    let state = rw (c.requires.transfer, c.moment.ensures.moment) at c.in_ok-holdings.ensures.state in
     let is = state ∙ taken_step i.holdings (after i.history) j c.args.finished.now.octets k.after (f.held stood) in
     rw (← c.self.view_is) record { config = ap (λ (s : State). s.fold.config) is ∙ config_step (after i.history) (taken_for j c.args.finished.now.octets) }
 
@@ -55,7 +55,7 @@ returns-clause-renewed c =
     let f = rw (← c.self.view_is) at c.requires.flying in
     let none = rw (← c.self.view_is) at c.requires.standing in
     let stood = among_stands (core_in i.history i.tickets i.flying.items i.schedule) j k.sound f.there none in
-    let state = rw (c.requires.transfer, c.moment.ensures) at c.in_ok-holdings.ensures.state in
+    let state = rw (c.requires.transfer, c.moment.ensures.moment) at c.in_ok-holdings.ensures.state in
     let is = state ∙ taken_step i.holdings (after i.history) j c.args.finished.now.octets k.after (f.held stood) in
     let r = rw (← c.self.view_is, is) at c.in_ok-renewal.ensures in
     rw (← c.self.view_is) r

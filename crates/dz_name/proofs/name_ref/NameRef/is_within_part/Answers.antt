@@ -1,11 +1,22 @@
-use Rattle.std.proofs.Common.{arith, drop, length-drop}
-use Rattle.dz_name.proofs.PartLemmas.{part_is, part_within}
+use Rattle.std.proofs.Common.{arith, ap, length}
+use Rattle.dz_name.proofs.PartLemmas.{part_within}
+use Rattle.dz_name.proofs.WithinLemmas.{none_left, next_left, left_first, left_is}
 use Rattle.dz_name.proofs.name_ref.NameRef.is_within_part.Goals as goal
 
-pub returns-then-theirs-mine-clause-value : goal.returns-then-theirs-mine-clause-value
-returns-then-theirs-mine-clause-value c =
-    part_is c.args.self.now (drop c.args.skip c.args.above.now) _ _ _ _ _ c.label_count-mine.ensures (omega (arith, length-drop c.args.skip c.args.above.now)) c.if-theirs-mine.true
-    c.behind.ensures.name c.behind-then-theirs-mine.ensures.name c.behind.ensures.wire c.behind-then-theirs-mine.ensures.wire c.eq.ensures
+pub labels-init : goal.labels-init
+labels-init c = none_left _ _ _ c.wire-rest.ensures.name c.wire-rest.ensures.wire
 
-pub returns-then-theirs-mine-clause-suffix : goal.returns-then-theirs-mine-clause-suffix
-returns-then-theirs-mine-clause-suffix c = part_within _ _ _ (returns-then-theirs-mine-clause-value c)
+pub behind_label-rest-requires-clause-whole : goal.behind_label-rest-requires-clause-whole
+behind_label-rest-requires-clause-whole c = left_first _ _ _ c.labels.invariant
+
+pub labels-preserved : goal.labels-preserved
+labels-preserved c =
+    next_left _ _ _ _ c.labels.invariant
+    (omega (arith, c.labels-test.true, ap length c.behind-suffix.ensures.wire)) c.behind_label-rest.ensures
+
+pub returns-clause-value : goal.returns-clause-value
+returns-clause-value c =
+    left_is _ _ _ _ _ c.labels.invariant c.behind-suffix.ensures.name c.behind-suffix.ensures.wire (omega (arith, c.labels-test.false)) c.eq.ensures
+
+pub returns-clause-suffix : goal.returns-clause-suffix
+returns-clause-suffix c = part_within _ _ _ (returns-clause-value c)

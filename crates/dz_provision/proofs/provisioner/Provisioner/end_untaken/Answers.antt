@@ -7,7 +7,7 @@ use Rattle.dz_provision.specs.Log.{settled_lines}
 use Rattle.dz_provision.specs.inner.Writing.{log_of}
 use Rattle.dz_provision.proofs.LogLemmas.{Joins}
 use Rattle.dz_provision.proofs.TakenLemmas.{untaken_list, untaken_joins, settled_lines_of, offered_of}
-use Rattle.dz_provision.proofs.HeldLemmas.{Agrees, agrees, settled_so}
+use Rattle.dz_provision.proofs.HeldLemmas.{Agrees, agrees, still_begun, settled_so}
 use Rattle.dz_provision.proofs.provisioner.Provisioner.end_untaken.Goals as goal
 
 pub invariant_of-self : goal.invariant_of-self
@@ -20,7 +20,7 @@ invariant_of-self g c =
     let lines : c.as_slice.result.now ≡ verdict_lines c.args.job.flight.zone c.args.ready.weighed.verdict = c.as_slice.ensures.value ∙ ready.lines in
     let joins = subst (λ l. Joins c.self.inside.fleet.list l c.self.inside.fleet.list) (sym lines) (untaken_joins c.self.inside.fleet.list c.args.job.flight.zone c.args.ready.weighed.verdict c.requires.untaken) in
     let ok = agrees c.self.inside.fleet.list c.settle-verdict.new.self.list c.as_slice.result.now c.log-logged.result a _ before kept (subst (λ l. Joins c.self.inside.fleet.list c.as_slice.result.now l) (sym same) joins) c.log-logged.ensures in
-    (same ∙ c.self.invariant.0, c.self.invariant.1, c.self.invariant.2, ok.logged, ok.cause)
+    (same ∙ c.self.invariant.0, c.self.invariant.1, c.self.invariant.2, ok.logged, ok.cause, still_begun _ _ same c.self.invariant.5)
 
 pub returns-clause-settled : goal.returns-clause-settled
 returns-clause-settled g c =

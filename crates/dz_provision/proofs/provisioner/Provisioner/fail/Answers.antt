@@ -5,7 +5,7 @@ use Rattle.dz_provision.specs.Log as asides
 use Rattle.dz_provision.specs.inner.Writing.{log_of}
 use Rattle.dz_provision.proofs.LogLemmas.{Joins, joins_aside}
 use Rattle.dz_provision.proofs.TakenLemmas.{failed_list}
-use Rattle.dz_provision.proofs.HeldLemmas.{Agrees, agrees, unfailed, failed_none, failed_so}
+use Rattle.dz_provision.proofs.HeldLemmas.{Agrees, agrees, still_begun, unfailed, failed_none, failed_so}
 use Rattle.dz_provision.proofs.provisioner.Provisioner.fail.Goals as goal
 
 pub returns-then-self-clause-failed : goal.returns-then-self-clause-failed
@@ -19,7 +19,7 @@ invariant_of-self g c =
     let lines : c.as_slice.result.now ≡ failure_line c.zone.result.now c.fail-failure.result = c.as_slice.ensures ∙ c.failure_line-line.ensures in
     let joins = subst (λ l. Joins c.self.inside.fleet.list l c.self.inside.fleet.list) (sym lines) (joins_aside c.self.inside.fleet.list (asides.failed c.zone.result.now c.fail-failure.result)) in
     let ok = agrees c.self.inside.fleet.list c.fail-failure.new.self.list c.as_slice.result.now c.log-logged.result a _ c.if-self.false kept (subst (λ l. Joins c.self.inside.fleet.list c.as_slice.result.now l) (sym same) joins) c.log-logged.ensures in
-    (same ∙ c.self.invariant.0, c.self.invariant.1, c.self.invariant.2, ok.logged, ok.cause)
+    (same ∙ c.self.invariant.0, c.self.invariant.1, c.self.invariant.2, ok.logged, ok.cause, still_begun _ _ same c.self.invariant.5)
 
 pub returns-in-Some-clause-failed : goal.returns-in-Some-clause-failed
 returns-in-Some-clause-failed g c =
@@ -29,3 +29,6 @@ pub returns-in-None-clause-failed : goal.returns-in-None-clause-failed
 returns-in-None-clause-failed g c =
     let lines : c.as_slice.result.now ≡ failure_line c.args.job.flight.zone c.fail-failure.result = c.as_slice.ensures ∙ (c.failure_line-line.ensures ∙ ap (λ z. failure_line z c.fail-failure.result) c.zone.ensures) in
     rw (← c.self.view_is, c.end.ensures) (failed_so _ _ c.if-self.false c.args.job c.args.now c.fail-failure.result c.tell.result c.log-logged.result (c.in-None.ensures.none.0 refl) c.fail-failure.ensures.failure c.fail-failure.ensures.core (rw lines at c.log-logged.ensures))
+
+pub returns-then-self-clause-sound : goal.returns-then-self-clause-sound
+returns-then-self-clause-sound g c = rw (← c.self.view_is) (λ before. absurd (cc (c.if-self.true, before)))

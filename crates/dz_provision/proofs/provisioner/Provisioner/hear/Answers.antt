@@ -5,7 +5,7 @@ use Rattle.dz_provision.specs.Log as asides
 use Rattle.dz_provision.specs.inner.Writing.{log_of}
 use Rattle.dz_provision.proofs.LogLemmas.{Joins, joins_aside}
 use Rattle.dz_provision.proofs.TakenLemmas.{notified_list}
-use Rattle.dz_provision.proofs.HeldLemmas.{Agrees, agrees, unheard, heard_so, risen_so}
+use Rattle.dz_provision.proofs.HeldLemmas.{Agrees, agrees, still_begun, unheard, heard_so, risen_so}
 use Rattle.dz_provision.proofs.provisioner.Provisioner.hear.Goals as goal
 
 pub returns-then-self-clause-heard : goal.returns-then-self-clause-heard
@@ -19,7 +19,7 @@ invariant_of-self g c =
     let lines : c.as_slice.result.now ≡ notify_line c.args.zone.now c.notify-heard.result = c.as_slice.ensures ∙ c.notify_line-line.ensures in
     let joins = subst (λ l. Joins c.self.inside.fleet.list l c.self.inside.fleet.list) (sym lines) (joins_aside c.self.inside.fleet.list (asides.heard c.args.zone.now c.notify-heard.result)) in
     let ok = agrees c.self.inside.fleet.list c.notify-heard.new.self.list c.as_slice.result.now c.log-logged.result a _ c.if-self.false kept (subst (λ l. Joins c.self.inside.fleet.list c.as_slice.result.now l) (sym same) joins) c.log-logged.ensures in
-    (same ∙ c.self.invariant.0, c.self.invariant.1, c.self.invariant.2, ok.logged, ok.cause)
+    (same ∙ c.self.invariant.0, c.self.invariant.1, c.self.invariant.2, ok.logged, ok.cause, still_begun _ _ same c.self.invariant.5)
 
 pub returns-clause-heard : goal.returns-clause-heard
 returns-clause-heard g c =

@@ -13,7 +13,7 @@ invariant_of-self g c =
     let kept : Agrees c.self.inside.fleet.list a = record { logged = c.self.invariant.3; cause = c.self.invariant.4 } in
     let joins = subst (λ l. Joins c.self.inside.fleet.list l c.self.inside.fleet.list) (sym c.requires.2) (joins_aside c.self.inside.fleet.list c.requires.0) in
     let ok = agrees c.self.inside.fleet.list c.self.inside.fleet.list c.args.line.now c.log.result a _ c.if-self.false kept joins c.log.ensures in
-    (c.self.invariant.0, c.self.invariant.1, c.self.invariant.2, ok.logged, ok.cause)
+    (c.self.invariant.0, c.self.invariant.1, c.self.invariant.2, ok.logged, ok.cause, c.self.invariant.5)
 
 pub returns : goal.returns
 returns g c = rw (← c.self.view_is) (said_so _ _ c.if-self.false c.args.line.now c.log.result refl c.log.ensures)

@@ -1,6 +1,6 @@
 use Rattle.std.proofs.Common.{◌≡◌, ◌∙◌, refl, sym, ap, Some, None}
 use Rattle.dz_provision.specs.Held.{Held}
-use Rattle.dz_provision.proofs.HeldLemmas.{unsettled, settled_none, starved_so}
+use Rattle.dz_provision.proofs.HeldLemmas.{unsettled, settled_none, starved_so, always_ok}
 use Rattle.dz_provision.proofs.provisioner.Provisioner.settle.Goals as goal
 
 pub returns-then-self-clause-settled : goal.returns-then-self-clause-settled
@@ -13,3 +13,13 @@ returns-in-Some-clause-settled g c =
 pub returns-in-Err-clause-settled : goal.returns-in-Err-clause-settled
 returns-in-Err-clause-settled g c =
     starved_so c.args.self.now c.starve.new.self c.args.job _ c.args.now c.starve.result.0 c.starve.result.1 (ap (λ (h : Held). h.failed) (sym c.self.view_is) ∙ c.if-self.false) (rw (← c.self.view_is) (c.in-None.ensures.none.0 refl)) c.starve.ensures.settled
+
+pub returns-in-Err-clause-used : goal.returns-in-Err-clause-used
+returns-in-Err-clause-used g c = λ some. absurd (some c.starve.ensures.settled.verdict)
+
+pub returns-in-Ok-clause-used : goal.returns-in-Ok-clause-used
+returns-in-Ok-clause-used g c =
+    always_ok _ c.end_weighed.result (λ r some. rw c.in-Ok.ensures.entry at c.in-Ok.ensures.ready.fits.used)
+
+pub returns-then-self-clause-sound : goal.returns-then-self-clause-sound
+returns-then-self-clause-sound g c = rw (← c.self.view_is) (λ before. absurd (cc (c.if-self.true, before)))

@@ -1,4 +1,4 @@
-use Rattle.std.proofs.Common.{rules, ◌∙◌}
+use Rattle.std.proofs.Common.{rules, ◌∙◌, arith}
 use Rattle.dz_provision.proofs.StartLemmas.{start_table, start_logged}
 use Rattle.dz_provision.proofs.provisioner.Provisioner.start.Goals as goal
 
@@ -8,4 +8,4 @@ stage-requires-clause-table g c = c.in-Ok.ensures.table ∙ rw (c.requires.publi
 pub invariant_of-result : goal.invariant_of-result
 invariant_of-result g c =
     let logged = start_logged c.args.config (g.K.Sink.held c.args.output) (λ text is. let empty = c.requires.output.0 in rw is at empty) in
-    (search rules, search rules, search rules, rw c.in-Ok.ensures.fleet logged, search rules)
+    (search rules, search rules, search rules, rw c.in-Ok.ensures.fleet logged, search rules, rw c.in-Ok.ensures.fleet (omega arith))

@@ -15,7 +15,7 @@ by_failing-requires g c =
     let job = c.remove-job.result in
     let at = place_is c.self.inside.jobs.items c.in-Some.place c.args.ticket job (sym (rw c.as_slice.ensures.value at c.in-Some.ensures)) c.remove-job.ensures.value in
     let there : slice_get c.self.inside.provisioner.core.flight c.in-Some.place ≡ Some job = ap (λ (js : List JobOf). slice_get js c.in-Some.place) (sym same) ∙ at.there in
-    failed_made c.self.inside.provisioner c.fail.new.self job c.args.moment c.fail.result (flies c.self.inside.provisioner.core c.in-Some.place job c.count.ensures.sound there) c.fail.ensures.failed
+    failed_made c.self.inside.provisioner c.fail.new.self job c.args.moment c.fail.result (flies c.self.inside.provisioner.core c.in-Some.place job (c.fail.ensures.sound before) there) c.fail.ensures.failed
 
 pub invariant_of-self : goal.invariant_of-self
 invariant_of-self g c =
@@ -24,8 +24,8 @@ invariant_of-self g c =
     let job = c.remove-job.result in
     let at = place_is c.self.inside.jobs.items c.in-Some.place c.args.ticket job (sym (rw c.as_slice.ensures.value at c.in-Some.ensures)) c.remove-job.ensures.value in
     let there : slice_get c.self.inside.provisioner.core.flight c.in-Some.place ≡ Some job = ap (λ (js : List JobOf). slice_get js c.in-Some.place) (sym same) ∙ at.there in
-    let fly = flies c.self.inside.provisioner.core c.in-Some.place job c.count.ensures.sound there in (
-      λ still. still_flying c.self.inside.jobs.items c.self.inside.provisioner.core.flight c.remove-job.new.self.items c.in-Some.place job same c.count.ensures.sound.apart there c.remove-job.ensures.items
+    let fly = flies c.self.inside.provisioner.core c.in-Some.place job (c.fail.ensures.sound before) there in (
+      λ still. still_flying c.self.inside.jobs.items c.self.inside.provisioner.core.flight c.remove-job.new.self.items c.in-Some.place job same (c.fail.ensures.sound before).apart there c.remove-job.ensures.items
           ∙ sym (failing_flight c.self.inside.provisioner c.fail.new.self job c.args.moment c.fail.result before fly c.fail.ensures.failed),
       c.self.invariant.1,
     )
@@ -45,5 +45,5 @@ returns-in-Some g c number =
     let at = place_is c.self.inside.jobs.items c.in-Some.place c.args.ticket job (sym (rw c.as_slice.ensures.value at c.in-Some.ensures)) c.remove-job.ensures.value in
     let there : slice_get c.self.inside.provisioner.core.flight c.in-Some.place ≡ Some job = ap (λ (js : List JobOf). slice_get js c.in-Some.place) (sym same) ∙ at.there in
     let found : job_in c.self.inside.provisioner.core.flight c.args.ticket ≡ Some job = ap (λ (js : List JobOf). job_in js c.args.ticket) (sym same) ∙ at.found in
-    let fly = flies c.self.inside.provisioner.core c.in-Some.place job c.count.ensures.sound there in
+    let fly = flies c.self.inside.provisioner.core c.in-Some.place job (c.fail.ensures.sound before) there in
     rw (← c.self.view_is, c.by_failing.ensures) (fail_taken c.self.inside.provisioner c.fail.new.self number c.args.moment c.args.ticket job c.fail.result before found fly c.fail.ensures.failed)

@@ -28,7 +28,7 @@ by_settling-requires g c =
     let job = c.remove-job.result in
     let at = place_is c.self.inside.jobs.items c.in-Some.place c.args.ticket job (sym (rw c.as_slice.ensures.value at c.in-Some.ensures)) c.remove-job.ensures.value in
     let there : slice_get c.self.inside.provisioner.core.flight c.in-Some.place ≡ Some job = ap (λ (js : List JobOf). slice_get js c.in-Some.place) (sym same) ∙ at.there in
-    settled_made c.self.inside.provisioner c.settle.new.self job _ c.args.moment c.settle.result (flies c.self.inside.provisioner.core c.in-Some.place job c.count.ensures.sound there) c.settle.ensures.settled
+    settled_made c.self.inside.provisioner c.settle.new.self job _ c.args.moment c.settle.result (flies c.self.inside.provisioner.core c.in-Some.place job (c.settle.ensures.sound before) there) c.settle.ensures.settled
 
 pub invariant_of-self : goal.invariant_of-self
 invariant_of-self g c =
@@ -37,8 +37,8 @@ invariant_of-self g c =
     let job = c.remove-job.result in
     let at = place_is c.self.inside.jobs.items c.in-Some.place c.args.ticket job (sym (rw c.as_slice.ensures.value at c.in-Some.ensures)) c.remove-job.ensures.value in
     let there : slice_get c.self.inside.provisioner.core.flight c.in-Some.place ≡ Some job = ap (λ (js : List JobOf). slice_get js c.in-Some.place) (sym same) ∙ at.there in
-    let fly = flies c.self.inside.provisioner.core c.in-Some.place job c.count.ensures.sound there in (
-      λ still. still_flying c.self.inside.jobs.items c.self.inside.provisioner.core.flight c.remove-job.new.self.items c.in-Some.place job same c.count.ensures.sound.apart there c.remove-job.ensures.items
+    let fly = flies c.self.inside.provisioner.core c.in-Some.place job (c.settle.ensures.sound before) there in (
+      λ still. still_flying c.self.inside.jobs.items c.self.inside.provisioner.core.flight c.remove-job.new.self.items c.in-Some.place job same (c.settle.ensures.sound before).apart there c.remove-job.ensures.items
           ∙ sym (settling_flight c.self.inside.provisioner c.settle.new.self job _ c.args.moment c.settle.result before fly c.settle.ensures.settled),
       c.self.invariant.1,
     )
@@ -61,6 +61,6 @@ returns-in-Ok g c number =
     let one : c.index.result.now ≡ job = cc two in
     let there : slice_get c.self.inside.provisioner.core.flight c.in-Some.place ≡ Some job = ap (λ (js : List JobOf). slice_get js c.in-Some.place) (sym same) ∙ at.there in
     let found : job_in c.self.inside.provisioner.core.flight c.args.ticket ≡ Some job = ap (λ (js : List JobOf). job_in js c.args.ticket) (sym same) ∙ at.found in
-    let fly = flies c.self.inside.provisioner.core c.in-Some.place job c.count.ensures.sound there in
+    let fly = flies c.self.inside.provisioner.core c.in-Some.place job (c.settle.ensures.sound before) there in
     let read = subst (λ (j : JobOf). IsReadOf (transfer_for j) c.args.octets.now c.in-Ok.finished.octets) one c.in-Ok.ensures.read in
     rw (← c.self.view_is, c.by_settling.ensures) (take_taken c.self.inside.provisioner c.settle.new.self number c.args.moment c.args.ticket c.args.octets.now _ job c.settle.result before found read fly c.settle.ensures.settled)

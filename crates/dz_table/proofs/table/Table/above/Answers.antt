@@ -1,6 +1,6 @@
-use Rattle.std.proofs.Common.{arith, length-drop, ◌∙◌, sym, ap, length, ◌<◌, ◌≡◌}
+use Rattle.std.proofs.Common.{arith, length-drop, ◌∙◌, ap, length, ◌<◌}
 use Rattle.dz_table.specs.Table.{closest}
-use Rattle.dz_table.proofs.AboveLemmas.{above_is, above_none, within_above}
+use Rattle.dz_table.proofs.AboveLemmas.{above_is, within_above}
 use Rattle.dz_table.proofs.CostLemmas.{no_more}
 use Rattle.dz_table.proofs.table.Table.above.Goals as goal
 

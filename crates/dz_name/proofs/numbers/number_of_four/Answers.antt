@@ -1,0 +1,7 @@
+use Rattle.std.proofs.Common.{rules}
+use Rattle.dz_name.specs.Numbers.{number_of_four}
+use Rattle.dz_name.proofs.numbers.number_of_four.Goals as goal
+
+pub returns : goal.returns
+unfolding number_of_four
+returns c = search rules
