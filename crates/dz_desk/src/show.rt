@@ -33,7 +33,7 @@ pub(crate) fn show<R: Wait>(rt: &R, writer: &mut Showing, next: Edition)
             ensures last { view result.0.desk.place ≡ Some result.0.desk.shown.value }
             ensures shown { drop writer.behind writer.log.items ≡ result.0.desk.shown.value ∷ [] }
             ensures rest { drop result.0.behind result.0.log.items ≡ [] }
-        { (turn(rt, writer), ()) },
+        { (turn_again(rt, turn(rt, writer)), ()) },
     );
 }
 
@@ -71,4 +71,17 @@ fn turn<R: Wait>(rt: &R, writer: Showing) -> Showing
         }
     }
     unreachable!()
+}
+
+/// Shows the same edition by the other copy too, so that neither keeps the one before it, whose tables and versions are
+/// given back once nobody else has them.
+fn turn_again<R: Wait>(rt: &R, writer: Showing) -> Showing
+    requires last { view writer.desk.place ≡ Some writer.desk.shown.value }
+    requires rest { drop writer.behind writer.log.items ≡ [] }
+    ensures last { view result.desk.place ≡ Some result.desk.shown.value }
+    ensures same { result.desk.shown.value ≡ writer.desk.shown.value }
+    ensures rest { drop result.behind result.log.items ≡ [] }
+{
+    let (same, _) = writer.publish_as::<Look, R>(rt);
+    same
 }

@@ -33,13 +33,13 @@ longer xs y = length-append xs (y ∷ [])
 itself : (k : List ℕ) → compared k k ≡ Equal
 itself k = tied_itself nat_list_cmp_total k
 
-itself_le : (k : List ℕ) → is_le (compared k k) ≡ true
+pub itself_le : (k : List ℕ) → is_le (compared k k) ≡ true
 itself_le k = rw (itself k) refl
 
 itself_lt : (k : List ℕ) → is_lt (compared k k) ≡ false
 itself_lt k = rw (itself k) refl
 
-less_back : (a b : List ℕ) → compared a b ≡ Less → is_lt (compared b a) ≡ false
+pub less_back : (a b : List ℕ) → compared a b ≡ Less → is_lt (compared b a) ≡ false
 less_back a b e = ap is_lt (nat_list_cmp_total.antisymm b a ∙ ap ordering_reverse e)
 
 module _ (owners : List (List (List ℕ))) (r : Rows) (name : List (List ℕ)) (kept : IsKept r) (index : IsIndex owners r) where

@@ -5,5 +5,7 @@ pub mod SearchLemmas
 pub mod OrderLemmas
 pub mod OwnerKeyLemmas
 pub mod AddingLemmas
+pub mod PlacesLemmas
+pub mod RunLemmas
 mod OctetLemmas
 pub mod SharedLemmas

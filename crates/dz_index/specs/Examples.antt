@@ -66,5 +66,5 @@ place_of_the_fourth = refl
 pub place_behind_all : place_of (codes "zz" ∷ codes "a" ∷ example) ≡ 12
 place_behind_all = refl
 
-pub owners_is_250000 : OWNERS ≡ 250000
-owners_is_250000 = refl
+pub owners_is_750000 : OWNERS ≡ 750000
+owners_is_750000 = refl

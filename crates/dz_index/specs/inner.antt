@@ -2,3 +2,4 @@
 pub mod Above
 pub mod Kept
 pub mod Parts
+pub mod Portion

@@ -1,15 +1,17 @@
 //! An index of owners.
 
-ghost use Rattle.std.specs.Prelude.{◌≡◌, ◌↔◌, ◌+◌, ◌-◌, ◌<◌, ◌≤◌, List, [], ◌∷◌, ◌++◌, length, None, IfOk, IfSome, slice_index, nat_lt, ◌&&◌, false, true, OnOk, OnErr};
+ghost use Rattle.std.specs.Prelude.{◌≡◌, ◌↔◌, ℕ, ◌+◌, ◌-◌, ◌^◌, ◌<◌, ◌≤◌, List, [], ◌∷◌, ◌++◌, length, None, IfOk, IfSome, slice_index, slice_index_or, slice_range, nat_lt, ◌&&◌, false, true, OnOk, OnErr};
 ghost use Rattle.std.specs.Ordering.{is_eq, is_gt};
 ghost use Rattle.dz_name.specs.Words.{Name};
 ghost use Rattle.dz_index.specs.Index.{IsFirstOf, IsEndOf, IsRun, InOrder, order_behind, IsSearch, TakesAtMost};
 ghost use Rattle.dz_index.specs.Rows.{count, total, key_at, compared, IsIndex, AreRising};
 ghost use Rattle.dz_index.specs.SortKey.{key_of};
 ghost use Rattle.dz_index.specs.inner.Kept.{IsPlaceAmong, repeated, added, last_compared};
+ghost use Rattle.dz_index.specs.inner.Portion.{IsPortion, IsPlaces, places_with, joined, continued};
 
 use crate::keys::Keys;
 use crate::owner_key::OwnerKey;
+use crate::places::extend_moved;
 use crate::sort_key::{ROOM, SortKey};
 use dz_name::{Name, NameRef};
 use dz_steps::Steps;
@@ -18,8 +20,9 @@ use std::cmp::Ordering;
 use std::marker::{Brand, Model};
 use std::sync::ledger::{Blank, Ledger};
 
-/// The most owners of an index, each as often as it comes.
-pub const OWNERS: usize = 250_000;
+/// The most owners of an index, each as often as it comes: a zone of 250,000 records, and the 500,000 that a transfer
+/// may add to it.
+pub const OWNERS: usize = 750_000;
 
 /// The distinct owners of a zone, each with the place of its first record: their sort keys, and eight octets beside each.
 /// Contracts see the keys and the places.
@@ -35,6 +38,15 @@ pub struct Run {
     pub number: usize,
     pub begin: usize,
     pub end: usize,
+}
+
+/// The records of an index from one place up to another, and the owners that they have: from one number up to another.
+#[derive(Clone, Copy)]
+struct Portion {
+    from: usize,
+    to: usize,
+    begin: usize,
+    end: usize,
 }
 
 impl Model for Index {
@@ -90,6 +102,18 @@ impl Index {
         })
     }
 
+    /// No owner yet, with room for as many as another index has. The error is want of memory.
+    pub fn beside(alloc: Global, other: &Index) -> Result<Index, AllocError>
+        ensures { IfOk result (IsIndex []) }
+    {
+        let mut firsts = Vec::with_capacity(alloc, other.firsts.len())?;
+        firsts.push(0)?;
+        Ok(Index {
+            keys: Keys::beside(alloc, &other.keys)?,
+            firsts,
+        })
+    }
+
     /// One more owner after the others, or the last one once more, in place; and how the last one compares with it,
     /// which is before it where there is none. An owner that comes before the last one isn't added, nor is one where
     /// memory runs out. It takes one comparison where there is an owner already, and none where there is none.
@@ -120,6 +144,44 @@ impl Index {
             Ordering::Greater => {}
         }
         Ok(order)
+    }
+
+    /// The owners of another index's records from one place up to another after the others; and how the last owner
+    /// here compares with the first of them, which is before it where there is none. Where it comes after it, nothing
+    /// is added. It takes one comparison where there is an owner already, and none where there is none; keys and places
+    /// are copied in blocks. The error is want of memory.
+    pub fn with_run<L: Ledger>(
+        self,
+        other: &Index,
+        begin: usize,
+        end: usize,
+        steps: &mut Steps<L>,
+    ) -> Result<(Index, Ordering), AllocError>
+        requires some { begin < end }
+        requires within { end ≤ total other.now }
+        requires few { total self + (end - begin) ≤ OWNERS }
+        ensures order { (owners others : List Name) (d : Name) → IsIndex owners self
+            → IsIndex others other.now
+            → IfOk result (λ r. r.1 ≡ order_behind owners (slice_index_or others begin d)) }
+        ensures index { (owners others : List Name) → IsIndex owners self
+            → IsIndex others other.now → IfOk result (λ r. is_gt r.1 ≡ false
+            → IsIndex (owners ++ slice_range others begin end) r.0) }
+        ensures total { IfOk result (λ r. is_gt r.1 ≡ false
+            → total r.0 ≡ total self + (end - begin)) }
+        ensures kept { IfOk result (λ r. is_gt r.1 ≡ true → r.0 ≡ self) }
+        ensures one { 0 < count self → steps.new ≡ steps.old + 1 }
+        ensures none { count self ≡ 0 → steps.new ≡ steps.old }
+    {
+        let _ = &self.firsts;
+        let _ = &other.firsts;
+        let portion = other.portion(begin, end);
+        let order = self.last_cmp_of(other, portion.from, steps);
+        let index = match order {
+            Ordering::Less => self.joined(other, portion)?,
+            Ordering::Equal => self.continued(other, portion)?,
+            Ordering::Greater => self,
+        };
+        Ok((index, order))
     }
 
     /// How many owners come before a name in canonical order, which is the place of its first record.
@@ -301,4 +363,104 @@ impl Index {
         }
         Ok(())
     }
+
+    /// How the last key compares with one of another index: before it where there is none.
+    fn last_cmp_of<L: Ledger>(&self, other: &Index, number: usize, steps: &mut Steps<L>) -> Ordering
+        requires { number < count other.now }
+        ensures value { result ≡ last_compared self.now (key_at other.now number) }
+        ensures one { 0 < count self.now → steps.new ≡ steps.old + 1 }
+        ensures none { count self.now ≡ 0 → steps.new ≡ steps.old }
+    {
+        let count = self.len();
+        if count == 0 {
+            return Ordering::Less;
+        }
+        self.keys
+            .compare_with(count - 1, &other.keys, number, steps)
+    }
+
+    /// How many places of `firsts` come before this one.
+    fn firsts_before(&self, place: usize) -> usize
+        ensures within { result ≤ count self.now + 1 }
+        ensures before { (i : ℕ) → i < result → slice_index self.now.firsts i < place }
+        ensures behind { (i : ℕ) → result ≤ i → i ≤ count self.now
+            → place ≤ slice_index self.now.firsts i }
+    {
+        self.firsts
+            .as_slice()
+            .partition_point(|first| (*first as usize) < place)
+    }
+
+    /// The owners of the records from one place up to another.
+    fn portion(&self, begin: usize, end: usize) -> Portion
+        requires some { begin < end }
+        requires within { end ≤ total self.now }
+        ensures portion { IsPortion self.now result }
+        ensures begin { result.begin ≡ begin }
+        ensures end { result.end ≡ end }
+    {
+        let _ = &self.firsts;
+        Portion {
+            from: self.firsts_before(begin + 1) - 1,
+            to: self.firsts_before(end),
+            begin,
+            end,
+        }
+    }
+
+    /// The owners of a portion of another index after the others.
+    fn joined(self, other: &Index, portion: Portion) -> Result<Index, AllocError>
+        requires portion { IsPortion other.now portion }
+        requires few { total self + (portion.end - portion.begin) ≤ OWNERS }
+        ensures { IfOk result (λ r. r ≡ joined self other.now portion) }
+    {
+        let total = self.total();
+        let Index { keys, mut firsts } = self;
+        extend_places(&mut firsts, other.firsts.as_slice(), portion, total)?;
+        Ok(Index {
+            keys: keys.with_run(&other.keys, portion.from, portion.to)?,
+            firsts,
+        })
+    }
+
+    /// The owners of a portion of another index after the others, where the first of them is the last one here.
+    fn continued(self, other: &Index, portion: Portion) -> Result<Index, AllocError>
+        requires some { 0 < count self }
+        requires portion { IsPortion other.now portion }
+        requires few { total self + (portion.end - portion.begin) ≤ OWNERS }
+        ensures { IfOk result (λ r. r ≡ continued self other.now portion) }
+    {
+        let total = self.total();
+        let Index { keys, mut firsts } = self;
+        firsts.pop();
+        extend_places(&mut firsts, other.firsts.as_slice(), portion, total)?;
+        Ok(Index {
+            keys: keys.with_run(&other.keys, portion.from + 1, portion.to)?,
+            firsts,
+        })
+    }
+}
+
+/// The places of the owners of a portion after others, and the place after its records. So many records come before it.
+fn extend_places(
+    firsts: &mut Vec<u32>,
+    others: &[u32],
+    portion: Portion,
+    total: usize,
+) -> Result<(), AllocError>
+    requires places { IsPlaces others.now portion }
+    requires few { total + (portion.end - portion.begin) ≤ OWNERS }
+    ensures { OnOk result (firsts.new.items
+        ≡ places_with firsts.old.items others.now portion total) }
+{
+    let Portion {
+        from,
+        to,
+        begin,
+        end,
+    } = portion;
+    firsts.reserve(to - from)?;
+    extend_moved(firsts, &others[from + 1..to], begin as u32, total as u32)?;
+    firsts.push((total + (end - begin)) as u32)?;
+    Ok(())
 }

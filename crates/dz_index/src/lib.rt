@@ -6,6 +6,7 @@ mod keys;
 mod lead;
 mod octets;
 mod owner_key;
+mod places;
 mod shared;
 mod sort_key;
 

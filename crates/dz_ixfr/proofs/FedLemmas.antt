@@ -16,7 +16,7 @@ use Rattle.dz_xfr.specs.Place.{Place, amid, ended, failed, read, said}
 use Rattle.dz_xfr.specs.Stands.{Stands, IsComplete, more, complete, misfit, is_complete}
 use Rattle.dz_xfr.proofs.ReadingLemmas.{read_pieces, stays_failed}
 use Rattle.dz_ixfr.specs.declared.differences.Stage.{Stage}
-use Rattle.dz_ixfr.specs.declared.differences.Stage.TheVariants.{Begun, Deleting, Adding, Ended, Lost}
+use Rattle.dz_ixfr.specs.declared.differences.Stage.TheVariants.{Begun, Deleting, Adding, Ended}
 use Rattle.dz_ixfr.specs.Assembly.{Assembly}
 use Rattle.dz_ixfr.specs.Incremental.{IsIncremental, Blames, others}
 use Rattle.dz_ixfr.specs.Reading.{Amid, begun, one, start, place_of, reading_of}
@@ -65,26 +65,25 @@ pub none_left : (fed rest all : List Record) → rest ≡ [] → fed ++ rest ≡
 none_left fed rest all n e = sym (append-nil fed) ∙ (ap (λ l. fed ++ l) (sym n) ∙ e)
 
 -- the records at the end
-zone_is : (s : Stage) (first : Record) (standing zone end : List Record) → place_in s first standing zone ≡ ended end → place_in s first standing zone ≡ ended zone
-zone_is (Begun n) first standing zone end e = absurd (cc)
-zone_is Deleting first standing zone end e = absurd (cc)
-zone_is (Adding n) first standing zone end e = absurd (cc)
-zone_is Ended first standing zone end e = refl
-zone_is Lost first standing zone end e = absurd (cc)
+zone_is : (s : Stage) (first : Record) (records end : List Record) → place_in s first records ≡ ended end → place_in s first records ≡ ended records
+zone_is (Begun n) first records end e = absurd (cc)
+zone_is Deleting first records end e = absurd (cc)
+zone_is (Adding n) first records end e = absurd (cc)
+zone_is Ended first records end e = refl
 
-pub finished : {held : Zone} {fed : List Record} {apex : Name} {goal : ℕ} {first : Record} {stage : Stage} {standing zone : List Record} → IsKept held fed apex goal first stage standing zone
-    → (seen : Assembly) → record { held = held; fed = fed } ≡ seen → IsComplete (IsIncremental seen.held) seen.fed → IsIncremental seen.held seen.fed zone
-finished {held = held} {fed = fed} {first = first} {stage = stage} {standing = standing} {zone = zone} k seen v =
-    subst (λ (s : Assembly). IsComplete (IsIncremental s.held) s.fed → IsIncremental s.held s.fed zone) v
-    (λ w. from_end held fed zone (k.place ∙ zone_is stage first standing zone w.0 (sym k.place ∙ to_end held fed w.0 w.1)))
+pub finished : {held : Zone} {fed : List Record} {apex : Name} {goal : ℕ} {first : Record} {stage : Stage} {records : List Record} → IsKept held fed apex goal first stage records
+    → (seen : Assembly) → record { held = held; fed = fed } ≡ seen → IsComplete (IsIncremental seen.held) seen.fed → IsIncremental seen.held seen.fed records
+finished {held = held} {fed = fed} {first = first} {stage = stage} {records = records} k seen v =
+    subst (λ (s : Assembly). IsComplete (IsIncremental s.held) s.fed → IsIncremental s.held s.fed records) v
+    (λ w. from_end held fed records (k.place ∙ zone_is stage first records w.0 (sym k.place ∙ to_end held fed w.0 w.1)))
 
 -- after the first SOA
 pub started_place : (held : Zone) (first : Record) → is_apex_soa held.apex first ≡ true → place_of held (first ∷ []) ≡ amid (begun first (held_serial held) (others held))
 started_place held first t = step_first held.apex first (held_serial held) (others held) t
 
-pub started_kept : (held : Zone) (fed : List Record) (apex : Name) (goal serial : ℕ) (first : Record) (standing zone : List Record) → fed ≡ first ∷ [] → apex ≡ held.apex → goal ≡ serial_of first → serial ≡ held_serial held → standing ≡ others held
-    → is_apex_soa held.apex first ≡ true → IsKept held fed apex goal first (Begun serial) standing zone
-started_kept held fed apex goal serial first standing zone f a g n s t = rw (f, n, s) record {
+pub started_kept : (held : Zone) (fed : List Record) (apex : Name) (goal serial : ℕ) (first : Record) → fed ≡ first ∷ [] → apex ≡ held.apex → goal ≡ serial_of first → serial ≡ held_serial held
+    → is_apex_soa held.apex first ≡ true → IsKept held fed apex goal first (Begun serial) (others held)
+started_kept held fed apex goal serial first f a g n t = rw (f, n) record {
   apex_is = a;
   goal_is = g;
   opens = t;

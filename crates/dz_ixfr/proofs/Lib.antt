@@ -3,9 +3,5 @@ pub mod ChangeLemmas
 pub mod FedLemmas
 pub mod FromEnd
 pub mod KeptLemmas
-pub mod OverlayLemmas
-pub mod Searched
 pub mod Soas
-pub mod Standings
-pub mod Ties
 pub mod ToEnd

@@ -1,21 +1,14 @@
 -- Meaning: the incremental form of a transfer (RFC 1995 section 4), of whole lists of records.
 use Rattle.std.specs.Prelude.{◌≡◌, ◌≢◌, ℕ, Bool, true, false, not, List, [], ◌∷◌, ◌++◌, filter, if◌then◌else◌}
-use Rattle.std.specs.List.{AllByRecursion, list_any, flat_map, fold}
+use Rattle.std.specs.List.{AllByRecursion, flat_map, fold}
 use Rattle.dz_name.specs.Words.{Name}
-use Rattle.dz_record.specs.Record.{Record, same_record}
+use Rattle.dz_record.specs.Record.{Record}
 use Rattle.dz_record.specs.Records.{insertion}
+pub use Rattle.dz_zone.specs.Revision.{is_there, without}
 use Rattle.dz_zone.specs.Version.{Zone}
 use Rattle.dz_xfr.specs.declared.fault.ShapeFault.{ShapeFault}
 use Rattle.dz_xfr.specs.declared.fault.ShapeFault.TheVariants.{NotSoaFirst, SerialGap, DeleteMissing, AddPresent}
 use Rattle.dz_xfr.specs.Apex.{is_apex_soa, serial_of, held_serial}
-
--- the zone has a record that is the same but for its TTL
-abbrev pub is_there : Record → List Record → Bool
-is_there r zone = list_any (same_record r) zone
-
--- the records of the zone without those that are the same as this one but for their TTL
-abbrev pub without : Record → List Record → List Record
-without r zone = filter (λ s. not (same_record r s)) zone
 
 -- each of these records is in the zone, and is taken away
 abbrev pub Deletes : List Record → List Record → List Record → Type 0

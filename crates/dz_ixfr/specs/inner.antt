@@ -1,3 +1,2 @@
 -- Inner: how the code keeps things.
 pub mod Kept
-pub mod Overlay

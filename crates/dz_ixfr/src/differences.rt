@@ -4,20 +4,20 @@ ghost use Rattle.std.specs.Prelude.{◌≡◌, ◌∷◌, ◌++◌, [], true, fa
 ghost use Rattle.dz_xfr.specs.Apex.{is_apex_soa, serial_of};
 ghost use Rattle.dz_xfr.specs.Feeding.{IsOpen, progress_of};
 ghost use Rattle.dz_xfr.specs.Answers.{Says};
+ghost use Rattle.dz_xfr.specs.Room.{given};
 ghost use Rattle.dz_xfr.specs.Stands.{Stands, IsComplete};
+ghost use Rattle.dz_zone.specs.declared.revision.Removed.TheVariants.{Held, Added};
 ghost use Rattle.dz_ixfr.specs.Incremental.{IsIncremental, Blames};
 ghost use Rattle.dz_ixfr.specs.Reading.{reading_of};
 ghost use Rattle.dz_ixfr.specs.inner.Kept.{IsAtEnd};
 
-use crate::standing::Standing;
 use dz_name::Name;
 use dz_record::Rr;
-use dz_xfr::{Fed, FeedError, Progress, ShapeFault, apex_serial, held_serial, same_rdata};
-use dz_zone::Version;
+use dz_xfr::{Fed, FeedError, Progress, Room, ShapeFault, apex_serial, held_serial, same_rdata};
+use dz_zone::{Removed, Revision, Version};
 use std::alloc::{AllocError, Global};
 use std::marker::Model;
-use std::mem::replace;
-use std::snapshot::Snapshot;
+use std::sync::Arc;
 
 /// How far the form was read.
 #[derive(Clone, Copy, Debug, PartialEq, Eq)]
@@ -30,25 +30,23 @@ enum Stage {
     Adding(u32),
     /// The closing SOA was read.
     Ended,
-    /// What was left of the zone is gone: memory ran out at the end.
-    Lost,
 }
 
 /// What is left of a held zone, as far as its differences were read. Contracts see the held zone and all records that
 /// were fed.
 #[derive(Drop)]
 pub struct Differences {
-    alloc: Global,
-    held: Snapshot<Version>,
     fed: Fed,
     apex: Name,
     first: Rr,
     /// The serial of the first SOA.
     goal: u32,
     stage: Stage,
-    standing: Standing,
-    /// The records of the zone, once the form has ended.
-    zone: Vec<Rr>,
+    /// The held version and the changes to it: what is left of its records, and with the first SOA once the form has
+    /// ended.
+    revision: Revision,
+    /// What is left for the records that are added.
+    room: Room,
 }
 
 impl Model for Differences {
@@ -57,40 +55,39 @@ impl Model for Differences {
 
     ghost Value = { Assembly };
 
-    ghost view = { λ d. record { held = d.held.value; fed = d.fed } };
+    ghost view = { λ d. record { held = d.revision.base; fed = d.fed } };
 
-    ghost invariant = { λ d. IsKept d.held.value d.fed d.apex d.goal d.first d.stage d.standing
-        d.zone.items };
+    ghost invariant = { λ d. IsKept d.revision.base d.fed d.apex d.goal d.first d.stage
+        d.revision.records };
 }
 
 impl Differences {
-    /// A form that begins with this SOA, whose owner name is the apex of the held version. The held records are shared.
+    /// A form that begins with this SOA, whose owner name is the apex of the held version. No record of it is copied.
     ///
     /// # Errors
     ///
-    /// `AllocError` where there is no memory for the records that are held.
-    pub fn start(alloc: Global, held: &Version, first: Rr) -> Result<Differences, AllocError>
-        requires soa { is_apex_soa held.now.apex first ≡ true }
-        ensures started { IfOk result (λ d. d ≡ record { held = held.now; fed = first ∷ [] }) }
+    /// `AllocError` where there is no memory for the marks of the records that are held.
+    pub fn start(alloc: Global, held: Arc<Version>, first: Rr) -> Result<Differences, AllocError>
+        requires soa { is_apex_soa held.value.apex first ≡ true }
+        ensures started { IfOk result (λ d. d ≡ record { held = held.value; fed = first ∷ [] }) }
         ensures is_open { IfOk result
-            (λ d. IsOpen (IsIncremental held.now) (Blames held.now.apex) (first ∷ [])) }
+            (λ d. IsOpen (IsIncremental held.value) (Blames held.value.apex) (first ∷ [])) }
     {
         let apex = held.apex().to_name();
         let goal = match apex_serial(&apex, &first) {
             Some(serial) => serial,
             None => unreachable!(),
         };
-        let standing = Standing::over(alloc, held)?;
+        let stage = Stage::Begun(held_serial(&held));
+        let revision = Revision::of(alloc, held)?;
         Ok(Differences {
-            alloc,
-            held: Snapshot::of(held),
             fed: Fed::nothing().and(&first),
             apex,
             first,
             goal,
-            stage: Stage::Begun(held_serial(held)),
-            standing,
-            zone: Vec::new(alloc),
+            stage,
+            revision,
+            room: Room::whole(),
         })
     }
 
@@ -134,12 +131,13 @@ impl Differences {
         Ok(progress)
     }
 
-    /// The records of the zone, in canonical order: the first SOA and what is left after the differences.
-    pub fn finish(self) -> Vec<Rr>
+    /// The held version and what the differences made of its records: the first SOA and what is left.
+    pub fn finish(self) -> Revision
         requires { IsComplete (IsIncremental self.held) self.fed }
-        ensures { IsIncremental self.held self.fed result.items }
+        ensures base { result.base ≡ self.held }
+        ensures records { IsIncremental self.held self.fed result.records }
     {
-        self.zone
+        self.revision
     }
 
     /// Reads one record. A fault leaves what was read as it was; the errors are those of [`Differences::feed`].
@@ -190,12 +188,11 @@ impl Differences {
                 Ok(Progress::More)
             }
             Stage::Ended => Err(FeedError::Shape(ShapeFault::AfterEnd)),
-            Stage::Lost => Err(FeedError::Shape(ShapeFault::AfterEnd)),
         }
     }
 
-    /// Reads the closing SOA, and makes the zone. `SerialGap` where its RDATA isn't that of the first SOA; or out of
-    /// memory.
+    /// Reads the closing SOA, and puts the first SOA among the records. `SerialGap` where its RDATA isn't that of the
+    /// first SOA; or out of memory.
     fn close(&mut self, found: Rr) -> Result<Progress, FeedError>
         requires soa { is_apex_soa self.old.held.apex found ≡ true }
         requires here { IsAtEnd self.old.held self.old.fed }
@@ -208,20 +205,10 @@ impl Differences {
             return Err(FeedError::Shape(ShapeFault::SerialGap));
         }
         let first = self.first.share()?;
-        let standing = replace(&mut self.standing, Standing::none(self.alloc));
-        match standing.merge(self.alloc, first) {
-            Ok(zone) => {
-                self.zone = zone;
-                self.stage = Stage::Ended;
-                self.fed = self.fed.and(&found);
-                Ok(Progress::Ended)
-            }
-            Err(_) => {
-                self.stage = Stage::Lost;
-                self.fed = self.fed.and(&found).and(&found);
-                Err(FeedError::OutOfMemory)
-            }
-        }
+        self.revision.insert(first)?;
+        self.stage = Stage::Ended;
+        self.fed = self.fed.and(&found);
+        Ok(Progress::Ended)
     }
 
     /// Reads a record that isn't an SOA of the apex. The errors are those of [`Differences::feed`].
@@ -234,23 +221,35 @@ impl Differences {
     {
         match self.stage {
             Stage::Begun(_) => Err(FeedError::Shape(ShapeFault::SerialGap)),
-            Stage::Deleting => {
-                if !self.standing.remove(&found) {
-                    return Err(FeedError::Shape(ShapeFault::DeleteMissing));
+            Stage::Deleting => match self.revision.remove(&found) {
+                None => Err(FeedError::Shape(ShapeFault::DeleteMissing)),
+                Some(removed) => {
+                    give_back(&mut self.room, removed, &found);
+                    self.fed = self.fed.and(&found);
+                    Ok(Progress::More)
                 }
-                self.fed = self.fed.and(&found);
-                Ok(Progress::More)
-            }
+            },
             Stage::Adding(_) => {
+                self.room.take(&found)?;
                 let fed = self.fed.and(&found);
-                if !self.standing.insert(found)? {
+                if !self.revision.insert(found)? {
                     return Err(FeedError::Shape(ShapeFault::AddPresent));
                 }
                 self.fed = fed;
                 Ok(Progress::More)
             }
             Stage::Ended => Err(FeedError::Shape(ShapeFault::AfterEnd)),
-            Stage::Lost => Err(FeedError::Shape(ShapeFault::AfterEnd)),
         }
+    }
+}
+
+/// Gives back what a removed record weighs where it was one of those that were added.
+fn give_back(room: &mut Room, removed: Removed, found: &Rr)
+    ensures added { removed ≡ Added → room.new ≡ given room.old found.now }
+    ensures held { removed ≡ Held → room.new ≡ room.old }
+{
+    match removed {
+        Removed::Held => {}
+        Removed::Added => room.give(found),
     }
 }

@@ -3,7 +3,6 @@
 
 mod differences;
 mod laws;
-mod standing;
 
 pub use differences::Differences;
 pub use dz_xfr::{FeedError, Progress, ShapeFault};

@@ -8,9 +8,10 @@ use dz_ixfr::{Differences, FeedError, Progress, ShapeFault};
 use dz_name::Octets;
 use dz_record::Rr;
 use dz_xfr::is_apex_soa;
-use dz_zone::{Version, check};
+use dz_zone::{Revision, Version, check};
 use std::alloc::{AllocError, Global};
 use std::process::Abort;
+use std::sync::Arc;
 use std::test::*;
 
 /// A record of `example.`.
@@ -101,10 +102,14 @@ fn make_records(rt: &impl Abort, alloc: Global, items: &[Item]) -> Result<Vec<Rr
 }
 
 /// The version of `example.` that the items make.
-fn make_version(rt: &impl Abort, alloc: Global, items: &[Item]) -> Result<Version, AllocError> {
+fn make_version(
+    rt: &impl Abort,
+    alloc: Global,
+    items: &[Item],
+) -> Result<Arc<Version>, AllocError> {
     let records = make_records(rt, alloc, items)?;
     match check(alloc, &wire_name(rt, APEX), records) {
-        Ok(version) => Ok(version),
+        Ok(version) => Ok(Arc::new(alloc, version)?),
         Err(error) => panic!(rt; "{error:?} of {items:?}"),
     }
 }
@@ -124,12 +129,25 @@ fn expect_records(
     Ok(())
 }
 
-/// Feeds message after message until there is an answer other than `More`: the records at the end, none where more is
-/// to come.
+/// The version that the changes make has these records, TTLs included.
+fn expect_revised(
+    rt: &impl Abort,
+    alloc: Global,
+    revision: Revision,
+    want: &[Item],
+) -> Result<(), AllocError> {
+    match revision.check(alloc) {
+        Ok(version) => expect_records(rt, alloc, version.records(), want),
+        Err(error) => panic!(rt; "{error:?} of {want:?}"),
+    }
+}
+
+/// Feeds message after message until there is an answer other than `More`: the held version with its changes at the
+/// end, none where more is to come.
 fn feed_messages(
     mut differences: Differences,
     messages: Vec<Vec<Rr>>,
-) -> Result<Option<Vec<Rr>>, FeedError>
+) -> Result<Option<Revision>, FeedError>
     requires { IsOpen (IsIncremental differences.held)
         (Blames differences.held.apex) differences.fed }
 {
@@ -150,10 +168,10 @@ fn feed_messages(
 fn assemble(
     rt: &impl Abort,
     alloc: Global,
-    held: &Version,
+    held: &Arc<Version>,
     items: &[Item],
     at_a_time: usize,
-) -> Result<Result<Option<Vec<Rr>>, FeedError>, AllocError> {
+) -> Result<Result<Option<Revision>, FeedError>, AllocError> {
     let [first, rest @ ..] = items else {
         panic!(rt; "no item");
     };
@@ -164,7 +182,7 @@ fn assemble(
     }
     let first = make_record(rt, alloc, *first)?;
     assert!(rt; is_apex_soa(&held.apex().to_name(), &first), "{first:?}");
-    let differences = Differences::start(alloc, held, first)?;
+    let differences = Differences::start(alloc, held.clone()?, first)?;
     Ok(feed_messages(differences, messages))
 }
 
@@ -172,13 +190,13 @@ fn assemble(
 fn expect_zone(
     rt: &impl Abort,
     alloc: Global,
-    held: &Version,
+    held: &Arc<Version>,
     items: &[Item],
     want: &[Item],
 ) -> Result<(), AllocError> {
     for at_a_time in [1, 2, 3, 1000] {
         match assemble(rt, alloc, held, items, at_a_time)? {
-            Ok(Some(records)) => expect_records(rt, alloc, records.as_slice(), want)?,
+            Ok(Some(revision)) => expect_revised(rt, alloc, revision, want)?,
             answer => panic!(rt; "{answer:?} of {want:?} {at_a_time} at a time"),
         }
     }
@@ -201,7 +219,7 @@ fn expect_fault(
 }
 
 /// The zone that differences are read against: NS, SOA 5, and the A record of `www.example.`.
-fn make_held(rt: &impl Abort, alloc: Global) -> Result<Version, AllocError> {
+fn make_held(rt: &impl Abort, alloc: Global) -> Result<Arc<Version>, AllocError> {
     make_version(rt, alloc, &[Soa(5), NS, A_OF_WWW])
 }
 
@@ -219,7 +237,7 @@ fn ten_thousand_differences_are_applied(rt: HostRuntime) -> Result<(), AllocErro
     let added = Other((WWW, 1, 10_005, b"\xc0\x00\x02\x50"));
     let want = [NS, Soa(10_005), added];
     match assemble(&rt, alloc, &held, items.as_slice(), 1000)? {
-        Ok(Some(records)) => expect_records(&rt, alloc, records.as_slice(), &want),
+        Ok(Some(revision)) => expect_revised(&rt, alloc, revision, &want),
         answer => panic!(&rt; "{answer:?}"),
     }
 }

@@ -13,6 +13,7 @@ use Rattle.dz_take.specs.declared.outcome.TakeFault.TheVariants as faults
 use Rattle.dz_name.specs.Words.{Name}
 use Rattle.dz_record.specs.Record.{Record}
 use Rattle.dz_record.specs.Records.{distinct}
+use Rattle.dz_zone.specs.Revision.{Revised}
 use Rattle.dz_zone.specs.Valid.{fault_of}
 use Rattle.dz_zone.specs.Version.{Zone}
 use Rattle.dz_zone.specs.declared.fault.ZoneFault.{ZoneFault}
@@ -108,6 +109,17 @@ module _ (transfer : Transfer) (zone : Zone) (records : List Record) (kind : IsI
 form_is : (Form : Forms) (Blames : Blaming) (records zone : List Record) → Stands Form Blames records (complete zone) → Form records zone
 form_is Form Blames records zone (is_complete is) = is
 
+-- the owner of an SOA of the apex
+pub owner_is : (apex : Name) (r : Record) → is_apex_soa apex r ≡ true → r.owner ≡ apex
+owner_is apex r soa = (same_decides r.owner apex).0 (and_parts (r.kind == 6) (same_name r.owner apex) soa).1
+
+-- the version that differences lead on from is of the zone
+incremental_apex : (transfer : Transfer) (zone : Zone) (records items : List Record) → IsIncrementalKind transfer zone records → IsIncremental zone records items → zone.apex ≡ transfer.apex
+incremental_apex transfer zone records items kind form_of =
+    let all = sym form_of.are ∙ kind.are in
+    let same : form_of.first ≡ kind.first = cc in
+    sym (owner_is zone.apex form_of.first form_of.opens) ∙ (ap (λ (r : Record). r.owner) same ∙ owner_is transfer.apex kind.first kind.opens.soa)
+
 -- an assembler of the whole form that was fed once more
 module _ (transfer : Transfer) (w v : whole_assembly.Assembly) (records : List Record) (apex : w.apex ≡ transfer.apex) (kind : IsWholeKind transfer (w.fed ++ records)) (same : v.apex ≡ w.apex) where
   pub fed_whole_more : v.fed ≡ w.fed ++ records → Stands (IsWhole w.apex) whole.Blames (w.fed ++ records) more → (form transfer (w.fed ++ records) ≡ None) × AtWhole transfer (w.fed ++ records) v
@@ -140,11 +152,13 @@ module _ (transfer : Transfer) (d e : incremental_assembly.Assembly) (records : 
   pub incremental_complete : e.fed ≡ d.fed ++ records → (zone : List Record) → Stands (IsIncremental d.held) (incremental.Blames d.held.apex) (d.fed ++ records) (complete zone) → IsComplete (IsIncremental e.held) e.fed
   incremental_complete fed zone stands = (zone, rw (same, fed) (form_is (IsIncremental d.held) (incremental.Blames d.held.apex) (d.fed ++ records) zone stands))
 
-  pub fed_incremental_ended : e.fed ≡ d.fed ++ records → (items : List Record) (name : Name) (decision : Decision) → IsIncremental e.held e.fed items → name ≡ transfer.apex
-      → decision ≡ checked name items (fault_of name (distinct items)) → form transfer (d.fed ++ records) ≡ Some decision
-  fed_incremental_ended fed items name decision form_of eq is =
+  pub fed_incremental_ended : e.fed ≡ d.fed ++ records → (revision : Revised) (decision : Decision) → revision.base ≡ e.held → IsIncremental e.held e.fed revision.records
+      → decision ≡ checked revision.base.apex revision.records (fault_of revision.base.apex (distinct revision.records)) → form transfer (d.fed ++ records) ≡ Some decision
+  fed_incremental_ended fed revision decision base form_of is =
+      let items = revision.records in
       let form_here : IsIncremental d.held (d.fed ++ records) items = subst (λ h. IsIncremental h (d.fed ++ records) items) same (subst (λ rs. IsIncremental e.held rs items) fed form_of) in
-      incremental_ended transfer d.held (d.fed ++ records) kind items decision form_here (subst (λ a. decision ≡ checked a items (fault_of a (distinct items))) eq is)
+      let apex : revision.base.apex ≡ transfer.apex = ap (λ (z : Zone). z.apex) (base ∙ same) ∙ incremental_apex transfer d.held (d.fed ++ records) items kind form_here in
+      incremental_ended transfer d.held (d.fed ++ records) kind items decision form_here (subst (λ a. decision ≡ checked a items (fault_of a (distinct items))) apex is)
 
 -- more records after those of a kind are of the kind
 pub whole_kind_more : (transfer : Transfer) (records others : List Record) → IsWholeKind transfer records → IsWholeKind transfer (records ++ others)
@@ -154,9 +168,6 @@ pub incremental_kind_more : (transfer : Transfer) (zone : Zone) (records others 
 incremental_kind_more transfer zone records others k = record { first = k.first; second = k.second; rest = k.rest ++ others; are = ap (λ rs. rs ++ others) k.are; opens = k.opens; base = k.base; kind = k.kind }
 
 -- the first record
-pub owner_is : (apex : Name) (r : Record) → is_apex_soa apex r ≡ true → r.owner ≡ apex
-owner_is apex r soa = (same_decides r.owner apex).0 (and_parts (r.kind == 6) (same_name r.owner apex) soa).1
-
 pub form_none : (transfer : Transfer) (records : List Record) → length records ≡ 0 → form transfer records ≡ Some (refused (faults.Shape NotSoaFirst))
 unfolding form
 form_none transfer [] none = refl

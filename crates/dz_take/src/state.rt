@@ -24,7 +24,7 @@ use dz_name::Name;
 use dz_record::Rr;
 use dz_serial::newer;
 use dz_xfr::{FeedError, Progress, ShapeFault, apex_serial, held_serial};
-use dz_zone::{Version, ZoneError, check};
+use dz_zone::{Revision, Version, ZoneError, check};
 use std::alloc::{AllocError, Global};
 use std::sync::Arc;
 
@@ -117,7 +117,7 @@ fn begin_form(
                 if !leads_from(transfer.apex(), version, second) {
                     return Ok(State::Ended(serial_gap()));
                 }
-                let differences = Differences::start(alloc, version, first)?;
+                let differences = Differences::start(alloc, version.clone()?, first)?;
                 feed_differences(alloc, transfer, differences, records)
             }
             None => {
@@ -129,9 +129,9 @@ fn begin_form(
 }
 
 /// The version that differences lead on from, where the second record begins them.
-fn differences_base<'a>(transfer: &'a Transfer, first: &Rr, second: &Rr) -> Option<&'a Version>
+fn differences_base<'a>(transfer: &'a Transfer, first: &Rr, second: &Rr) -> Option<&'a Arc<Version>>
     requires { is_apex_soa transfer.now.apex first.now ≡ true }
-    ensures { IsBase transfer.now first.now second.now (option_map (λ r. r.now) result) }
+    ensures { IsBase transfer.now first.now second.now (option_map (λ r. r.now.value) result) }
 {
     match transfer.base() {
         Some(version) if is_old_soa(transfer.apex(), first, second) => Some(version),
@@ -205,10 +205,7 @@ fn feed_differences(
     match differences.feed(records) {
         Ok((differences, progress)) => match progress {
             Progress::More => Ok(State::Differences(differences)),
-            Progress::Ended => {
-                let zone = differences.finish();
-                Ok(State::Ended(settle(alloc, transfer.apex(), zone)?))
-            }
+            Progress::Ended => Ok(State::Ended(settle_revision(alloc, differences.finish())?)),
         },
         Err(error) => Ok(State::Ended(refuse(error)?)),
     }
@@ -220,6 +217,19 @@ fn settle(alloc: Global, apex: &Name, records: Vec<Rr>) -> Result<Outcome, Alloc
         ≡ checked apex.now records.items (fault_of apex.now (distinct records.items))) }
 {
     match check(alloc, apex, records) {
+        Ok(version) => Ok(Outcome::New(Arc::new(alloc, version)?)),
+        Err(ZoneError::Fault(fault)) => Ok(Outcome::Refused(TakeFault::Zone(fault))),
+        Err(ZoneError::OutOfMemory) => Err(AllocError),
+    }
+}
+
+/// The version that the records make which differences have led to, or their first fault. `AllocError` where memory
+/// runs out.
+fn settle_revision(alloc: Global, revision: Revision) -> Result<Outcome, AllocError>
+    ensures { IfOk result (λ o. meaning_of o ≡ checked revision.base.apex revision.records
+        (fault_of revision.base.apex (distinct revision.records))) }
+{
+    match revision.check(alloc) {
         Ok(version) => Ok(Outcome::New(Arc::new(alloc, version)?)),
         Err(ZoneError::Fault(fault)) => Ok(Outcome::Refused(TakeFault::Zone(fault))),
         Err(ZoneError::OutOfMemory) => Err(AllocError),

@@ -101,12 +101,12 @@ impl Transfer {
         }
     }
 
-    /// The version that differences lead on from, where they were asked for.
-    pub fn base(&self) -> Option<&Version>
-        ensures held { option_map (λ r. r.now) result ≡ base_of self.now.ask self.now.held }
+    /// The version that differences lead on from, where they were asked for, as it is shared.
+    pub fn base(&self) -> Option<&Arc<Version>>
+        ensures held { option_map (λ r. r.now.value) result ≡ base_of self.now.ask self.now.held }
         ensures valid { IsTransfer self.now }
     {
-        let held = self.held();
+        let held = self.shared();
         match self.ask {
             Ask::Axfr => None,
             Ask::Ixfr => held,

@@ -1,7 +1,7 @@
 -- The apex of a zone without a fault owns the first of its records in canonical order.
-use Rattle.std.proofs.Common.{◌≡◌, ℕ, ◌<◌, Bool, true, false, None, List, [], ◌∷◌, length, refl, sym, ◌∙◌, ap, subst, Option, inl, inr, arith}
-use Rattle.std.specs.Prelude.{◌==◌, ◌&&◌, not}
-use Rattle.std.specs.List.{All, AllByRecursion, list_any}
+use Rattle.std.proofs.Common.{◌≡◌, ℕ, ◌<◌, true, false, None, List, [], ◌∷◌, length, refl, sym, ◌∙◌, ap, subst, Option, inl, inr, arith}
+use Rattle.std.specs.Prelude.{◌==◌}
+use Rattle.std.specs.List.{AllByRecursion, list_any}
 use Rattle.std.specs.List.Sorted.{IsStrictlySortedBy}
 use Rattle.std.specs.Cmp.{tied_itself}
 use Rattle.std.specs.Ordering.{is_lt, is_le, nat_cmp}
@@ -10,12 +10,13 @@ use Rattle.std.specs.declared.cmp.Ordering.TheVariants.{Less, Equal, Greater}
 use Rattle.std.proofs.lemmas.Bool.{cases_Bool, and_parts}
 use Rattle.dz_name.specs.Name.{canonical_order, same_name}
 use Rattle.dz_name.specs.Order.{canonical_total, canonical_same, same_decides}
-use Rattle.dz_record.specs.Record.{Record, IsRecord, record_order}
+use Rattle.dz_record.specs.Record.{Record, record_order}
 use Rattle.dz_record.specs.Records.{distinct, in_order}
-use Rattle.dz_index.specs.Rows.{Rows, IsIndex}
 use Rattle.dz_zone.specs.Valid.{at_apex, fault_of}
-use Rattle.dz_zone.specs.Version.{zone_of, owners_of, is_of_dnssec}
-use Rattle.dz_zone.specs.inner.Kept.{apex_in, zone_in, IsKept, Secure, AreNsecs}
+use Rattle.dz_zone.specs.Version.{zone_of}
+use Rattle.dz_zone.specs.inner.Kept.{apex_in, zone_in}
+use Rattle.dz_zone.specs.inner.Kinds.{kinds_of}
+use Rattle.dz_zone.specs.declared.kinds.Kinds.{Kinds}
 use Rattle.dz_zone.proofs.CanonicalLemmas.{within_not_less}
 use Rattle.dz_zone.specs.declared.fault.ZoneFault.{ZoneFault}
 use Rattle.dz_zone.proofs.FaultLemmas.{has_soa, fault_in_order}
@@ -70,19 +71,12 @@ pub zone_made : (apex : List (List ℕ)) (tidied records : List Record) → IsSt
     → zone_in tidied ≡ zone_of apex records
 zone_made apex tidied records up none e = rw (apex_first apex tidied up none, e) refl
 
-pub kept_made : (apex : List (List ℕ)) (rs : List Record) (index : Rows) (cuts dnames : Bool) (secure : Secure) → IsStrictlySortedBy record_order rs → fault_of apex rs ≡ None → All IsRecord rs
-    → IsIndex (owners_of rs) index → cuts ≡ list_any (λ r. r.kind == 2 && not (same_name r.owner apex)) rs → dnames ≡ list_any (λ r. r.kind == 39) rs
-    → secure.is_secure ≡ list_any (λ r. is_of_dnssec r.kind) rs → AreNsecs rs secure.nsecs → IsKept (zone_in rs) index cuts dnames secure
-kept_made apex rs index cuts dnames secure up none held is has renames secured places =
-    let e = sym (apex_first apex rs up none) in
-    record {
-      version = record { valid = record { rises = up; faultless = subst (λ a. fault_of a rs ≡ None) e none }; held = held };
-      indexed = is;
-      cuts_are = subst (λ a. cuts ≡ list_any (λ r. r.kind == 2 && not (same_name r.owner a)) rs) e has;
-      dnames_are = renames;
-      secure_is = secured;
-      nsecs_are = places;
-    }
+-- what is known of records by the name of the apex is known by the owner of the first
+pub faultless_in : (apex : List (List ℕ)) (rs : List Record) → IsStrictlySortedBy record_order rs → fault_of apex rs ≡ None → fault_of (apex_in rs) rs ≡ None
+faultless_in apex rs up none = subst (λ a. fault_of a rs ≡ None) (sym (apex_first apex rs up none)) none
+
+pub kinds_in : (apex : List (List ℕ)) (rs : List Record) (kinds : Kinds) → IsStrictlySortedBy record_order rs → fault_of apex rs ≡ None → kinds ≡ kinds_of apex rs → kinds ≡ kinds_of (apex_in rs) rs
+kinds_in apex rs kinds up none e = subst (λ a. kinds ≡ kinds_of a rs) (sym (apex_first apex rs up none)) e
 
 -- what the faults of records in order say of the records that were given
 pub judged : (apex : List (List ℕ)) (records tidied slice : List Record) (r : Option ZoneFault) → tidied ≡ in_order (distinct records) → slice ≡ tidied → r ≡ fault_of apex slice

@@ -10,3 +10,11 @@ pub mod ApexLemmas
 pub mod EndLemmas
 pub mod RisingLemmas
 pub mod NsecLemmas
+pub mod KindsLemmas
+pub mod FlagLemmas
+pub mod MergeLemmas
+pub mod MergingLemmas
+pub mod OverlayLemmas
+pub mod RevisionLemmas
+pub mod Searched
+pub mod Ties

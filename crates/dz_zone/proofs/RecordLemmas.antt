@@ -1,7 +1,6 @@
 -- The order of records, and what it ties.
 use Rattle.std.proofs.Common.{◌≡◌, Bool, true, false, not, ◌&&◌, List, [], ◌∷◌, refl, sym, ◌∙◌, ap, is_lt, is_eq, is_gt, Ordering, Less, Equal, Greater}
-use Rattle.std.specs.Ordering.{ordering_reverse, ordering_index}
-use Rattle.std.specs.Prelude.{◌==◌}
+use Rattle.std.specs.Ordering.{ordering_reverse}
 use Rattle.std.specs.Bool.{Decides}
 use Rattle.std.specs.List.{dedup, IsAllAdjacentAnswer}
 use Rattle.std.proofs.lemmas.Bool.{or_parts, not-true, not-false, not_from_false}

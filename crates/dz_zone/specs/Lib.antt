@@ -1,5 +1,6 @@
 pub mod Answers
 pub mod Examples
+pub mod Revision
 pub mod Valid
 pub mod Version
 pub mod inner

@@ -1,10 +1,9 @@
 //! The index of a version.
 
-ghost use Rattle.std.specs.Prelude.{◌≡◌, ◌==◌, ◌&&◌, ◌<◌, ◌≤◌, not, [], length, take, false, slice_index_or, All, IfOk, IfSome, IsTrue};
+ghost use Rattle.std.specs.Prelude.{◌≡◌, ◌<◌, ◌≤◌, [], length, take, false, slice_index_or, All, IfOk, IfSome, IsTrue};
 ghost use Rattle.std.specs.Ordering.{is_gt};
-ghost use Rattle.std.specs.List.{list_any};
+ghost use Rattle.std.specs.List.{count_by};
 ghost use Rattle.std.specs.List.Sorted.{IsStrictlySortedBy};
-ghost use Rattle.dz_name.specs.Name.{same_name};
 ghost use Rattle.dz_record.specs.Record.{IsRecord, record_order};
 ghost use Rattle.dz_index.specs.Index.{order_behind};
 ghost use Rattle.dz_index.specs.Rows.{IsIndex};
@@ -13,8 +12,7 @@ ghost use Rattle.dz_zone.specs.inner.Kept.{IsRisen, RisesAt, AreNsecs};
 
 use crate::order::comes_before;
 use dz_index::{Index, OwnerKey};
-use dz_name::Name;
-use dz_name::dns::{TYPE_DNAME, TYPE_DS, TYPE_NS, TYPE_NSEC, TYPE_RRSIG, ZONE_RECORDS};
+use dz_name::dns::{TYPE_NSEC, ZONE_RECORDS};
 use dz_record::Rr;
 use dz_steps::Steps;
 use std::alloc::{AllocError, Global};
@@ -101,33 +99,21 @@ fn rises_at(owners: Ordering, records: &[Rr], place: usize) -> bool
     comes_before(owners, &records[place - 1], &records[place])
 }
 
-/// Whether a name below the apex owns an NS record.
-pub(crate) fn has_cuts(apex: &Name, records: &[Rr]) -> bool
-    ensures { result ≡ list_any
-        (λ r. r.kind == TYPE_NS && not (same_name r.owner apex.now)) records.now }
+/// The places of the NSEC records, in order, without a pass where no record is of DNSSEC. The error is out of memory.
+pub(crate) fn nsecs_if_secure(
+    alloc: Global,
+    secure: usize,
+    records: &[Rr],
+) -> Result<Vec<u32>, AllocError>
+    requires few { length records.now ≤ ZONE_RECORDS }
+    requires secure { secure ≡ count_by (λ r. is_of_dnssec r.kind) records.now }
+    ensures { IfOk result (λ nsecs. AreNsecs records.now nsecs.items) }
 {
-    records.iter().any(|record| record.kind() == TYPE_NS && !record.is_owned_by(apex))
-}
-
-/// Whether a name owns a DNAME.
-pub(crate) fn has_dnames(records: &[Rr]) -> bool
-    ensures { result ≡ list_any (λ r. r.kind == TYPE_DNAME) records.now }
-{
-    records.iter().any(|record| record.kind() == TYPE_DNAME)
-}
-
-/// Whether there is a record of DNSSEC.
-pub(crate) fn is_secure(records: &[Rr]) -> bool
-    ensures { result ≡ list_any (λ r. is_of_dnssec r.kind) records.now }
-{
-    records.iter().any(|record| is_of_dnssec(record.kind()))
-}
-
-/// Whether the type is one of DNSSEC: DS, RRSIG or NSEC (RFC 4034).
-fn is_of_dnssec(kind: u16) -> bool
-    ensures { result ≡ is_of_dnssec kind }
-{
-    matches!(kind, TYPE_DS | TYPE_RRSIG | TYPE_NSEC)
+    if secure == 0 {
+        Ok(Vec::new(alloc))
+    } else {
+        nsecs_of(alloc, records)
+    }
 }
 
 /// The places of the NSEC records, in order. The error is out of memory.

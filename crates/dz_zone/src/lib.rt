@@ -4,9 +4,13 @@
 
 mod fault;
 mod index;
+mod kinds;
+mod merging;
 mod order;
+mod revision;
 mod valid;
 mod version;
 
 pub use fault::{ZoneError, ZoneFault};
+pub use revision::{Removed, Revision};
 pub use version::{Version, check};

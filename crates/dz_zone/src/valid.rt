@@ -1,26 +1,30 @@
-//! The faults of records in canonical order, each in one pass.
+//! The faults of records in canonical order, each in one pass at most.
 
 ghost use Rattle.std.specs.Prelude.{◌≡◌, ◌≢◌, ◌∷◌, ◌&&◌, ◌||◌, ◌==◌, not, filter, true, false};
 ghost use Rattle.std.specs.List.{list_any};
 ghost use Rattle.std.specs.List.Sorted.{IsStrictlySortedBy};
 ghost use Rattle.dz_record.specs.Record.{record_order};
+ghost use Rattle.dz_zone.specs.inner.Kinds.{kinds_of};
 ghost use Rattle.dz_zone.specs.inner.Neighbours.{neighbours_from};
 ghost use Rattle.dz_zone.specs.inner.Singletons.{is_singleton, has_singletons, has_soa};
 ghost use Rattle.dz_zone.specs.Valid.{at_apex, no_soa, soa_twice, soa_below, no_ns, out_of_zone, is_beside_any, is_cname_and_other, clash, cname_beside, both_are, owned_twice, too_many, fault_of};
 
 use crate::fault::ZoneFault;
+use crate::kinds::Kinds;
 use dz_name::Name;
 use dz_name::dns::{
     TYPE_CNAME, TYPE_DNAME, TYPE_NS, TYPE_NSEC, TYPE_RRSIG, TYPE_SOA, ZONE_RECORDS,
 };
 use dz_record::Rr;
 
-/// The first fault that holds.
-pub(crate) fn fault_of(apex: &Name, records: &[Rr]) -> Option<ZoneFault>
-    requires { IsStrictlySortedBy record_order records.now }
+/// The first fault that holds. Where the SOA of the apex is the only record of a type of which an owner has at most one,
+/// as in most zones, five of the faults can't hold and need no pass.
+pub(crate) fn fault_of(apex: &Name, kinds: &Kinds, records: &[Rr]) -> Option<ZoneFault>
+    requires rises { IsStrictlySortedBy record_order records.now }
+    requires kinds { kinds.now ≡ kinds_of apex.now records.now }
     ensures { result ≡ fault_of apex.now records.now }
 {
-    let many = has_singletons(records);
+    let many = 1 < kinds.singletons;
     if no_soa(apex, records) {
         Some(ZoneFault::NoSoa)
     } else if is_soa_twice(many, apex, records) {
@@ -45,7 +49,7 @@ pub(crate) fn fault_of(apex: &Name, records: &[Rr]) -> Option<ZoneFault>
 }
 
 /// Whether it is a record of the apex and of the type.
-fn at_apex(kind: u16, apex: &Name, found: &Rr) -> bool
+pub(crate) fn at_apex(kind: u16, apex: &Name, found: &Rr) -> bool
     ensures { result ≡ at_apex kind apex.now found.now }
 {
     found.kind() == kind && found.is_owned_by(apex)
@@ -130,21 +134,6 @@ fn both_are(kind: u16, a: &Rr, b: &Rr) -> bool
     ensures { result ≡ both_are kind a.now b.now }
 {
     a.kind() == kind && b.kind() == kind && a.owner_ref().same(&b.owner_ref())
-}
-
-/// Whether an owner has at most one record of the type: SOA, CNAME and DNAME are such types.
-fn is_singleton(kind: u16) -> bool
-    ensures { result ≡ is_singleton kind }
-{
-    matches!(kind, TYPE_SOA | TYPE_CNAME | TYPE_DNAME)
-}
-
-/// Whether there is more than one record of such types. Most zones have the SOA of the apex alone, which tells at once
-/// that none of them is where it may not be.
-fn has_singletons(records: &[Rr]) -> bool
-    ensures { result ≡ has_singletons records.now }
-{
-    1 < records.iter().filter(|r| is_singleton(r.kind())).count()
 }
 
 /// Whether the apex owns more than one SOA.

@@ -11,10 +11,12 @@ ghost use Rattle.dz_index.specs.Rows.{IsIndex};
 ghost use Rattle.dz_zone.specs.Version.{IsValid, apex_soa, owners_of, has_cuts, has_dnames, is_secure, IsLastNsec};
 ghost use Rattle.dz_zone.specs.Answers.{IsChecked};
 ghost use Rattle.dz_zone.specs.Valid.{at_apex, fault_of};
-ghost use Rattle.dz_zone.specs.inner.Kept.{zone_in, IsRisen, AreNsecs};
+ghost use Rattle.dz_zone.specs.inner.Kept.{apex_in, zone_in, IsRisen, AreNsecs};
+ghost use Rattle.dz_zone.specs.inner.Kinds.{kinds_of};
 
 use crate::fault::ZoneError;
-use crate::index::{has_cuts, has_dnames, index_of, index_rising, is_secure, nsecs_of};
+use crate::index::{index_of, index_rising, nsecs_if_secure};
+use crate::kinds::{Kinds, kinds_of};
 use crate::order::tidy;
 use crate::valid::fault_of;
 use dz_index::Index;
@@ -26,15 +28,13 @@ use std::marker::Model;
 use std::sync::Arc;
 
 /// A version of a zone: its distinct records in canonical order, which have no fault, so that the apex owns the first.
-/// With them it has an index of the owners and the places of NSEC records, and it knows whether there is a zone cut, a
-/// DNAME, and a record of DNSSEC.
+/// With them it has an index of the owners, the places of NSEC records, and how many records are of types that it
+/// treats apart.
 #[derive(Debug, Drop)]
 pub struct Version {
     records: Vec<Rr>,
     index: Index,
-    has_cuts: bool,
-    has_dnames: bool,
-    is_secure: bool,
+    kinds: Kinds,
     nsecs: Vec<u32>,
 }
 
@@ -46,8 +46,7 @@ impl Model for Version {
 
     ghost view = { λ v. zone_in v.records.items };
 
-    ghost invariant = { λ v. IsKept (zone_in v.records.items) v.index v.has_cuts v.has_dnames
-        (record { is_secure = v.is_secure; nsecs = v.nsecs.items }) };
+    ghost invariant = { λ v. IsKept (zone_in v.records.items) v.index v.kinds v.nsecs.items };
 }
 
 impl Version {
@@ -97,7 +96,7 @@ impl Version {
         ensures cuts { result ≡ has_cuts self.now }
         ensures valid { IsValid self.now }
     {
-        self.has_cuts
+        0 < self.kinds.cuts
     }
 
     /// Whether a name owns a DNAME (RFC 6672).
@@ -105,7 +104,7 @@ impl Version {
         ensures dnames { result ≡ has_dnames self.now }
         ensures valid { IsValid self.now }
     {
-        self.has_dnames
+        0 < self.kinds.dnames
     }
 
     /// Whether there is a record of DNSSEC: a DS, an RRSIG or an NSEC (RFC 4034).
@@ -113,7 +112,7 @@ impl Version {
         ensures secure { result ≡ is_secure self.now }
         ensures valid { IsValid self.now }
     {
-        self.is_secure
+        0 < self.kinds.secure
     }
 
     /// The last place before this one that holds an NSEC.
@@ -163,8 +162,8 @@ pub fn check(alloc: Global, apex: &Name, records: Vec<Rr>) -> Result<Version, Zo
     }
 }
 
-/// The same of records that rise, with the index of their owners. Errors are those of [`check`].
-fn check_risen(
+/// The version that records in canonical order make, with the index of their owners. Errors are those of [`check`].
+pub(crate) fn check_risen(
     alloc: Global,
     apex: &Name,
     records: Vec<Rr>,
@@ -173,40 +172,43 @@ fn check_risen(
     requires { IsRisen records.items index }
     ensures { IsChecked apex.now records.items result }
 {
-    match fault_of(apex, records.as_slice()) {
+    let kinds = kinds_of(apex, records.as_slice());
+    match fault_of(apex, &kinds, records.as_slice()) {
         Some(fault) => Err(ZoneError::Fault(fault)),
         None => {
-            let nsecs = nsecs_of(alloc, records.as_slice())?;
-            Ok(version_of(apex, records, index, nsecs))
+            let nsecs = nsecs_if_secure(alloc, kinds.secure, records.as_slice())?;
+            Ok(version_of(records, index, kinds, nsecs))
         }
     }
 }
 
-/// The same, the records being put in order first. Errors are those of [`check`].
+/// The version of records that are put in order first. Errors are those of [`check`].
 fn check_tidied(alloc: Global, apex: &Name, mut records: Vec<Rr>) -> Result<Version, ZoneError>
     ensures { IsChecked apex.now records.items result }
 {
     tidy(&mut records)?;
-    match fault_of(apex, records.as_slice()) {
+    let kinds = kinds_of(apex, records.as_slice());
+    match fault_of(apex, &kinds, records.as_slice()) {
         Some(fault) => Err(ZoneError::Fault(fault)),
         None => {
             let index = index_of(alloc, records.as_slice())?;
-            let nsecs = nsecs_of(alloc, records.as_slice())?;
-            Ok(version_of(apex, records, index, nsecs))
+            let nsecs = nsecs_if_secure(alloc, kinds.secure, records.as_slice())?;
+            Ok(version_of(records, index, kinds, nsecs))
         }
     }
 }
 
 /// The version of records in canonical order that have no fault. It gives back the memory that was taken beyond it.
-fn version_of(apex: &Name, records: Vec<Rr>, index: Index, nsecs: Vec<u32>) -> Version
+pub(crate) fn version_of(records: Vec<Rr>, index: Index, kinds: Kinds, nsecs: Vec<u32>) -> Version
     requires rises { IsStrictlySortedBy record_order records.items }
-    requires faultless { fault_of apex.now records.items ≡ None }
+    requires faultless { fault_of (apex_in records.items) records.items ≡ None }
     requires indexed { IsIndex (owners_of records.items) index }
+    requires kinds { kinds ≡ kinds_of (apex_in records.items) records.items }
     requires nsecs { AreNsecs records.items nsecs.items }
     requires held { All IsRecord records.items }
     ensures { result ≡ zone_in records.items }
 {
-    fitted(made_of(apex, records, index, nsecs))
+    fitted(made_of(records, index, kinds, nsecs))
 }
 
 /// The same version, which has given back the memory that was taken beyond it.
@@ -216,9 +218,7 @@ fn fitted(version: Version) -> Version
     let Version {
         mut records,
         mut index,
-        has_cuts,
-        has_dnames,
-        is_secure,
+        kinds,
         mut nsecs,
     } = version;
     records.shrink_to_fit();
@@ -227,31 +227,25 @@ fn fitted(version: Version) -> Version
     Version {
         records,
         index,
-        has_cuts,
-        has_dnames,
-        is_secure,
+        kinds,
         nsecs,
     }
 }
 
 /// The version of such records, made of them.
-fn made_of(apex: &Name, records: Vec<Rr>, index: Index, nsecs: Vec<u32>) -> Version
+fn made_of(records: Vec<Rr>, index: Index, kinds: Kinds, nsecs: Vec<u32>) -> Version
     requires rises { IsStrictlySortedBy record_order records.items }
-    requires faultless { fault_of apex.now records.items ≡ None }
+    requires faultless { fault_of (apex_in records.items) records.items ≡ None }
     requires indexed { IsIndex (owners_of records.items) index }
+    requires kinds { kinds ≡ kinds_of (apex_in records.items) records.items }
     requires nsecs { AreNsecs records.items nsecs.items }
     requires held { All IsRecord records.items }
     ensures { result ≡ zone_in records.items }
 {
-    let has_cuts = has_cuts(apex, records.as_slice());
-    let has_dnames = has_dnames(records.as_slice());
-    let is_secure = is_secure(records.as_slice());
     Version {
         records,
         index,
-        has_cuts,
-        has_dnames,
-        is_secure,
+        kinds,
         nsecs,
     }
 }

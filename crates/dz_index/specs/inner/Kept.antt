@@ -6,9 +6,11 @@ use Rattle.std.specs.declared.cmp.Ordering.TheVariants.{Less}
 use Rattle.dz_name.specs.Words.{Octets}
 use Rattle.dz_index.specs.Rows.{Rows, count, total, key_at, compared}
 
--- a place for each key and one after them, none after the last one; each key has a record
+-- a place for each key and one after them, which rise from 0, none after the last one; each key has a record
 pub record IsKept (r : Rows) : Type 0 where
   pub long : length r.firsts ≡ length r.keys + 1
+  pub first : slice_index r.firsts 0 ≡ 0
+  pub rise : (i : ℕ) → i < length r.keys → slice_index r.firsts i < slice_index r.firsts (i + 1)
   pub within : (i : ℕ) → i < length r.firsts → slice_index r.firsts i ≤ total r
   pub few : length r.keys ≤ total r
 

@@ -12,6 +12,18 @@ parts_of octets (begin ∷ end ∷ bounds) = slice_range octets begin end ∷ pa
 pub record AreBounds (octets : Octets) (bounds : List ℕ) : Type 0 where
   pub some : 0 < length bounds
   pub rising : (i : ℕ) → i + 1 < length bounds → slice_index bounds i ≤ slice_index bounds (i + 1)
+  pub short : (i : ℕ) → i + 1 < length bounds → slice_index bounds (i + 1) ≤ slice_index bounds i + 512
   pub inside : (i : ℕ) → i < length bounds → slice_index bounds i ≤ length octets
   pub last : slice_index bounds (length bounds - 1) ≡ length octets
   pub room : length octets ≤ 512 * (length bounds - 1)
+
+-- the last one of some bounds
+abbrev pub last_of : List ℕ → ℕ
+last_of bounds = slice_index bounds (length bounds - 1)
+
+-- bounds within octets, none before the first and none after the last
+pub record AreWithin (octets : Octets) (bounds : List ℕ) : Type 0 where
+  pub some : 0 < length bounds
+  pub rising : (i : ℕ) → i < length bounds → slice_index bounds 0 ≤ slice_index bounds i
+  pub below : (i : ℕ) → i < length bounds → slice_index bounds i ≤ last_of bounds
+  pub inside : (i : ℕ) → i < length bounds → slice_index bounds i ≤ length octets

@@ -1,13 +1,15 @@
--- Inner: a version as its fields: the records of a zone, the index of their owners, whether there are cuts, DNAMEs and
--- records of DNSSEC, and the places of NSEC records.
-use Rattle.std.specs.Prelude.{◌≡◌, ℕ, ◌-◌, ◌<◌, Bool, true, List, [], ◌∷◌, length, slice_index, slice_index_or}
+-- Inner: a version as its fields: the records of a zone, the index of their owners, how many are of types that it treats
+-- apart, and the places of NSEC records.
+use Rattle.std.specs.Prelude.{◌≡◌, ℕ, ◌-◌, ◌<◌, true, List, [], ◌∷◌, length, slice_index, slice_index_or}
 use Rattle.dz_name.specs.declared.dns.TheConstants.{TYPE_NSEC}
 use Rattle.std.specs.Ordering.{is_lt}
 use Rattle.dz_name.specs.Words.{Name}
 use Rattle.std.specs.List.Sorted.{IsStrictlySortedBy}
 use Rattle.dz_record.specs.Record.{Record, record_order}
 use Rattle.dz_index.specs.Rows.{Rows, IsIndex}
-use Rattle.dz_zone.specs.Version.{Zone, IsVersion, owners_of, has_cuts, has_dnames, is_secure}
+use Rattle.dz_zone.specs.Version.{Zone, IsVersion, owners_of}
+use Rattle.dz_zone.specs.inner.Kinds.{kinds_of}
+use Rattle.dz_zone.specs.declared.kinds.Kinds.{Kinds}
 
 -- the apex, which is the owner of the first record
 abbrev pub apex_in : List Record → Name
@@ -33,16 +35,9 @@ pub record AreNsecs (records : List Record) (nsecs : List ℕ) : Type 0 where
   pub complete : (k : ℕ) (d : Record) → k < length records → (slice_index_or records k d).kind ≡ TYPE_NSEC → (i : ℕ) × (i < length nsecs) × (slice_index nsecs i ≡ k)
   pub rise : (i j : ℕ) → i < j → j < length nsecs → slice_index nsecs i < slice_index nsecs j
 
--- whether there are records of DNSSEC, and the places of NSEC records
-pub record Secure : Type 0 where
-  pub is_secure : Bool
-  pub nsecs : List ℕ
-
 -- the fields that are kept are those of this version
-pub record IsKept (zone : Zone) (index : Rows) (cuts dnames : Bool) (secure : Secure) : Type 0 where
+pub record IsKept (zone : Zone) (index : Rows) (kinds : Kinds) (nsecs : List ℕ) : Type 0 where
   pub version : IsVersion zone
   pub indexed : IsIndex (owners_of zone.records) index
-  pub cuts_are : cuts ≡ has_cuts zone
-  pub dnames_are : dnames ≡ has_dnames zone
-  pub secure_is : secure.is_secure ≡ is_secure zone
-  pub nsecs_are : AreNsecs zone.records secure.nsecs
+  pub kinds_are : kinds ≡ kinds_of zone.apex zone.records
+  pub nsecs_are : AreNsecs zone.records nsecs

@@ -15,4 +15,4 @@ returns-then-not-leads_from c =
     let base = c.in-Some-differences_base.ensures in
     let there = rw c.deref.ensures.value at c.in-Some.ensures.value in
     rw c.serial_gap.ensures
-    (form_gap c.args.transfer.now c.in-Some-differences_base.version.now c.args.first c.in-Some.second.now c.args.records.items c.requires base.0 base.1 base.2 there (sym c.if-not-leads_from.ensures))
+    (form_gap c.args.transfer.now c.in-Some-differences_base.version.now.value c.args.first c.in-Some.second.now c.args.records.items c.requires base.0 base.1 base.2 there (rw c.deref-in-Some-differences_base.ensures at (sym c.if-not-leads_from.ensures)))

@@ -1,7 +1,7 @@
-use Rattle.std.proofs.Common.{arith, ◌≡◌, ◌<◌, ◌∙◌, sym, ap, subst, length, get_or}
+use Rattle.std.proofs.Common.{arith, ◌<◌, ◌∙◌, sym, ap, length}
 use Rattle.std.proofs.lemmas.List.{get_or_read}
 use Rattle.dz_record.specs.Record.{Record}
-use Rattle.dz_zone.proofs.NsecLemmas.{AreUpto, upto_push, upto_skip, upto_all, held_more}
+use Rattle.dz_zone.proofs.NsecLemmas.{upto_push, upto_skip, upto_all, held_more}
 use Rattle.dz_zone.proofs.index.nsecs_of.Goals.{then-kind-eq-TYPE_NSEC+in_ok-push, else-kind-eq-TYPE_NSEC}
 use Rattle.dz_zone.proofs.index.nsecs_of.Goals as goal
 

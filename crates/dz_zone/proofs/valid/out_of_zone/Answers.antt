@@ -1,4 +1,4 @@
-use Rattle.std.proofs.Common.{◌<◌, length, sym, ◌∙◌, arith}
+use Rattle.std.proofs.Common.{◌<◌, length, sym, ◌∙◌}
 use Rattle.dz_zone.proofs.EndLemmas.{ends_tell, one_outside, some_there}
 use Rattle.dz_zone.proofs.valid.out_of_zone.Goals.{then-is_within, else-is_within}
 use Rattle.dz_zone.proofs.valid.out_of_zone.Goals as goal

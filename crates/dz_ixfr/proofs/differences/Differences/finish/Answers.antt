@@ -1,5 +1,5 @@
 use Rattle.dz_ixfr.proofs.FedLemmas.{finished}
 use Rattle.dz_ixfr.proofs.differences.Differences.finish.Goals as goal
 
-pub returns : goal.returns
-returns c = finished c.self.invariant c.args.self c.self.view_is c.requires
+pub returns-clause-records : goal.returns-clause-records
+returns-clause-records c = finished c.self.invariant c.args.self c.self.view_is c.requires

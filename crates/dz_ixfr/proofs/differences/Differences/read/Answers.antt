@@ -1,7 +1,7 @@
 use Rattle.std.proofs.Common.{◌≡◌, sym, ◌∙◌, ap, subst, refl, [], ◌∷◌, ◌++◌, append_assoc, arith, Ok, Err}
+use Rattle.std.proofs.lemmas.List.{nil_from_length}
 use Rattle.std.specs.Vec.Iter.{into_iter_items}
 use Rattle.dz_ixfr.proofs.FedLemmas.{Reads, fails, says_stands, open_reads, none_left, reads_at, one_on}
-use Rattle.dz_ixfr.proofs.OverlayLemmas.{no_key}
 use Rattle.dz_ixfr.proofs.differences.Differences.read.Goals as goal
 
 pub records-init : goal.records-init
@@ -31,6 +31,6 @@ records-preserved c =
 pub returns-clause-says : goal.returns-clause-says
 returns-clause-says c =
     let held = c.args.self.now.held in
-    let none : into_iter_items c.records.rest ≡ [] = no_key (into_iter_items c.records.rest) (λ l. let k = c.records.rest.rest.ok in let z = c.in_default.ensures.cases.0 in omega (arith, k, z)) in
+    let none : into_iter_items c.records.rest ≡ [] = nil_from_length (into_iter_items c.records.rest) (let k = c.records.rest.rest.ok in let z = c.in_default.ensures.cases.0 in omega (arith, k, z)) in
     says_stands held (Ok c.records.progress) _
     (subst (Reads held (Ok c.records.progress)) (none_left c.records.self.fed (into_iter_items c.records.rest) _ none c.records.invariant.1) c.records.invariant.2)

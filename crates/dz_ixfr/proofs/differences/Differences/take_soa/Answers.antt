@@ -1,4 +1,4 @@
-use Rattle.dz_ixfr.proofs.KeptLemmas.{begun_gap, begun_more, deleting_more, adding_gap, adding_more, at_end, past_end, past_lost}
+use Rattle.dz_ixfr.proofs.KeptLemmas.{begun_gap, begun_more, deleting_more, adding_gap, adding_more, at_end, past_end}
 use Rattle.dz_ixfr.proofs.differences.Differences.take_soa.Goals as goal
 
 pub returns-then-serial-held-clause-says : goal.returns-then-serial-held-clause-says
@@ -24,8 +24,5 @@ pub returns-in-Adding-clause-says : goal.returns-in-Adding-clause-says
 returns-in-Adding-clause-says c =
     adding_more c.self.invariant c.args.self.now c.self.view_is c.args.found c.requires.soa c.args.serial c.in-Adding.last c.in-Adding.is c.if-last-self.false c.requires.serial c.if-serial-last.false
 
-pub returns-in-Ended-clause-says : goal.returns-in-Ended-clause-says
-returns-in-Ended-clause-says c = past_end c.self.invariant c.args.self.now c.self.view_is c.args.found c.in-Ended.is
-
 pub returns-clause-says : goal.returns-clause-says
-returns-clause-says c = past_lost c.self.invariant c.args.self.now c.self.view_is c.args.found c.in-Lost.is
+returns-clause-says c = past_end c.self.invariant c.args.self.now c.self.view_is c.args.found c.in-Ended.is
