@@ -16,9 +16,8 @@ use Rattle.dz_take.specs.Outcome.{outcome, octets_used}
 use Rattle.dz_history.specs.declared.aftermath.Aftermath.{Aftermath}
 use Rattle.dz_history.specs.declared.aftermath.Aftermath.TheVariants.{Member}
 use Rattle.dz_history.specs.declared.entry.Entry.{Entry}
-use Rattle.dz_history.specs.State.{State, IsState, opened, catalog_at, stands, held_at, policy_at}
+use Rattle.dz_history.specs.State.{State, IsState, opened, catalog_at, stands, held_at}
 use Rattle.dz_history.specs.After.{after, step, aftermath_of}
-use Rattle.dz_history.specs.Legal.{IsApproved}
 use Rattle.dz_history.specs.Places.{Seat, IsSeated, seats, place_at, IsApart, IsPlacedIn}
 use Rattle.dz_history.proofs.ListLemmas.{after_more, count_is}
 use Rattle.dz_history.proofs.ApartLemmas.{apart_step}

@@ -20,5 +20,6 @@ all_at P (y ∷ ys) (suc k) x h e = all_at P ys k x h.1 e
 pub flies : (c : Core) (place : ℕ) (job : JobOf) → IsSound c → slice_get c.flight place ≡ Some job → IsFlying c job
 flies c place job ok e = record {
   there = among_at c.flight place job e;
+  given = (all_at (IsSent c.list c.tickets) c.flight place job ok.sent e).given;
   held = (all_at (IsSent c.list c.tickets) c.flight place job ok.sent e).held;
 }

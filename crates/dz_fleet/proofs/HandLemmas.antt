@@ -30,6 +30,7 @@ use Rattle.dz_fleet.specs.inner.Flying.{job_in, IsMarked}
 use Rattle.dz_fleet.specs.inner.Kept.{core_in, IsKept}
 use Rattle.dz_fleet.proofs.FlightLemmas.{all_push}
 use Rattle.dz_fleet.proofs.FlyingLemmas.{flies}
+use Rattle.dz_fleet.proofs.GivenLemmas.{given_now}
 use Rattle.dz_fleet.proofs.SoundLemmas.{sound_due}
 use Rattle.dz_fleet.proofs.WaitLemmas.{seat_stands}
 
@@ -66,6 +67,7 @@ sent_by c now place seat ok state apart there valid =
     record {
       valid = valid;
       ticket = omega arith;
+      given = given_now c.list (job_for c now seat (value_at c.values place)) refl refl;
       old = omega (arith, stands_old (state_of c) state seat.zone seat.incarnation stood, count_is c.list ok.legal);
       standing = λ none. stood;
       held = λ h. refl;

@@ -1,5 +1,5 @@
 -- The last transfer after one more, and what is held of its zone.
-use Rattle.std.proofs.Common.{◌≡◌, ◌<◌, ℕ, true, List, [], ◌∷◌, ◌++◌, length, Option, Some, None, refl, sym, ap, subst, ◌∙◌, arith}
+use Rattle.std.proofs.Common.{◌≡◌, ◌<◌, ℕ, true, List, [], ◌∷◌, ◌++◌, length, Option, Some, None, refl, sym, subst, ◌∙◌, arith}
 use Rattle.std.specs.Prelude.{IsSome}
 use Rattle.std.specs.Option.{ForSome}
 use Rattle.std.proofs.lemmas.List.Sums.{fold-append}
@@ -7,7 +7,6 @@ use Rattle.dz_name.specs.Words.{Octets}
 use Rattle.dz_take.specs.Transfer.{Decision, up_to_date, new, refused}
 use Rattle.dz_take.specs.Fit.{Fits}
 use Rattle.dz_take.proofs.FitLemmas.{outcomes_fit}
-use Rattle.dz_settings.specs.declared.config.CatalogSettings.{CatalogSettings}
 use Rattle.dz_settings.specs.declared.config.Policy.{Policy}
 use Rattle.dz_take.specs.declared.outcome.TakeFault.{TakeFault}
 use Rattle.dz_history.specs.declared.entry.Entry.{Entry}

@@ -5,6 +5,7 @@ pub mod EndLemmas
 pub mod EventLemmas
 pub mod FlightLemmas
 pub mod FlyingLemmas
+pub mod GivenLemmas
 pub mod GrowLemmas
 pub mod HandLemmas
 pub mod KeptLemmas

@@ -22,6 +22,7 @@ use Rattle.dz_fleet.specs.Values.{value_at}
 use Rattle.dz_fleet.specs.Core.{Core, state_of, ended_of, landed, others, primaries_of, entry_for}
 use Rattle.dz_fleet.specs.Sound.{is_of, seat_of, IsAmong, IsSent, IsSound}
 use Rattle.dz_fleet.proofs.FlightLemmas.{all_filter, all_weaker, all_both, all_push, among_all, apart_others, fewer, none_others, any_none, any_itself, apart_push, of_same}
+use Rattle.dz_fleet.proofs.GivenLemmas.{given_more}
 use Rattle.dz_fleet.proofs.WaitLemmas.{AreWaiting, waiting_end, waiting_landed, waiting_due, waiting_changed}
 
 -- ---- what a sound core says of a job in flight
@@ -86,7 +87,7 @@ sound_changed c place v ok lt busy turn = record {
 
 -- ---- a job departs
 sent_later : (list : List Entry) (tickets : ℕ) (job : JobOf) → IsSent list tickets job → IsSent list (tickets + 1) job
-sent_later list tickets job sent = record { valid = sent.valid; ticket = omega (arith, sent.ticket); old = sent.old; standing = sent.standing; held = sent.held }
+sent_later list tickets job sent = record { valid = sent.valid; ticket = omega (arith, sent.ticket); given = sent.given; old = sent.old; standing = sent.standing; held = sent.held }
 
 pub sound_due : (c : Core) (job : JobOf) (place : ℕ) (v : ValuesOf) → IsState (state_of c) → IsApart (state_of c) → IsSound c
     → place_at (state_of c) job.flight.zone ≡ Some place → slice_get (seats (state_of c)) place ≡ Some (seat_of job) → (value_at c.values place).timing.busy ≡ false
@@ -147,6 +148,7 @@ sent_more c job other octets state apart ok follows mine ne sent =
     record {
       valid = sent.valid;
       ticket = sent.ticket;
+      given = given_more c.list e other sent.given;
       old = omega (arith, length-append c.list (e ∷ []), sent.old);
       standing = λ none.
           let parts = or_none (ended c.list zone i) _ (sym (ended_more c.list e zone i) ∙ none) in

@@ -101,6 +101,7 @@ flight_for c now seat v = record {
   id = (c.tickets + 1) % 2 ^ 16;
   primary = primary_at (primaries_at (state_of c) seat.zone) v.turn;
   moment = now;
+  entries = length c.list;
 }
 
 -- the job of a zone at this moment, with the version that is held and the key of its catalog

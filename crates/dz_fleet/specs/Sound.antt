@@ -1,6 +1,7 @@
 -- Meaning: what holds of every core that can come about.
 use Rattle.std.specs.Prelude.{⊤, ◌≡◌, ◌⊎◌, ℕ, ◌+◌, ◌-◌, ◌^◌, ◌<◌, ◌≤◌, ◌==◌, ◌&&◌, Bool, true, false, List, [], ◌∷◌, length, slice_get, Some, None}
 use Rattle.std.specs.List.{AllByRecursion, list_any}
+use mathlib.Core.List.{IsPrefix}
 use Rattle.dz_name.specs.Name.{same_name}
 use Rattle.dz_timer.specs.Values.{ValuesOf}
 use Rattle.dz_history.specs.State.{State, held_at, stands}
@@ -22,11 +23,19 @@ is_of seat job = same_name job.flight.zone seat.zone && job.flight.incarnation =
 abbrev pub seat_of : JobOf → Seat
 seat_of job = record { zone = job.flight.zone; incarnation = job.flight.incarnation }
 
--- a job in flight: its ticket was handed out, its incarnation began by an entry that is there and is current until one
--- ends it, and while it is current the job's version is the one that is held
+-- a job was handed out by this list: at the number of entries that it names, with the version that its zone held then
+pub record IsGiven (list : List Entry) (job : JobOf) : Type 0 where
+  pub front : List Entry
+  pub begins : IsPrefix front list
+  pub entries : length front ≡ job.flight.entries
+  pub held : job.held ≡ held_at (after front) job.flight.zone
+
+-- a job in flight: its ticket was handed out by this list, its incarnation began by an entry that is there and is
+-- current until one ends it, and while it is current the job's version is the one that is held
 pub record IsSent (list : List Entry) (tickets : ℕ) (job : JobOf) : Type 0 where
   pub valid : IsJob job
   pub ticket : job.flight.ticket ≤ tickets
+  pub given : IsGiven list job
   pub old : job.flight.incarnation < length list
   pub standing : ended list job.flight.zone job.flight.incarnation ≡ None → stands (after list) job.flight.zone job.flight.incarnation ≡ true
   pub held : stands (after list) job.flight.zone job.flight.incarnation ≡ true → job.held ≡ held_at (after list) job.flight.zone
@@ -63,8 +72,9 @@ unfoldable pub IsAmong : Flight → List JobOf → Type 0
 IsAmong flight [] = ⊥
 IsAmong flight (job ∷ jobs) = (job.flight ≡ flight) ⊎ IsAmong flight jobs
 
--- a job is this core's: one in flight agrees with it, and while its incarnation is current its version is the one that
--- is held
+-- a job is this core's: one in flight asks for the same, this list handed it out, and while its incarnation is current
+-- its version is the one that is held
 pub record IsFlying (c : Core) (job : JobOf) : Type 0 where
   pub there : IsAmong job.flight c.flight
+  pub given : IsGiven c.list job
   pub held : stands (state_of c) job.flight.zone job.flight.incarnation ≡ true → job.held ≡ held_at (state_of c) job.flight.zone

@@ -1,22 +1,17 @@
 //! Jobs that are this core's, and those that aren't.
 
-ghost use Rattle.std.specs.Prelude.{◌≡◌, ◌↔◌, ◌==◌, None, true, option_map, IsTrue, IfSome};
+ghost use Rattle.std.specs.Prelude.{◌≡◌, ◌↔◌, ◌==◌, None, IsTrue, IfSome};
 ghost use Rattle.std.specs.List.{list_any};
-ghost use Rattle.dz_history.specs.State.{held_at, stands};
 ghost use Rattle.dz_fleet.specs.Absence.{absent_of};
-ghost use Rattle.dz_fleet.specs.Sound.{IsFlying, IsSound};
-ghost use Rattle.dz_fleet.specs.inner.Same.{same_ask, same_peer, same_query, same_flight, is_copy};
+ghost use Rattle.dz_fleet.specs.Sound.{IsFlying, IsGiven, IsSound};
+ghost use Rattle.dz_fleet.specs.inner.Same.{same_ask, same_peer, same_query, same_number, same_flight};
 
 use crate::fleet::Fleet;
 use crate::flight::Flying;
-use dz_history::Holdings;
 use dz_io::Peer;
 use dz_job::{Flight, Job};
-use dz_record::Rr;
 use dz_take::Ask;
-use dz_zone::Version;
 use std::marker::Model;
-use std::sync::Arc;
 
 /// Why a job isn't a fleet's.
 #[derive(Clone, Copy, Debug)]
@@ -60,16 +55,18 @@ impl Absent {
 }
 
 impl Fleet {
-    /// Whether a job in flight agrees with this one in all that it asks for, and, while its incarnation is current, the
-    /// version that was held as it was handed out is the one that is held. The records are compared one by one.
+    /// Whether a job in flight agrees with this one in all that it asks for. Of one that this list handed out nothing
+    /// else can differ: its version is the one that its zone held at the number of entries that it names.
     pub fn is_in_flight(&self, job: &Job) -> bool
+        requires given { IsSound self.now → IsGiven self.now.list job.now }
         ensures { IsTrue result ↔ IsFlying self.now job.now }
     {
-        is_among(&self.flying, job.flight()) && is_as_held(&self.holdings, job)
+        is_among(&self.flying, job.flight())
     }
 
     /// Why a job isn't this fleet's; none exactly where it is.
     pub fn absence(&self, job: &Job) -> Option<Absent>
+        requires given { IsSound self.now → IsGiven self.now.list job.now }
         ensures none { (result ≡ None) ↔ IsFlying self.now job.now }
         ensures absent { IfSome result (λ a. a ≡ absent_of self.now job.now) }
         ensures sound { IsSound self.now }
@@ -108,11 +105,18 @@ fn is_among(flying: &[Flying], flight: &Flight) -> bool
     flying.iter().any(|f| same_flight(&f.flight, flight))
 }
 
-/// Whether two jobs have one number, one incarnation of a zone and one query.
+/// Whether two jobs have one number, one length of the list, one incarnation of a zone and one query.
 fn same_flight(a: &Flight, b: &Flight) -> bool
     ensures { result ≡ same_flight a.now b.now }
 {
-    a.ticket == b.ticket && a.zone == b.zone && a.incarnation == b.incarnation && same_query(a, b)
+    same_number(a, b) && a.zone == b.zone && a.incarnation == b.incarnation && same_query(a, b)
+}
+
+/// Whether two jobs have one number, and were handed out by lists of one length.
+fn same_number(a: &Flight, b: &Flight) -> bool
+    ensures { result ≡ same_number a.now b.now }
+{
+    a.ticket == b.ticket && a.entries == b.entries
 }
 
 /// Whether two jobs ask the same primary for the same at the same moment, with the same ID.
@@ -141,57 +145,4 @@ fn same_peer(a: &Peer, b: &Peer) -> bool
     ensures { result ≡ same_peer a.now b.now }
 {
     a.address == b.address && a.port == b.port
-}
-
-/// Whether the version of a job is the one that is held, while its incarnation is current.
-fn is_as_held(holdings: &Holdings, job: &Job) -> bool
-    ensures { let zone = job.now.flight.zone in
-        IsTrue result ↔ (stands holdings.now zone job.now.flight.incarnation ≡ true
-        → job.now.held ≡ held_at holdings.now zone) }
-{
-    !holdings.stands(job.zone(), job.incarnation())
-        || same_held(job.held(), holdings.held(job.zone()))
-}
-
-/// Whether two versions are one, or there is none.
-fn same_held(a: Option<&Arc<Version>>, b: Option<&Arc<Version>>) -> bool
-    ensures { IsTrue result
-        ↔ (option_map (λ r. r.now.value) a.entry ≡ option_map (λ r. r.now.value) b.entry) }
-{
-    match (a, b) {
-        (None, None) => true,
-        (Some(a), Some(b)) => same_version(a, b),
-        _ => false,
-    }
-}
-
-/// Whether two versions have one apex and the same records.
-fn same_version(a: &Version, b: &Version) -> bool
-    ensures { IsTrue result ↔ (a.now ≡ b.now) }
-{
-    a.apex().same(&b.apex()) && same_records(a.records(), b.records())
-}
-
-/// Whether these are the same records, with their TTLs.
-fn same_records(a: &[Rr], b: &[Rr]) -> bool
-    ensures { IsTrue result ↔ (a.now ≡ b.now) }
-{
-    if a.len() != b.len() {
-        return false;
-    }
-    'records: for place in 0..a.len() {
-        if !is_copy(&a[place], &b[place]) {
-            return false;
-        }
-    }
-    true
-}
-
-/// Whether owner name, type, TTL and RDATA agree, which the octets of both show at once.
-fn is_copy(a: &Rr, b: &Rr) -> bool
-    ensures { result ≡ is_copy a.now b.now }
-{
-    let kinds = a.kind() == b.kind();
-    let octets = a.octets() == b.octets();
-    kinds && octets
 }

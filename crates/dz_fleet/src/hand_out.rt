@@ -119,6 +119,7 @@ impl Fleet {
             id: (ticket % 65_536) as u16,
             primary: self.primary(&zone, values.turn()),
             moment: now,
+            entries: self.holdings.count(),
         };
         let job = Job::new(flight, held, key);
         Ok(prepared(job, self.holdings.policy(&zone)))

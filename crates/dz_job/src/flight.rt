@@ -19,4 +19,6 @@ pub struct Flight {
     pub primary: Peer,
     /// The moment of the job in seconds, below 2^40.
     pub moment: u64,
+    /// How many entries the list of taken transfers had as the job was handed out.
+    pub entries: u64,
 }

@@ -93,13 +93,6 @@ impl Job {
         &self.flight.zone
     }
 
-    /// Whether the zone is a catalog.
-    pub fn is_catalog(&self) -> bool
-        ensures { result ≡ (self.now.flight.incarnation == 0) }
-    {
-        self.flight.incarnation == 0
-    }
-
     /// The position of the entry that the zone began by; 0 for a catalog.
     pub fn incarnation(&self) -> u64
         ensures { result ≡ self.now.flight.incarnation }

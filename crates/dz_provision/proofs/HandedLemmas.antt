@@ -79,6 +79,7 @@ module _ (c : Core) (now : ℕ) (ok : IsSound c) where
           primary = primary_in s seat.zone (value_at c.values place).turn (primaries_at s seat.zone) refl some turn;
           ask = ((value_at c.values place).whole, refl);
           id = refl;
+          entries = refl;
         },
         refl,
       )

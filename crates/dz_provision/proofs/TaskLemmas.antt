@@ -14,7 +14,7 @@ use Rattle.dz_store.specs.Payload.{reads}
 use Rattle.dz_store.specs.Store.{StoreOf, HasFailed}
 use Rattle.dz_provision.specs.Keeping.{Task, record_of, zone_of, IsUnfit}
 use Rattle.dz_provision.specs.KeepingAnswer.{IsWhy, IsStopped}
-use Rattle.dz_provision.specs.inner.Tasks.{AreDone, LeavesTasks}
+use Rattle.dz_provision.specs.inner.Tasks.{AreDone, ArePassed, LeavesTasks}
 use Rattle.dz_provision.proofs.MomentLemmas.{no_call, both_calls, wider}
 
 -- what is left among the first ones is left among all
@@ -156,3 +156,14 @@ module _ {D : Type 0} (file : D → Option Octets) (faults : D → ℕ) (may_lea
       (λ same. subst (λ every. IsLeftAmong (records reads f) every f x) (record_of_both xs ys) (subst (λ y. IsLeftAmong (records reads f) all f y) (sym same) here)) l))
       now in
       both_calls clock left_from a.disk b.disk c.disk (IsLeftAmong (records reads f) all f) first then
+
+  -- ---- all were done
+  pub passed_none : (a : StoreOf D) → ArePassed file faults clock left_from a a []
+  passed_none a = record { done = done_none file faults a; left = λ later more left. left }
+
+  pub passed_more : (a b c : StoreOf D) (xs ys : List Task) → ((d : D) (f : Octets) → file d ≡ Some f → may_leave d f) → ((d : D) (t : ℕ) (x : Octets) → t ≤ clock d → may_leave d x → left_from d t x)
+      → ArePassed file faults clock left_from a b xs → AreDone file faults b c ys → LeavesTasks file clock left_from b c ys → ArePassed file faults clock left_from a c (xs ++ ys)
+  passed_more a b c xs ys may counts one done two = record {
+    done = done_both file faults a b c xs ys one.done done;
+    left = λ later more left. subst (λ all. LeavesTasks file clock left_from a later all) (sym (append_assoc xs ys more)) (one.left later (ys ++ more) (left_both b c later ys more may counts done two left));
+  }

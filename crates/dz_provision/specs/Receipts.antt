@@ -41,8 +41,9 @@ IsBetween from count list = (from ≤ count) × (count ≤ length list)
 abbrev pub IsQuietAt : QuietOf → List Entry → ℕ → Type 0
 IsQuietAt q list now = (q.count ≡ length list) × (q.moment ≡ now)
 
--- a job is of an incarnation that is current there, with the version that is held of its zone and its catalog's key. It
--- asks one of the zone's primaries, for the whole zone where no version is held, and the query's ID is that of its ticket
+-- a job is of an incarnation that is current there, with the version that is held of its zone and its catalog's key, and
+-- names the number of entries. It asks one of the zone's primaries, for the whole zone where no version is held, and the
+-- query's ID is that of its ticket
 pub record IsDueAt (job : JobOf) (list : List Entry) : Type 0 where
   pub begun : stands (after list) job.flight.zone job.flight.incarnation ≡ true
   pub unended : ended list job.flight.zone job.flight.incarnation ≡ None
@@ -51,6 +52,7 @@ pub record IsDueAt (job : JobOf) (list : List Entry) : Type 0 where
   pub primary : HasPrimary (after list) job.flight.zone job.flight.primary
   pub ask : (whole : Bool) × (job.flight.ask ≡ ask_of job.held whole)
   pub id : job.flight.id ≡ job.flight.ticket % 2 ^ 16
+  pub entries : job.flight.entries ≡ length list
 
 -- it was so after a beginning of the list that isn't shorter than a place
 unfoldable pub WasDue : JobOf → ℕ → List Entry → Type 0

@@ -4,6 +4,7 @@ ghost use Rattle.std.specs.Prelude.{◌≡◌, ◌<◌, ◌^◌, false, length, 
 ghost use mathlib.Core.List.{IsPrefix};
 ghost use Rattle.dz_history.specs.Legal.{IsLegal};
 ghost use Rattle.dz_job.specs.Job.{transfer_for};
+ghost use Rattle.dz_fleet.specs.Sound.{IsGiven};
 ghost use Rattle.dz_provision.specs.Endings.{settled_ending, failed_ending, starved_ending};
 ghost use Rattle.dz_provision.specs.Receipts.{IsHandedAt, IsSettledAt, IsFailedAt};
 
@@ -32,7 +33,7 @@ pub trait Jobs: Ear {
         ensures handed { IsHandedAt result reading.new.list now }
         ensures cause { IsErr result → Self.may_fail };
 
-    /// Ends a job by what came of its transfer. One that is taken is published, and the reading has then seen it. The lines
+    /// Ends a job that a list which the reading has seen handed out, by what came of its transfer. One that is taken is published, and the reading has then seen it. The lines
     /// of the verdict are written, and for want of memory `nomemory` with the zone. Beside the verdict it answers how the job
     /// ended: its event, at this moment, and these lines.
     ///
@@ -51,6 +52,7 @@ pub trait Jobs: Ear {
     ) -> Ended<Verdict>
         requires out { reading.old.is_out ≡ false }
         requires own { reading.old.book ≡ Self.publisher }
+        requires given { IsGiven reading.old.list job }
         requires transfer { finished.transfer ≡ transfer_for job }
         requires moment { now < 2 ^ 40 }
         ensures same { reading.new ≡ record reading.old { list = reading.new.list } }
@@ -70,6 +72,7 @@ pub trait Jobs: Ear {
     fn fail<R: Wait>(&self, rt: &R, reading: &mut Reading, job: Job, now: u64) -> Ended<Failure>
         requires out { reading.old.is_out ≡ false }
         requires own { reading.old.book ≡ Self.publisher }
+        requires given { IsGiven reading.old.list job }
         requires moment { now < 2 ^ 40 }
         ensures same { reading.new ≡ record reading.old { list = reading.new.list } }
         ensures seen { IsPrefix reading.old.list reading.new.list }
@@ -87,6 +90,7 @@ pub trait Jobs: Ear {
     fn starve<R: Wait>(&self, rt: &R, reading: &mut Reading, job: Job, now: u64) -> Ended<Failure>
         requires out { reading.old.is_out ≡ false }
         requires own { reading.old.book ≡ Self.publisher }
+        requires given { IsGiven reading.old.list job }
         requires moment { now < 2 ^ 40 }
         ensures same { reading.new ≡ record reading.old { list = reading.new.list } }
         ensures seen { IsPrefix reading.old.list reading.new.list }

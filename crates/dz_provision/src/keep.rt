@@ -1,6 +1,6 @@
 //! What is kept of the last entry of a list.
 
-ghost use Rattle.std.specs.Prelude.{◌≡◌, ◌<◌, ◌^◌, false, ℕ, List, [], ◌∷◌, map, Some, option_map, IfErr, IfSome, IsSome, OnOk};
+ghost use Rattle.std.specs.Prelude.{◌≡◌, ◌<◌, ◌^◌, false, ℕ, List, [], ◌∷◌, map, Some, option_map, IfErr, IfSome, IsErr, IsSome, OnOk};
 ghost use Rattle.std.specs.Arc.{arc_value};
 ghost use Rattle.std.specs.Option.{ForSome, option_to_list};
 ghost use Rattle.dz_disk.specs.Disk.{Leaves};
@@ -13,7 +13,7 @@ ghost use Rattle.dz_store.specs.Kept.{meaning_of};
 ghost use Rattle.dz_store.specs.Payload.{reads};
 ghost use Rattle.dz_provision.specs.Keeping.{forget, save, record_of, goes, gone, changes_of, membership_at, last_kept, tasks, IsLastVerdict};
 ghost use Rattle.dz_provision.specs.KeepingAnswer.{IsKept, IsStopped};
-ghost use Rattle.dz_provision.specs.inner.Tasks.{kept_as, AreDone, LeavesTasks};
+ghost use Rattle.dz_provision.specs.inner.Tasks.{kept_as, AreDone, ArePassed, LeavesTasks};
 
 use crate::naming::Naming;
 use crate::provisioner::{LogFault, Provisioner};
@@ -107,15 +107,13 @@ fn forget_gone<D: Disk + Drop>(
     store: &mut Store<D>,
     changes: &[Change],
 ) -> Result<(), Unkept>
-    ensures done { OnOk result (AreDone D.file D.faults store.old store.new
+    ensures passed { OnOk result (ArePassed D.file D.faults D.clock D.left_from store.old store.new
         (map forget (gone changes.now))) }
     ensures stopped { IfErr result (λ u. IsStopped D.file D.faults store.old store.new
         (map forget (gone changes.now)) u.zone u.fault) }
-    ensures crash { LeavesTasks D.file D.clock D.left_from store.old store.new
+    ensures crash { IsErr result → LeavesTasks D.file D.clock D.left_from store.old store.new
         (map forget (gone changes.now)) }
 {
-    // what is known of a store is known of this one
-    store.end();
     'changes: for change in changes {
         if goes(&change.what) {
             forget_one(alloc, store, &change.zone)?;
@@ -172,6 +170,7 @@ fn save_last<D: Disk + Drop>(
 ) -> Result<(), Unkept>
     requires last { option_map (λ r. r.now) last ≡ last_of fleet.now.list }
     requires refreshed { ForSome (last_of fleet.now.list) (IsRefreshed (state_of fleet.now)) }
+    requires saved { IsSome (last_kept fleet.now.list) }
     ensures done { OnOk result (AreDone D.file D.faults store.old store.new
         (map save (option_to_list (last_kept fleet.now.list)))) }
     ensures stopped { IfErr result (λ u. IsStopped D.file D.faults store.old store.new
@@ -179,10 +178,8 @@ fn save_last<D: Disk + Drop>(
     ensures crash { LeavesTasks D.file D.clock D.left_from store.old store.new
         (map save (option_to_list (last_kept fleet.now.list))) }
 {
-    // what is known of a store is known of this one
-    store.end();
     match last_holding(fleet, last) {
-        None => Ok(()),
+        None => unreachable!(),
         Some(holding) => save_holding(alloc, store, &holding),
     }
 }
@@ -241,9 +238,11 @@ fn save_holding<D: Disk + Drop>(
     ensures crash { LeavesTasks D.file D.clock D.left_from store.old store.new
         (save (kept_as holding.now) ∷ []) }
 {
-    // what is known of a store is known of this one
-    store.end();
     let zone = holding.zone;
+    if store.has_failed() {
+        let fault = StoreFault::DiskFault;
+        return Err(Unkept { zone, fault });
+    }
     let Ok(version) = Arc::try_clone(holding.version) else {
         let fault = StoreFault::OutOfMemory;
         return Err(Unkept { zone, fault });

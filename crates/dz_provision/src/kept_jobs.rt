@@ -6,6 +6,7 @@ ghost use Rattle.dz_io.specs.Counts.{HasRisen};
 ghost use Rattle.dz_provision.specs.Witness.{IsWitnessOf};
 ghost use Rattle.dz_history.specs.Legal.{IsLegal};
 ghost use Rattle.dz_job.specs.Job.{transfer_for};
+ghost use Rattle.dz_fleet.specs.Sound.{IsGiven};
 ghost use Rattle.dz_fleet.specs.Weighing.{is_taken};
 ghost use Rattle.dz_provision.specs.Endings.{settled_ending};
 ghost use Rattle.dz_provision.specs.Keeping.{IsLastVerdict};
@@ -58,6 +59,7 @@ impl<K: Sink, J: Naming> Provisioner<K, J> {
         requires own { reading.old.book ≡ J.publisher }
         requires list { reading.old.list ≡ self.old.core.list }
         requires legal { IsLegal reading.old.list }
+        requires given { IsGiven self.old.core.list job }
         requires transfer { finished.transfer ≡ transfer_for job }
         requires moment { now < 2 ^ 40 }
         ensures same { reading.new ≡ record reading.old { list = reading.new.list } }

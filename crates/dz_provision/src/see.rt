@@ -6,7 +6,7 @@ ghost use Rattle.dz_io.specs.Counts.{HasRisen};
 ghost use Rattle.dz_history.specs.Legal.{IsLegal};
 ghost use Rattle.dz_desk.specs.Hearing.{IsHeard, IsWitnessed};
 ghost use Rattle.dz_job.specs.Job.{transfer_for};
-ghost use Rattle.dz_fleet.specs.Sound.{IsSound};
+ghost use Rattle.dz_fleet.specs.Sound.{IsGiven, IsSound};
 ghost use Rattle.dz_fleet.specs.Weighing.{is_taken};
 ghost use Rattle.dz_report.specs.Lines.{verdict_lines};
 ghost use Rattle.dz_provision.specs.Endings.{settled_ending, failed_ending, starved_ending};
@@ -108,6 +108,7 @@ impl<K: Sink, J: Naming> Provisioner<K, J> {
         requires own { reading.old.book ≡ J.publisher }
         requires list { reading.old.list ≡ self.old.core.list }
         requires legal { IsLegal reading.old.list }
+        requires given { IsGiven self.old.core.list job }
         requires transfer { finished.transfer ≡ transfer_for job }
         requires moment { now < 2 ^ 40 }
         ensures same { reading.new ≡ record reading.old { list = reading.new.list } }
@@ -143,6 +144,7 @@ impl<K: Sink, J: Naming> Provisioner<K, J> {
         requires own { reading.old.book ≡ J.publisher }
         requires list { reading.old.list ≡ self.old.core.list }
         requires legal { IsLegal reading.old.list }
+        requires given { IsGiven self.old.core.list job }
         requires transfer { finished.transfer ≡ transfer_for job }
         requires moment { now < 2 ^ 40 }
         ensures same { reading.new ≡ record reading.old { list = reading.new.list } }
@@ -192,6 +194,7 @@ impl<K: Sink, J: Naming> Provisioner<K, J> {
 
     /// Ends a job that failed, and answers by the list.
     pub(crate) fn fail_now(&mut self, job: Job, now: u64) -> Ended<Failure>
+        requires given { IsGiven self.old.core.list job }
         requires moment { now < 2 ^ 40 }
         ensures failed { IsFailedAt result.answer job
             (length self.old.core.list) self.old.core.list }
@@ -206,6 +209,7 @@ impl<K: Sink, J: Naming> Provisioner<K, J> {
 
     /// The failure of it.
     fn fail_aloud(&mut self, job: Job, now: u64) -> Result<Failure, Unmade>
+        requires given { IsGiven self.old.core.list job }
         requires moment { now < 2 ^ 40 }
         ensures failed { IsFailedAt result job (length self.old.core.list) self.old.core.list }
         ensures made { IfOk result (λ f. IsFailedAloud self.old job now f self.new) }
@@ -224,6 +228,7 @@ impl<K: Sink, J: Naming> Provisioner<K, J> {
 
     /// Ends a job that failed for want of memory, says so, and answers by the list.
     pub(crate) fn starve_now(&mut self, job: Job, now: u64) -> Ended<Failure>
+        requires given { IsGiven self.old.core.list job }
         requires moment { now < 2 ^ 40 }
         ensures failed { IsFailedAt result.answer job
             (length self.old.core.list) self.old.core.list }
@@ -238,6 +243,7 @@ impl<K: Sink, J: Naming> Provisioner<K, J> {
 
     /// The failure of it. Of one that is stale nothing more is said.
     fn starve_aloud(&mut self, job: Job, now: u64) -> Result<Failure, Unmade>
+        requires given { IsGiven self.old.core.list job }
         requires moment { now < 2 ^ 40 }
         ensures failed { IsFailedAt result job (length self.old.core.list) self.old.core.list }
         ensures made { IfOk result (λ f. IsStarvedAloud self.old job now f self.new) }

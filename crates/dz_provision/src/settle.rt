@@ -5,7 +5,7 @@ ghost use Rattle.std.specs.Arc.{arc_value};
 ghost use Rattle.dz_take.specs.Outcome.{octets_used};
 ghost use Rattle.dz_job.specs.Job.{IsJob, transfer_for};
 ghost use Rattle.dz_fleet.specs.Core.{entry_for};
-ghost use Rattle.dz_fleet.specs.Sound.{IsFlying, IsSound};
+ghost use Rattle.dz_fleet.specs.Sound.{IsFlying, IsGiven, IsSound};
 ghost use Rattle.dz_fleet.specs.Weighing.{Fits, octets_in, is_taken};
 ghost use Rattle.dz_report.specs.Lines.{verdict_lines};
 ghost use Rattle.dz_provision.specs.Held.{IsSettled, IsFailed, Notes};
@@ -32,7 +32,7 @@ struct Ready {
 }
 
 impl<K: Sink, J: Naming> Provisioner<K, J> {
-    /// Ends a job by what came of its transfer, at a moment in seconds below 2^40: a transfer that is taken joins the list,
+    /// Ends a job that the list handed out by what came of its transfer, at a moment in seconds below 2^40: a transfer that is taken joins the list,
     /// which is published, and the lines are written. It answers the verdict, with a note of the list. Want of memory has
     /// no line: the job ends as one that failed.
     ///
@@ -48,6 +48,7 @@ impl<K: Sink, J: Naming> Provisioner<K, J> {
         finished: Finished,
         now: u64,
     ) -> Result<(Verdict, Told), Unmade>
+        requires given { IsSound self.old.core → IsGiven self.old.core.list job }
         requires transfer { finished.transfer ≡ transfer_for job }
         requires moment { now < 2 ^ 40 }
         ensures settled { IsSettled self.old job finished.octets now result self.new }
@@ -72,13 +73,14 @@ impl<K: Sink, J: Naming> Provisioner<K, J> {
         }
     }
 
-    /// Ends a job that failed at a moment, in seconds below 2^40, and writes its line. It answers how it ended, with a note
+    /// Ends a job that the list handed out and that failed at a moment, in seconds below 2^40, and writes its line. It answers how it ended, with a note
     /// of the list.
     ///
     /// # Errors
     ///
     /// As those of [`Provisioner::settle`].
     pub fn fail(&mut self, job: Job, now: u64) -> Result<(Failure, Told), Unmade>
+        requires given { IsSound self.old.core → IsGiven self.old.core.list job }
         requires moment { now < 2 ^ 40 }
         ensures failed { IsFailed self.old job now result self.new }
         ensures note { Notes J.publisher self.new.core.list result }

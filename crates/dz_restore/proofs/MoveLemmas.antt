@@ -42,6 +42,7 @@ use Rattle.dz_fleet.specs.Values.{value_at}
 use Rattle.dz_fleet.specs.Core.{Core, state_of, due_of, job_for, job_at, after_due, ended_of, failed_core, after_end, after_failure, after_refusal, after_success, entry_for, used_of, tsig_of, verdict_of, after_verdict, settled, is_accepted}
 use Rattle.dz_fleet.specs.Sound.{IsAmong, IsFlying}
 use Rattle.dz_fleet.proofs.EventLemmas.{IsWell, well_due, well_end, well_refusal, well_settled}
+use Rattle.dz_fleet.proofs.GivenLemmas.{given_now}
 use Rattle.dz_fleet.proofs.HandLemmas.{job_is}
 use Rattle.dz_fleet.proofs.SettleLemmas.{settled_by}
 use Rattle.dz_fleet.proofs.TakeLemmas.{verdict_new, verdict_policy, decision_is}
@@ -157,8 +158,15 @@ module _ (c : Core) (keeps : Name → Option KeptZone) (count : ℕ) (seat : Sea
   unfolding IsAmong
   among = subst (λ jobs. IsAmong job.flight (jobs ++ job ∷ [])) (sym going.idle) (inl refl)
 
+  held_there : job.held ≡ held_at s job.flight.zone
+  held_there = held_is ∙ sym none_held ∙ ap (λ z. held_at s z) (sym zone_is)
+
   flies : IsFlying busy job
-  flies = record { there = among; held = λ up. held_is ∙ sym none_held ∙ ap (λ z. held_at s z) (sym zone_is) }
+  flies = record {
+    there = among;
+    given = given_now c.list job (ap (λ (j : JobOf). j.flight.entries) job_same) held_there;
+    held = λ up. held_there;
+  }
 
   -- ---- it brings nothing
   module _ (d : Core) (well : IsWell d) (next_turn : IsRestoring d (count + 1)) (drawn : d.tickets ≡ c.tickets + 1) (same : d.list ≡ c.list) (none : to_hold s seat.zone (keeps seat.zone) ≡ None) where

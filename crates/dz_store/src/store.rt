@@ -216,7 +216,9 @@ impl<D: Disk + Drop> Store<D> {
 
     /// Whether a call of the disk failed, after which no call touches it.
     pub fn has_failed(&self) -> bool
-        ensures { result ≡ self.now.has_failed }
+        ensures failed { result ≡ self.now.has_failed }
+        ensures sure { self.now.has_failed ≡ false → (f : List ℕ)
+            → D.file self.now.disk ≡ Some f → IsSure f (D.may_leave self.now.disk) }
     {
         self.log.has_failed()
     }

@@ -25,6 +25,7 @@ fn job(rt: &impl Abort) -> Job {
         id: 2,
         primary: peer(1),
         moment: 1000,
+        entries: 1,
     };
     Job::new(flight, None, None)
 }

@@ -1,7 +1,9 @@
 //! A transfer worker that keeps what is taken.
 
 ghost use Rattle.std.specs.Prelude.{◌≡◌, ◌<◌, ◌^◌, false, [], None, IfOk};
+ghost use mathlib.Core.List.{IsPrefix};
 ghost use Rattle.dz_desk.specs.Seen.{IsFresh};
+ghost use Rattle.dz_fleet.specs.Sound.{IsGiven};
 
 use crate::desks::open_one;
 use crate::links::dialer;
@@ -76,6 +78,7 @@ fn work_at<R: Abort + Wait, J: Naming>(
     requires moment { moment < 2 ^ 40 }
     requires reading { (reading.old.is_out ≡ false) × (reading.old.book ≡ J.publisher) }
     ensures same { reading.new ≡ record reading.old { list = reading.new.list } }
+    ensures seen { IsPrefix reading.old.list reading.new.list }
 {
     let mut dialer = match giving(rt, alloc, message) {
         Ok(dialer) => dialer,
@@ -93,6 +96,7 @@ fn member_job<R: Abort + Wait, J: Naming>(
 ) -> Job
     requires reading { (reading.old.is_out ≡ false) × (reading.old.book ≡ J.publisher) }
     ensures same { reading.new ≡ record reading.old { list = reading.new.list } }
+    ensures given { IsGiven reading.new.list result }
 {
     match shared.hand_out(rt, reading, 1000) {
         Ok(Due::Job(job)) => job,

@@ -1,6 +1,8 @@
 //! Provisioners: a job that goes to another core.
 
-ghost use Rattle.std.specs.Prelude.{◌≡◌, [], None};
+ghost use Rattle.std.specs.Prelude.{◌≡◌, List, [], None};
+ghost use Rattle.dz_settings.specs.declared.config.CatalogSettings.{CatalogSettings};
+ghost use Rattle.dz_fleet.specs.Core.{opened_core};
 
 use crate::configs::config;
 use crate::desks::open_one;
@@ -22,6 +24,7 @@ fn begin<R: Abort + Wait, J: Naming>(
     catalog: &str,
 ) -> Provisioner<MemorySink, J>
     requires { (publisher.list ≡ []) × (publisher.staged ≡ None) × (publisher.book ≡ J.publisher) }
+    ensures { (config : List CatalogSettings) × (result.core ≡ opened_core config) }
 {
     let Ok(config) = config(rt, alloc, catalog) else {
         panic!(rt; "out of memory");
@@ -34,7 +37,11 @@ fn begin<R: Abort + Wait, J: Naming>(
 }
 
 /// The job that is due at the moment 0.
-fn first_job<J: Naming>(rt: &impl Abort, provisioner: &mut Provisioner<MemorySink, J>) -> Job {
+fn first_job<J: Naming>(rt: &impl Abort, provisioner: &mut Provisioner<MemorySink, J>) -> Job
+    requires { (config : List CatalogSettings) × (provisioner.old.core ≡ opened_core config) }
+    ensures { (result.flight.entries ≡ 1) × (result.held ≡ None) }
+{
+    assert_eq!(rt; provisioner.count(), 1);
     match provisioner.hand_out(0) {
         Ok(Due::Job(job)) => job,
         _ => panic!(rt; "no job"),
@@ -76,7 +83,8 @@ fn give_a_job_away<R: Abort + Wait, J: Naming + Send>(
 
 /// A provisioner of `cat2.example.` is given a job that isn't its own.
 fn refuse_a_job<R: Abort + Wait, J: Naming>(rt: &R, alloc: Global, own: Publisher, job: Job)
-    requires { (own.list ≡ []) × (own.staged ≡ None) × (own.book ≡ J.publisher) }
+    requires own { (own.list ≡ []) × (own.staged ≡ None) × (own.book ≡ J.publisher) }
+    requires job { (job.flight.entries ≡ 1) × (job.held ≡ None) }
 {
     let mut two: Provisioner<MemorySink, J> = begin(rt, alloc, own, "cat2.example.");
     assert!(rt; matches!(two.fail(job, 0), Err(Unmade::NotInFlight(_))));

@@ -1,7 +1,10 @@
 //! Transfers of catalogs that have keys: what is signed is taken, and of the rest the fault is told (RFC 8945).
 
 ghost use Rattle.std.specs.Prelude.{◌≡◌, [], None, IfOk};
+ghost use mathlib.Core.List.{IsPrefix};
 ghost use Rattle.dz_settings.specs.Config.{IsAllowed};
+ghost use Rattle.dz_desk.specs.Seen.{IsAtRest};
+ghost use Rattle.dz_fleet.specs.Sound.{IsGiven};
 
 use crate::configs::signed_config;
 use crate::desks::open_one;
@@ -9,13 +12,13 @@ use crate::messages::{Asked, GOOD, message, push_framed};
 use crate::records::Rdata::{Octets as Data, Soa, Target};
 use crate::records::Row;
 use crate::transfers::{CATALOG, MEMBER};
-use dz_desk::Publisher;
+use dz_desk::{Publisher, Reading};
 use dz_fleet::{Due, Job};
 use dz_io::MemorySink;
 use dz_job::take_stream;
 use dz_name::Octets;
 use dz_name::dns::{CLASS_IN, TYPE_A, TYPE_AXFR, TYPE_NS, TYPE_PTR, TYPE_SOA, TYPE_TXT};
-use dz_provision::{Naming, Parts, Provisioner};
+use dz_provision::{Jobs, Locked, Naming, Parts, Provisioner, Shared};
 use dz_settings::Config;
 use dz_tsig::{request_mac, sign_stream};
 use std::alloc::{AllocError, Global};
@@ -146,9 +149,21 @@ fn answer(
     }
 }
 
+/// A provisioner with its lock, and a reading of its publisher's.
+struct Provisioned<J: Naming> {
+    shared: Shared<MemorySink, J>,
+    reading: Reading,
+}
+
 /// The job that is due.
-fn due<J: Naming>(rt: &impl Abort, provisioner: &mut Provisioner<MemorySink, J>) -> Job {
-    match provisioner.hand_out(1000) {
+fn due<R: Abort + Wait, J: Naming>(rt: &R, provisioned: &mut Provisioned<J>) -> Job
+    requires reading { IsAtRest J.publisher provisioned.old.reading }
+    ensures reading { IsAtRest J.publisher provisioned.new.reading }
+    ensures seen { IsPrefix provisioned.old.reading.list provisioned.new.reading.list }
+    ensures given { IsGiven provisioned.new.reading.list result }
+{
+    let Provisioned { shared, reading } = provisioned;
+    match shared.hand_out(rt, reading, 1000) {
         Ok(Due::Job(job)) => job,
         _ => panic!(rt; "no job"),
     }
@@ -158,20 +173,24 @@ fn due<J: Naming>(rt: &impl Abort, provisioner: &mut Provisioner<MemorySink, J>)
 fn end<R: Abort + Wait, J: Naming>(
     rt: &R,
     alloc: Global,
-    provisioner: &mut Provisioner<MemorySink, J>,
+    provisioned: &mut Provisioned<J>,
     job: Job,
     answer: Result<Vec<u8>, AllocError>,
-) {
+)
+    requires reading { IsAtRest J.publisher provisioned.old.reading }
+    requires given { IsGiven provisioned.old.reading.list job }
+    ensures reading { IsAtRest J.publisher provisioned.new.reading }
+    ensures seen { IsPrefix provisioned.old.reading.list provisioned.new.reading.list }
+{
     let Ok(octets) = answer else {
         panic!(rt; "out of memory");
     };
-    match take_stream(alloc, &job, octets.as_slice()) {
-        Ok(finished) => match provisioner.settle(rt, alloc, job, finished, 1000) {
-            Ok(_) => {}
-            Err(_) => panic!(rt; "it isn't settled"),
-        },
-        Err(_) => panic!(rt; "out of memory"),
-    }
+    let Ok(finished) = take_stream(alloc, &job, octets.as_slice()) else {
+        panic!(rt; "out of memory");
+    };
+    let Provisioned { shared, reading } = provisioned;
+    let ended = shared.settle(rt, alloc, reading, job, finished, 1000);
+    assert!(rt; ended.answer.is_ok());
 }
 
 /// What answers a job for all of a zone.
@@ -192,30 +211,38 @@ fn begin<R: Abort + Wait, J: Naming>(
     rt: &R,
     alloc: Global,
     config: Result<Config, AllocError>,
-    publisher: Publisher,
-) -> Provisioner<MemorySink, J>
+    desk: (Publisher, Reading),
+) -> Provisioned<J>
     requires config { IfOk config (λ c. IsAllowed c) }
-    requires publisher { (publisher.list ≡ []) × (publisher.staged ≡ None)
-        × (publisher.book ≡ J.publisher) }
+    requires publisher { (desk.0.list ≡ []) × (desk.0.staged ≡ None)
+        × (desk.0.book ≡ J.publisher) }
+    requires reading { IsAtRest J.publisher desk.1 }
+    ensures { IsAtRest J.publisher result.reading }
 {
+    let (publisher, reading) = desk;
     let Ok(config) = config else {
         panic!(rt; "out of memory");
     };
     let output = MemorySink::new(alloc, Vec::new(alloc));
     match Provisioner::start(rt, alloc, config, publisher, output) {
-        Ok(provisioner) => provisioner,
+        Ok(provisioner) => Provisioned {
+            shared: Locked::over(provisioner),
+            reading,
+        },
         Err(_) => panic!(rt; "out of memory"),
     }
 }
 
 /// Ends a provisioner and its publisher: what was written.
-fn written<R: Wait, J: Naming>(rt: &R, provisioner: Provisioner<MemorySink, J>) -> MemorySink {
+fn written<R: Wait, J: Naming>(rt: &R, provisioned: Provisioned<J>) -> MemorySink {
+    let Provisioned { shared, reading } = provisioned;
+    drop(reading);
     let Parts {
         fleet: _,
         publisher,
         output,
         log_failed: _,
-    } = provisioner.close();
+    } = shared.close().close();
     publisher.close(rt);
     output
 }
@@ -224,51 +251,54 @@ fn written<R: Wait, J: Naming>(rt: &R, provisioner: Provisioner<MemorySink, J>) 
 fn play<R: Abort + Wait, J: Naming>(
     rt: &R,
     alloc: Global,
-    publisher: Publisher,
+    desk: (Publisher, Reading),
     change: Change,
 ) -> MemorySink
-    requires { (publisher.list ≡ []) × (publisher.staged ≡ None) × (publisher.book ≡ J.publisher) }
+    requires publisher { (desk.0.list ≡ []) × (desk.0.staged ≡ None)
+        × (desk.0.book ≡ J.publisher) }
+    requires reading { IsAtRest J.publisher desk.1 }
 {
     let config = signed_config(rt, alloc, &[(CATALOG, b"a secret")]);
-    let mut provisioner: Provisioner<MemorySink, J> = begin(rt, alloc, config, publisher);
-    let catalog = due(rt, &mut provisioner);
+    let mut provisioned: Provisioned<J> = begin(rt, alloc, config, desk);
+    let catalog = due(rt, &mut provisioned);
     let listed = answered(rt, alloc, &catalog, (CATALOG, LISTED), Change::Nothing);
-    end(rt, alloc, &mut provisioner, catalog, listed);
-    let member = due(rt, &mut provisioner);
+    end(rt, alloc, &mut provisioned, catalog, listed);
+    let member = due(rt, &mut provisioned);
     let zone = answered(rt, alloc, &member, (MEMBER, ZONE), change);
-    end(rt, alloc, &mut provisioner, member, zone);
-    written(rt, provisioner)
+    end(rt, alloc, &mut provisioned, member, zone);
+    written(rt, provisioned)
 }
 
 /// While the member's transfer is under way, it moves to the other catalog, which has another key.
-fn play_move<R: Abort + Wait, J: Naming>(rt: &R, alloc: Global, publisher: Publisher) -> MemorySink
-    requires { (publisher.list ≡ []) × (publisher.staged ≡ None) × (publisher.book ≡ J.publisher) }
+fn play_move<R: Abort + Wait, J: Naming>(
+    rt: &R,
+    alloc: Global,
+    desk: (Publisher, Reading),
+) -> MemorySink
+    requires publisher { (desk.0.list ≡ []) × (desk.0.staged ≡ None)
+        × (desk.0.book ≡ J.publisher) }
+    requires reading { IsAtRest J.publisher desk.1 }
 {
     let config = signed_config(rt, alloc, &[(CATALOG, b"a secret"), (OTHER, b"another")]);
-    let mut provisioner: Provisioner<MemorySink, J> = begin(rt, alloc, config, publisher);
-    let catalog = due(rt, &mut provisioner);
+    let mut provisioned: Provisioned<J> = begin(rt, alloc, config, desk);
+    let catalog = due(rt, &mut provisioned);
     let listed = answered(rt, alloc, &catalog, (CATALOG, LISTED), Change::Nothing);
-    end(rt, alloc, &mut provisioner, catalog, listed);
-    let one = due(rt, &mut provisioner);
-    let two = due(rt, &mut provisioner);
-    let (other, member) = if one.is_catalog() {
-        (one, two)
-    } else {
-        (two, one)
-    };
+    end(rt, alloc, &mut provisioned, catalog, listed);
+    let other = due(rt, &mut provisioned);
+    let member = due(rt, &mut provisioned);
     let zone = answered(rt, alloc, &member, (MEMBER, ZONE), Change::Nothing);
     let moved = answered(rt, alloc, &other, (OTHER, MOVED), Change::Nothing);
-    end(rt, alloc, &mut provisioner, other, moved);
-    end(rt, alloc, &mut provisioner, member, zone);
-    written(rt, provisioner)
+    end(rt, alloc, &mut provisioned, other, moved);
+    end(rt, alloc, &mut provisioned, member, zone);
+    written(rt, provisioned)
 }
 
 #[test]
 fn what_is_signed_is_taken_and_of_the_rest_the_fault_is_told(rt: HostRuntime) {
     let alloc = rt.alloc();
     'cases: for (change, want) in CASES {
-        let (publisher, _) = open_one(&rt, alloc);
-        let output = play::<HostRuntime, Brand>(&rt, alloc, publisher, *change);
+        let desk = open_one(&rt, alloc);
+        let output = play::<HostRuntime, Brand>(&rt, alloc, desk, *change);
         assert!(rt; output.written().ends_with(want));
     }
 }
@@ -276,8 +306,8 @@ fn what_is_signed_is_taken_and_of_the_rest_the_fault_is_told(rt: HostRuntime) {
 #[test]
 fn a_member_that_moved_to_another_key_is_refused_once(rt: HostRuntime) {
     let alloc = rt.alloc();
-    let (publisher, _) = open_one(&rt, alloc);
-    let output = play_move::<HostRuntime, Brand>(&rt, alloc, publisher);
+    let desk = open_one(&rt, alloc);
+    let output = play_move::<HostRuntime, Brand>(&rt, alloc, desk);
     assert!(rt;
         output.written().ends_with(
             b"\nmoved example. cat1.example. cat2.example.\nrefused example. tsig 4\n"

@@ -1,9 +1,8 @@
--- Inner: whether jobs and records are the same, part by part.
+-- Inner: whether jobs are the same, part by part.
 use Rattle.std.specs.Prelude.{Bool, true, false, ◌==◌, ◌&&◌}
 use Rattle.std.specs.Str.{bytes_eq}
 use Rattle.dz_name.specs.Name.{same_name}
 use Rattle.dz_io.specs.declared.peer.Peer.{Peer}
-use Rattle.dz_record.specs.Record.{Record, same_record}
 use Rattle.dz_take.specs.declared.ask.Ask.{Ask}
 use Rattle.dz_take.specs.declared.ask.Ask.TheVariants.{Axfr, Ixfr}
 use Rattle.dz_job.specs.declared.flight.Flight.{Flight}
@@ -23,10 +22,10 @@ same_peer a b = bytes_eq a.address b.address && a.port == b.port
 abbrev pub same_query : Flight → Flight → Bool
 same_query a b = same_ask a.ask b.ask && (a.id == b.id && (same_peer a.primary b.primary && a.moment == b.moment))
 
--- two jobs have one ticket, one incarnation of a zone and one query
-abbrev pub same_flight : Flight → Flight → Bool
-same_flight a b = a.ticket == b.ticket && (same_name a.zone b.zone && (a.incarnation == b.incarnation && same_query a b))
+-- two jobs have one ticket, and were handed out by lists of one length
+abbrev pub same_number : Flight → Flight → Bool
+same_number a b = a.ticket == b.ticket && a.entries == b.entries
 
--- two records agree in owner name, type, TTL and RDATA
-abbrev pub is_copy : Record → Record → Bool
-is_copy a b = same_record a b && a.ttl == b.ttl
+-- two jobs have one ticket, one length of the list, one incarnation of a zone and one query
+abbrev pub same_flight : Flight → Flight → Bool
+same_flight a b = same_number a b && (same_name a.zone b.zone && (a.incarnation == b.incarnation && same_query a b))

@@ -2,8 +2,8 @@ use Rattle.std.proofs.Common.{◌++◌, ◌∷◌, [], ◌+◌, ◌∙◌, List,
 use Rattle.std.proofs.lemmas.Result.{err_from_is_err_and}
 use Rattle.dz_provision.specs.Keeping.{Task, forget, gone}
 use Rattle.dz_provision.specs.KeepingAnswer.{IsStopped}
-use Rattle.dz_provision.specs.inner.Tasks.{AreDone, LeavesTasks}
-use Rattle.dz_provision.proofs.TaskLemmas.{done_none, done_both, stopped_more, stopped_later, left_none, left_more, left_both}
+use Rattle.dz_provision.specs.inner.Tasks.{ArePassed, LeavesTasks}
+use Rattle.dz_provision.proofs.TaskLemmas.{stopped_more, stopped_later, left_more, passed_none, passed_more}
 use Rattle.dz_provision.proofs.TaskListLemmas.{gone_next, gone_same, gone_all}
 use Rattle.dz_provision.proofs.keep.forget_gone.Goals.{then-goes+in_ok-forget_one, else-goes}
 use Rattle.dz_provision.proofs.keep.forget_gone.Goals as goal
@@ -11,8 +11,7 @@ use Rattle.dz_provision.proofs.keep.forget_gone.Goals as goal
 pub changes-init : goal.changes-init
 unfolding gone
 changes-init g c = record {
-  done = done_none g.D.Disk.file g.D.Disk.faults c.args.store.now;
-  left = left_none g.D.Disk.file g.D.Disk.faults g.D.Disk.may_leave g.D.Disk.clock g.D.Disk.left_from c.args.store.now [] (λ x left. g.met.D.Disk.now_alone c.args.store.now.disk x left) c.end.ensures.sure;
+  passed = passed_none g.D.Disk.file g.D.Disk.faults g.D.Disk.may_leave g.D.Disk.clock g.D.Disk.left_from c.args.store.now;
 }
 
 pub returns-in_err-forget_one-clause-stopped : goal.returns-in_err-forget_one-clause-stopped
@@ -28,10 +27,10 @@ returns-in_err-forget_one-clause-stopped g c =
     rw (p.1, p.2)
     (subst (λ every. IsStopped g.D.Disk.file g.D.Disk.faults c.args.store.now here every u.zone u.fault) all
     (stopped_more g.D.Disk.file g.D.Disk.faults c.args.store.now here (xs ++ forget change.zone ∷ []) (map forget (gone (drop (i + 1) cs))) u.zone u.fault
-    (stopped_later g.D.Disk.file g.D.Disk.faults c.args.store.now c.changes.store here xs (forget change.zone ∷ []) u.zone u.fault c.changes.invariant.done c.in_err-forget_one.ensures.stopped)))
+    (stopped_later g.D.Disk.file g.D.Disk.faults c.args.store.now c.changes.store here xs (forget change.zone ∷ []) u.zone u.fault c.changes.invariant.passed.done c.in_err-forget_one.ensures.stopped)))
 
 pub returns-in_err-forget_one-clause-crash : goal.returns-in_err-forget_one-clause-crash
-returns-in_err-forget_one-clause-crash g c =
+returns-in_err-forget_one-clause-crash g c = λ err.
     let cs = c.args.changes.now in
     let i = c.changes.change-index in
     let change = c.change-item.result in
@@ -40,8 +39,7 @@ returns-in_err-forget_one-clause-crash g c =
     let all = gone_all cs i change change (omega arith) c.change-item.is (sym c.goes.ensures ∙ c.if-goes.true) in
     subst (λ every. LeavesTasks g.D.Disk.file g.D.Disk.clock g.D.Disk.left_from c.args.store.now here every) all
     (left_more g.D.Disk.file g.D.Disk.faults g.D.Disk.may_leave g.D.Disk.clock g.D.Disk.left_from c.args.store.now here (xs ++ forget change.zone ∷ []) (map forget (gone (drop (i + 1) cs)))
-    (left_both g.D.Disk.file g.D.Disk.faults g.D.Disk.may_leave g.D.Disk.clock g.D.Disk.left_from c.args.store.now c.changes.store here xs (forget change.zone ∷ []) (λ d f told. g.met.D.Disk.told_may_be_left d f told) (λ d t x le may. g.met.D.Disk.now_counts d t x le may)
-    c.changes.invariant.done c.changes.invariant.left c.forget_one.ensures.crash))
+    (c.changes.invariant.passed.left here (forget change.zone ∷ []) c.forget_one.ensures.crash))
 
 pub changes-preserved : goal.changes-preserved
 changes-preserved g c =
@@ -54,16 +52,14 @@ changes-preserved g c =
           let here = w.forget_one.new.store in
           let next = gone_next cs i change change (omega arith) c.change-item.is (sym c.goes.ensures ∙ w.if-goes.true) in
           rw w.store-is record {
-            done = subst (λ every. AreDone g.D.Disk.file g.D.Disk.faults c.args.store.now here every) next
-                (done_both g.D.Disk.file g.D.Disk.faults c.args.store.now c.changes.store here xs (forget change.zone ∷ []) c.changes.invariant.done w.in_ok-forget_one.ensures.done);
-            left = subst (λ every. LeavesTasks g.D.Disk.file g.D.Disk.clock g.D.Disk.left_from c.args.store.now here every) next
-                (left_both g.D.Disk.file g.D.Disk.faults g.D.Disk.may_leave g.D.Disk.clock g.D.Disk.left_from c.args.store.now c.changes.store here xs (forget change.zone ∷ []) (λ d f told. g.met.D.Disk.told_may_be_left d f told) (λ d t x le may. g.met.D.Disk.now_counts d t x le may)
-                c.changes.invariant.done c.changes.invariant.left w.in_ok-forget_one.ensures.crash);
+            passed = subst (λ every. ArePassed g.D.Disk.file g.D.Disk.faults g.D.Disk.clock g.D.Disk.left_from c.args.store.now here every) next
+                (passed_more g.D.Disk.file g.D.Disk.faults g.D.Disk.may_leave g.D.Disk.clock g.D.Disk.left_from c.args.store.now c.changes.store here xs (forget change.zone ∷ [])
+                (λ d f told. g.met.D.Disk.told_may_be_left d f told) (λ d t x le may. g.met.D.Disk.now_counts d t x le may)
+                c.changes.invariant.passed w.in_ok-forget_one.ensures.done w.in_ok-forget_one.ensures.crash);
           }
       | else-goes w ↦
           let same = gone_same cs i change change (omega arith) c.change-item.is (sym c.goes.ensures ∙ w.if-goes.false) in
           rw w.store-is record {
-            done = subst (λ every. AreDone g.D.Disk.file g.D.Disk.faults c.args.store.now c.changes.store every) same c.changes.invariant.done;
-            left = subst (λ every. LeavesTasks g.D.Disk.file g.D.Disk.clock g.D.Disk.left_from c.args.store.now c.changes.store every) same c.changes.invariant.left;
+            passed = subst (λ every. ArePassed g.D.Disk.file g.D.Disk.faults g.D.Disk.clock g.D.Disk.left_from c.args.store.now c.changes.store every) same c.changes.invariant.passed;
           }
     ]

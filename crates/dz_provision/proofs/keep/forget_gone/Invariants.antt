@@ -1,10 +1,9 @@
 use Rattle.std.proofs.Common.{map, take}
 use Rattle.dz_provision.specs.Keeping.{forget, gone}
-use Rattle.dz_provision.specs.inner.Tasks.{AreDone, LeavesTasks}
+use Rattle.dz_provision.specs.inner.Tasks.{ArePassed}
 use Rattle.dz_provision.proofs.keep.forget_gone.Given as goal
 
 abbrev pub invariant-changes : goal.invariant-changes
 invariant-changes g l = record {
-  done : AreDone g.D.Disk.file g.D.Disk.faults l.fn.store l.store (map forget (gone (take l.change-index l.changes)));
-  left : LeavesTasks g.D.Disk.file g.D.Disk.clock g.D.Disk.left_from l.fn.store l.store (map forget (gone (take l.change-index l.changes)));
+  passed : ArePassed g.D.Disk.file g.D.Disk.faults g.D.Disk.clock g.D.Disk.left_from l.fn.store l.store (map forget (gone (take l.change-index l.changes)));
 }

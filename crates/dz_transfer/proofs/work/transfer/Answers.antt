@@ -1,10 +1,20 @@
 use Rattle.std.proofs.Common.{sym, ◌∙◌, refl}
 use Rattle.dz_transfer.specs.declared.report.Report.TheVariants as report
+use Rattle.dz_fleet.proofs.GivenLemmas.{given_now}
 use Rattle.dz_transfer.proofs.WorkLemmas.{read_transfer, settled_work, fault_work, starved_work, settled_busy, failed_busy, settled_link, starved_link, fault_memory, settled_log, failed_log, settled_among, failed_among, starved_among}
 use Rattle.dz_transfer.proofs.work.transfer.Goals as goal
 
 pub settle-ended-requires-clause-transfer : goal.settle-ended-requires-clause-transfer
 settle-ended-requires-clause-transfer g c = read_transfer _ _ _ _ _ _ c.in-Finished.ensures.fetched
+
+pub settle-ended-requires-clause-given : goal.settle-ended-requires-clause-given
+settle-ended-requires-clause-given g c = given_now c.args.reading.now.list c.args.job c.requires.due.entries c.requires.due.held
+
+pub fail-ended-requires-clause-given : goal.fail-ended-requires-clause-given
+fail-ended-requires-clause-given g c = given_now c.args.reading.now.list c.args.job c.requires.due.entries c.requires.due.held
+
+pub starve-ended-requires-clause-given : goal.starve-ended-requires-clause-given
+starve-ended-requires-clause-given g c = given_now c.args.reading.now.list c.args.job c.requires.due.entries c.requires.due.held
 
 pub returns-in-Finished-clause-worked : goal.returns-in-Finished-clause-worked
 returns-in-Finished-clause-worked g c =

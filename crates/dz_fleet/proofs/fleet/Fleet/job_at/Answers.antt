@@ -20,4 +20,4 @@ returns c =
     let ask = rw c.is_whole.ensures at c.ask_of.ensures in
     let primary = rw (← c.self.view_is, c.turn.ensures) at c.primary.ensures in
     rw (← c.self.view_is)
-    (c.prepared.ensures ∙ (c.new-job.ensures ∙ job_made i.holdings i.history i.tickets i.flying.items i.schedule c.self.invariant.0 c.args.place _ c.at-values.result c.seat_at-zone.ensures c.at-values.ensures c.args.now _ _ _ _ held key ask primary))
+    (c.prepared.ensures ∙ (c.new-job.ensures ∙ job_made i.holdings i.history i.tickets i.flying.items i.schedule c.self.invariant.0 c.args.place _ c.at-values.result c.seat_at-zone.ensures c.at-values.ensures c.args.now _ _ _ _ _ c.count.ensures held key ask primary))

@@ -1,5 +1,4 @@
-use Rattle.std.proofs.Common.{sym, None}
-use Rattle.dz_take.specs.Transfer.{refused}
+use Rattle.std.proofs.Common.{sym}
 use Rattle.dz_fleet.proofs.TakeLemmas.{verdict_refused}
 use Rattle.dz_fleet.proofs.fleet.Fleet.judge_standing.Goals as goal
 

@@ -8,6 +8,15 @@ use Rattle.dz_run.proofs.FlightLemmas.{none_found, place_is, still_flying}
 use Rattle.dz_run.proofs.StepLemmas.{failed_made, failing_flight, fail_taken, bad_taken}
 use Rattle.dz_run.proofs.events.Running.fail.Goals as goal
 
+pub fail-requires-clause-given : goal.fail-requires-clause-given
+fail-requires-clause-given g c =
+    let before = rw (← c.self.view_is) at c.requires.«open» in
+    let same = c.self.invariant.0 before in
+    let job = c.remove-job.result in
+    let at = place_is c.self.inside.jobs.items c.in-Some.place c.args.ticket job (sym (rw c.as_slice.ensures.value at c.in-Some.ensures)) c.remove-job.ensures.value in
+    let there : slice_get c.self.inside.provisioner.core.flight c.in-Some.place ≡ Some job = ap (λ (js : List JobOf). slice_get js c.in-Some.place) (sym same) ∙ at.there in
+    λ ok. (flies c.self.inside.provisioner.core c.in-Some.place job ok there).given
+
 pub by_failing-requires : goal.by_failing-requires
 by_failing-requires g c =
     let before = rw (← c.self.view_is) at c.requires.«open» in

@@ -21,6 +21,15 @@ settle-requires-clause-transfer g c =
     let one : c.index.result.now ≡ c.remove-job.result = cc two in
     c.in-Ok.ensures.transfer ∙ ap transfer_for one
 
+pub settle-requires-clause-given : goal.settle-requires-clause-given
+settle-requires-clause-given g c =
+    let before = rw (← c.self.view_is) at c.requires.«open» in
+    let same = c.self.invariant.0 before in
+    let job = c.remove-job.result in
+    let at = place_is c.self.inside.jobs.items c.in-Some.place c.args.ticket job (sym (rw c.as_slice.ensures.value at c.in-Some.ensures)) c.remove-job.ensures.value in
+    let there : slice_get c.self.inside.provisioner.core.flight c.in-Some.place ≡ Some job = ap (λ (js : List JobOf). slice_get js c.in-Some.place) (sym same) ∙ at.there in
+    λ ok. (flies c.self.inside.provisioner.core c.in-Some.place job ok there).given
+
 pub by_settling-requires : goal.by_settling-requires
 by_settling-requires g c =
     let before = rw (← c.self.view_is) at c.requires.«open» in
