@@ -13,3 +13,4 @@ pub mod ComesLemmas
 pub mod CanonicalLemmas
 pub mod CatalogLemmas
 pub mod ChangedLemmas
+pub mod MadeLemmas

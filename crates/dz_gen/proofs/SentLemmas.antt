@@ -49,7 +49,7 @@ asked_all [] h k d lt = absurd (omega arith)
 asked_all (q ∷ qs) h zero d lt = h.0
 asked_all (q ∷ qs) h (suc k) d lt = asked_all qs h.1 k d (omega arith)
 
-asked_sizes : (qs : List Question) → AllByRecursion IsAsking qs
+pub asked_sizes : (qs : List Question) → AllByRecursion IsAsking qs
     → length (flat_map question_octets qs) ≤ 260 * length qs
 asked_sizes [] h = omega arith
 asked_sizes (q ∷ qs) h = omega (
@@ -60,7 +60,7 @@ asked_sizes (q ∷ qs) h = omega (
   asked_sizes qs h.1,
 )
 
-sizes : (rs : List Record) → AllByRecursion IsSmall rs → length (flat_map record_octets rs) ≤ 1270 * length rs
+pub sizes : (rs : List Record) → AllByRecursion IsSmall rs → length (flat_map record_octets rs) ≤ 1270 * length rs
 sizes [] h = omega arith
 sizes (r ∷ rs) h = omega (
   arith,

@@ -1,5 +1,5 @@
 -- The names of zones, label by label.
-use Rattle.std.proofs.Common.{◌≡◌, ℕ, zero, suc, ◌<◌, ◌≤◌, false, [], ◌∷◌, ◌++◌, length, drop, refl, ◌∙◌, ap, arith, length-append, length-drop}
+use Rattle.std.proofs.Common.{◌≡◌, ℕ, zero, suc, ◌<◌, ◌≤◌, false, [], ◌∷◌, ◌++◌, length, drop, refl, ◌∙◌, ap, arith, length-append, length-drop, Ok}
 use Rattle.std.specs.Prelude.{◌==◌, codes, decimal}
 use Rattle.std.specs.Char.{to_ascii_lowercase}
 use Rattle.std.proofs.lemmas.Bool.Decides.{nat_tests}
@@ -7,7 +7,7 @@ use Rattle.std.proofs.lemmas.Fmt.{length-decimal-le}
 use Rattle.dz_name.specs.Name.{wire_of}
 use Rattle.dz_name.specs.Text.{items, with_label, labels_from, name_of_text}
 use Rattle.dz_name.specs.Words.{Octets}
-use Rattle.dz_gen.specs.Texts.{digits, numbered, named}
+use Rattle.dz_gen.specs.Texts.{digits, numbered, named, name_or_root, IsSpelled}
 use Rattle.dz_gen.specs.Records.{zone, www}
 use Rattle.dz_gen.proofs.DecimalLemmas.{IsDigit, AreDigits, digits-append, digits_from_test, number_spelled}
 
@@ -61,9 +61,32 @@ module _ (a b c d : ℕ) (p : AreDigits (a ∷ b ∷ c ∷ d ∷ [])) where
   abbrev text : Octets → Octets → Octets
   text before behind = before ++ ((a ∷ b ∷ c ∷ d ∷ []) ++ behind)
 
-  zone_spelled : named (text (codes "z") (codes ".test.")) ≡ (122 ∷ a ∷ b ∷ c ∷ d ∷ []) ∷ codes "test" ∷ []
+  zone_reads : name_of_text (text (codes "z") (codes ".test.")) ≡ Ok ((122 ∷ a ∷ b ∷ c ∷ d ∷ []) ∷ codes "test" ∷ [])
   unfolding name_of_text items labels_from with_label wire_of
-  zone_spelled =
+  zone_reads =
+      rw (
+        no_escape a p.0,
+        no_escape b p.1.0,
+        no_escape c p.1.1.0,
+        no_escape d p.1.1.1.0,
+        no_dot a p.0,
+        no_dot b p.1.0,
+        no_dot c p.1.1.0,
+        no_dot d p.1.1.1.0,
+        lower_digit a p.0,
+        lower_digit b p.1.0,
+        lower_digit c p.1.1.0,
+        lower_digit d p.1.1.1.0,
+      ) refl
+
+  zone_spelled : named (text (codes "z") (codes ".test."))
+      ≡ (122 ∷ a ∷ b ∷ c ∷ d ∷ []) ∷ codes "test" ∷ []
+  zone_spelled = ap name_or_root zone_reads
+
+  www_reads : name_of_text (text (codes "www.z") (codes ".test."))
+      ≡ Ok (codes "www" ∷ (122 ∷ a ∷ b ∷ c ∷ d ∷ []) ∷ codes "test" ∷ [])
+  unfolding name_of_text items labels_from with_label wire_of
+  www_reads =
       rw (
         no_escape a p.0,
         no_escape b p.1.0,
@@ -81,8 +104,12 @@ module _ (a b c d : ℕ) (p : AreDigits (a ∷ b ∷ c ∷ d ∷ [])) where
 
   www_spelled : named (text (codes "www.z") (codes ".test."))
       ≡ codes "www" ∷ (122 ∷ a ∷ b ∷ c ∷ d ∷ []) ∷ codes "test" ∷ []
+  www_spelled = ap name_or_root www_reads
+
+  mail_reads : name_of_text (text (codes "mail.z") (codes ".test."))
+      ≡ Ok (codes "mail" ∷ (122 ∷ a ∷ b ∷ c ∷ d ∷ []) ∷ codes "test" ∷ [])
   unfolding name_of_text items labels_from with_label wire_of
-  www_spelled =
+  mail_reads =
       rw (
         no_escape a p.0,
         no_escape b p.1.0,
@@ -100,8 +127,12 @@ module _ (a b c d : ℕ) (p : AreDigits (a ∷ b ∷ c ∷ d ∷ [])) where
 
   mail_spelled : named (text (codes "mail.z") (codes ".test."))
       ≡ codes "mail" ∷ (122 ∷ a ∷ b ∷ c ∷ d ∷ []) ∷ codes "test" ∷ []
+  mail_spelled = ap name_or_root mail_reads
+
+  node_reads : name_of_text (text (codes "m") (codes ".zones.cat.test."))
+      ≡ Ok ((109 ∷ a ∷ b ∷ c ∷ d ∷ []) ∷ codes "zones" ∷ codes "cat" ∷ codes "test" ∷ [])
   unfolding name_of_text items labels_from with_label wire_of
-  mail_spelled =
+  node_reads =
       rw (
         no_escape a p.0,
         no_escape b p.1.0,
@@ -119,8 +150,12 @@ module _ (a b c d : ℕ) (p : AreDigits (a ∷ b ∷ c ∷ d ∷ [])) where
 
   node_spelled : named (text (codes "m") (codes ".zones.cat.test."))
       ≡ (109 ∷ a ∷ b ∷ c ∷ d ∷ []) ∷ codes "zones" ∷ codes "cat" ∷ codes "test" ∷ []
+  node_spelled = ap name_or_root node_reads
+
+  moved_reads : name_of_text (text (codes "r") (codes ".zones.cat.test."))
+      ≡ Ok ((114 ∷ a ∷ b ∷ c ∷ d ∷ []) ∷ codes "zones" ∷ codes "cat" ∷ codes "test" ∷ [])
   unfolding name_of_text items labels_from with_label wire_of
-  node_spelled =
+  moved_reads =
       rw (
         no_escape a p.0,
         no_escape b p.1.0,
@@ -138,8 +173,12 @@ module _ (a b c d : ℕ) (p : AreDigits (a ∷ b ∷ c ∷ d ∷ [])) where
 
   moved_spelled : named (text (codes "r") (codes ".zones.cat.test."))
       ≡ (114 ∷ a ∷ b ∷ c ∷ d ∷ []) ∷ codes "zones" ∷ codes "cat" ∷ codes "test" ∷ []
+  moved_spelled = ap name_or_root moved_reads
+
+  group_reads : name_of_text (text (codes "group.m") (codes ".zones.cat.test."))
+      ≡ Ok (codes "group" ∷ (109 ∷ a ∷ b ∷ c ∷ d ∷ []) ∷ codes "zones" ∷ codes "cat" ∷ codes "test" ∷ [])
   unfolding name_of_text items labels_from with_label wire_of
-  moved_spelled =
+  group_reads =
       rw (
         no_escape a p.0,
         no_escape b p.1.0,
@@ -157,22 +196,7 @@ module _ (a b c d : ℕ) (p : AreDigits (a ∷ b ∷ c ∷ d ∷ [])) where
 
   group_spelled : named (text (codes "group.m") (codes ".zones.cat.test."))
       ≡ codes "group" ∷ (109 ∷ a ∷ b ∷ c ∷ d ∷ []) ∷ codes "zones" ∷ codes "cat" ∷ codes "test" ∷ []
-  unfolding name_of_text items labels_from with_label wire_of
-  group_spelled =
-      rw (
-        no_escape a p.0,
-        no_escape b p.1.0,
-        no_escape c p.1.1.0,
-        no_escape d p.1.1.1.0,
-        no_dot a p.0,
-        no_dot b p.1.0,
-        no_dot c p.1.1.0,
-        no_dot d p.1.1.1.0,
-        lower_digit a p.0,
-        lower_digit b p.1.0,
-        lower_digit c p.1.1.0,
-        lower_digit d p.1.1.1.0,
-      ) refl
+  group_spelled = ap name_or_root group_reads
 
 pub zone_is : (k : ℕ) (f : IsFour (digits k)) → zone k ≡ (122 ∷ f.a ∷ f.b ∷ f.c ∷ f.d ∷ []) ∷ codes "test" ∷ []
 zone_is k f = ap (λ ds. named (codes "z" ++ (ds ++ codes ".test."))) f.are ∙ zone_spelled f.a f.b f.c f.d f.digits
@@ -200,3 +224,52 @@ pub group_is : (k : ℕ) (f : IsFour (digits k)) → named (numbered (codes "gro
     ≡ codes "group" ∷ (109 ∷ f.a ∷ f.b ∷ f.c ∷ f.d ∷ []) ∷ codes "zones" ∷ codes "cat" ∷ codes "test" ∷ []
 group_is k f = ap (λ ds. named (codes "group.m" ++ (ds ++ codes ".zones.cat.test."))) f.are
     ∙ group_spelled f.a f.b f.c f.d f.digits
+
+-- ---- each of these texts is a name
+pub zone_text : (k : ℕ) → 0 < k → k ≤ 1000 → IsSpelled (numbered (codes "z") k (codes ".test."))
+zone_text k some few =
+    let f : IsFour (digits k) = four_digits k some few in (
+      _,
+      ap (λ ds. name_of_text (codes "z" ++ (ds ++ codes ".test."))) f.are
+          ∙ zone_reads f.a f.b f.c f.d f.digits,
+    )
+
+pub www_text : (k : ℕ) → 0 < k → k ≤ 1000 → IsSpelled (numbered (codes "www.z") k (codes ".test."))
+www_text k some few =
+    let f : IsFour (digits k) = four_digits k some few in (
+      _,
+      ap (λ ds. name_of_text (codes "www.z" ++ (ds ++ codes ".test."))) f.are
+          ∙ www_reads f.a f.b f.c f.d f.digits,
+    )
+
+pub mail_text : (k : ℕ) → 0 < k → k ≤ 1000 → IsSpelled (numbered (codes "mail.z") k (codes ".test."))
+mail_text k some few =
+    let f : IsFour (digits k) = four_digits k some few in (
+      _,
+      ap (λ ds. name_of_text (codes "mail.z" ++ (ds ++ codes ".test."))) f.are
+          ∙ mail_reads f.a f.b f.c f.d f.digits,
+    )
+
+pub node_text : (k : ℕ) → 0 < k → k ≤ 1000 → IsSpelled (numbered (codes "m") k (codes ".zones.cat.test."))
+node_text k some few =
+    let f : IsFour (digits k) = four_digits k some few in (
+      _,
+      ap (λ ds. name_of_text (codes "m" ++ (ds ++ codes ".zones.cat.test."))) f.are
+          ∙ node_reads f.a f.b f.c f.d f.digits,
+    )
+
+pub moved_text : (k : ℕ) → 0 < k → k ≤ 1000 → IsSpelled (numbered (codes "r") k (codes ".zones.cat.test."))
+moved_text k some few =
+    let f : IsFour (digits k) = four_digits k some few in (
+      _,
+      ap (λ ds. name_of_text (codes "r" ++ (ds ++ codes ".zones.cat.test."))) f.are
+          ∙ moved_reads f.a f.b f.c f.d f.digits,
+    )
+
+pub group_text : (k : ℕ) → 0 < k → k ≤ 1000 → IsSpelled (numbered (codes "group.m") k (codes ".zones.cat.test."))
+group_text k some few =
+    let f : IsFour (digits k) = four_digits k some few in (
+      _,
+      ap (λ ds. name_of_text (codes "group.m" ++ (ds ++ codes ".zones.cat.test."))) f.are
+          ∙ group_reads f.a f.b f.c f.d f.digits,
+    )

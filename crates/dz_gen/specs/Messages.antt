@@ -55,7 +55,10 @@ part_of id k = response id (question (zone k) TYPE_AXFR ∷ []) (first_records k
 abbrev pub whole_of : ℕ → ℕ → Octets
 whole_of id k = response id (question (zone k) TYPE_AXFR ∷ []) ((first_records k ++ first_digest k) ++ soa (zone k) 1 ∷ [])
 
--- the difference from serial 1 to serial 2 (RFC 1995 section 4)
+-- the records of the difference from serial 1 to serial 2 (RFC 1995 section 4)
+abbrev pub changes : ℕ → List Record
+changes k = ((((soa (zone k) 2 ∷ soa (zone k) 1 ∷ []) ++ first_digest k) ++ soa (zone k) 2 ∷ mail k ∷ []) ++ second_digest k) ++ soa (zone k) 2 ∷ []
+
+-- the message with that difference
 abbrev pub changes_of : ℕ → ℕ → Octets
-changes_of id k = response id (question (zone k) TYPE_IXFR ∷ [])
-    (((((soa (zone k) 2 ∷ soa (zone k) 1 ∷ []) ++ first_digest k) ++ soa (zone k) 2 ∷ mail k ∷ []) ++ second_digest k) ++ soa (zone k) 2 ∷ [])
+changes_of id k = response id (question (zone k) TYPE_IXFR ∷ []) (changes k)

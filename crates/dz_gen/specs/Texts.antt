@@ -1,5 +1,5 @@
 -- Meaning: the names and lines of a generated script.
-use Rattle.std.specs.Prelude.{ℕ, ◌++◌, [], drop, length, codes, decimal, Result, Ok, Err}
+use Rattle.std.specs.Prelude.{◌≡◌, ℕ, ◌++◌, [], drop, length, codes, decimal, Result, Ok, Err}
 use Rattle.hex.specs.Hex.{encode_lower}
 use Rattle.dz_name.specs.Text.{name_of_text}
 use Rattle.dz_name.specs.Words.{Name, Octets}
@@ -21,6 +21,10 @@ name_or_root (Err error) = []
 -- the name that a text spells (RFC 1035 section 5.1)
 abbrev pub named : Octets → Name
 named text = name_or_root (name_of_text text)
+
+-- a text spells a name
+abbrev pub IsSpelled : Octets → Type 0
+IsSpelled text = (name : Name) × (name_of_text text ≡ Ok name)
 
 -- a job is asked for at a moment
 abbrev pub job_line : Octets → Octets

@@ -1,16 +1,22 @@
 //! The records of the zones and of their catalog.
-ghost use Rattle.std.specs.Prelude.{◌≡◌, ◌++◌, IfOk, OnOk};
+ghost use Rattle.std.specs.Prelude.{◌≡◌, ◌≤◌, ◌++◌, false, true, IfOk, OnOk, None, codes};
 ghost use Rattle.sha2.specs.Sha512.{sha384};
+ghost use Rattle.dz_record.specs.Fields.{is_rdata};
+ghost use Rattle.dz_record.specs.Record.{is_bad_type};
+ghost use Rattle.dz_record.specs.Records.{distinct};
+ghost use Rattle.dz_zone.specs.Valid.{fault_of};
 ghost use Rattle.dz_zone.specs.Version.{zone_of};
 ghost use Rattle.dz_zonemd.specs.Digested.{digested};
+ghost use Rattle.dz_gen.specs.Texts.{IsSpelled, numbered as spelled};
 ghost use Rattle.dz_gen.specs.Records.{hourly, times, soa, catalog, version_property, zone, node, group, is_strict, name_server, address, www, mail, first_records, second_records, digest};
 
+use crate::script::ZONES;
 use crate::texts::{named, numbered};
+use dz_name::Name;
 use dz_name::dns::{TYPE_A, TYPE_NS, TYPE_PTR, TYPE_SOA, TYPE_TXT, TYPE_ZONEMD};
 use dz_name::numbers::{four, two};
-use dz_name::{Name, Octets};
 use dz_record::Rr;
-use dz_zone::check;
+use dz_zone::{ZoneError, check};
 use dz_zonemd::zone_digest;
 use sha2::Sha384;
 use std::alloc::{AllocError, Global};
@@ -18,20 +24,18 @@ use std::alloc::{AllocError, Global};
 /// The TTL of most records, in seconds.
 const HOUR: u32 = 3600;
 
-/// A record with a TTL of an hour. Each that is asked for here can be made; should one not, the error is that memory
-/// ran out.
+/// A record with a TTL of an hour.
 pub(crate) fn hourly(
     alloc: Global,
     owner: Name,
     kind: u16,
     rdata: Vec<u8>,
 ) -> Result<Rr, AllocError>
+    requires kind { is_bad_type kind ≡ false }
+    requires rdata { is_rdata kind rdata.items ≡ true }
     ensures { IfOk result (λ r. r ≡ hourly owner kind rdata.items) }
 {
-    match Rr::make(alloc, owner, kind, HOUR, Octets::from_vec(rdata)) {
-        Ok(record) => Ok(record),
-        Err(_) => Err(AllocError),
-    }
+    Rr::from_parts(alloc, &owner, kind, HOUR, rdata.as_slice())
 }
 
 /// The SOA record of an apex.
@@ -39,8 +43,8 @@ pub(crate) fn soa(alloc: Global, apex: &Name, serial: u32) -> Result<Rr, AllocEr
     ensures { IfOk result (λ r. r ≡ soa apex.now serial) }
 {
     let mut rdata = Vec::new(alloc);
-    rdata.extend_from_slice(named(b"ns.invalid.")?.wire())?;
-    rdata.extend_from_slice(named(b"host.invalid.")?.wire())?;
+    rdata.extend_from_slice(named(b"ns.invalid.").wire())?;
+    rdata.extend_from_slice(named(b"host.invalid.").wire())?;
     rdata.extend_from_slice(&four(serial))?;
     put_times(&mut rdata)?;
     hourly(alloc, *apex, TYPE_SOA, rdata)
@@ -57,8 +61,8 @@ fn put_times(rdata: &mut Vec<u8>) -> Result<(), AllocError>
 }
 
 /// The name of the catalog.
-pub(crate) fn catalog() -> Result<Name, AllocError>
-    ensures { IfOk result (λ name. name ≡ catalog) }
+pub(crate) fn catalog() -> Name
+    ensures { result ≡ catalog }
 {
     named(b"cat.test.")
 }
@@ -67,42 +71,46 @@ pub(crate) fn catalog() -> Result<Name, AllocError>
 pub(crate) fn version_property(alloc: Global) -> Result<Rr, AllocError>
     ensures { IfOk result (λ r. r ≡ version_property) }
 {
-    let owner = named(b"version.cat.test.")?;
-    let text = b"\x012".to_vec(alloc)?;
-    match Rr::make(alloc, owner, TYPE_TXT, 0, Octets::from_vec(text)) {
-        Ok(record) => Ok(record),
-        Err(_) => Err(AllocError),
-    }
+    Rr::from_parts(alloc, &named(b"version.cat.test."), TYPE_TXT, 0, b"\x012")
 }
 
 /// The name of a zone.
 pub(crate) fn zone(alloc: Global, k: u16) -> Result<Name, AllocError>
+    requires some { 1 ≤ k }
+    requires few { k ≤ ZONES }
     ensures { IfOk result (λ name. name ≡ zone k) }
 {
-    named(numbered(alloc, b"z", k, b".test.")?.as_slice())
+    Ok(named(numbered(alloc, b"z", k, b".test.")?.as_slice()))
 }
 
 /// The name that each zone has an address for.
 pub(crate) fn www(alloc: Global, k: u16) -> Result<Name, AllocError>
+    requires some { 1 ≤ k }
+    requires few { k ≤ ZONES }
     ensures { IfOk result (λ name. name ≡ www k) }
 {
-    named(numbered(alloc, b"www.z", k, b".test.")?.as_slice())
+    Ok(named(numbered(alloc, b"www.z", k, b".test.")?.as_slice()))
 }
 
 /// A zone's member node, whose label is this letter and the number.
 pub(crate) fn node(alloc: Global, letter: &[u8], k: u16) -> Result<Rr, AllocError>
+    requires some { 1 ≤ k }
+    requires few { k ≤ ZONES }
+    requires owner { IsSpelled (spelled letter.now k (codes ".zones.cat.test.")) }
     ensures { IfOk result (λ r. r ≡ node letter.now k) }
 {
-    let owner = named(numbered(alloc, letter, k, b".zones.cat.test.")?.as_slice())?;
+    let owner = named(numbered(alloc, letter, k, b".zones.cat.test.")?.as_slice());
     let rdata = zone(alloc, k)?.wire().to_vec(alloc)?;
     hourly(alloc, owner, TYPE_PTR, rdata)
 }
 
 /// The group of a zone's member node.
 pub(crate) fn group(alloc: Global, k: u16) -> Result<Rr, AllocError>
+    requires some { 1 ≤ k }
+    requires few { k ≤ ZONES }
     ensures { IfOk result (λ r. r ≡ group k) }
 {
-    let owner = named(numbered(alloc, b"group.m", k, b".zones.cat.test.")?.as_slice())?;
+    let owner = named(numbered(alloc, b"group.m", k, b".zones.cat.test.")?.as_slice());
     hourly(alloc, owner, TYPE_TXT, b"\x06strict".to_vec(alloc)?)
 }
 
@@ -115,9 +123,11 @@ pub(crate) fn is_strict(k: u16) -> bool
 
 /// The NS record of a zone.
 fn name_server(alloc: Global, k: u16) -> Result<Rr, AllocError>
+    requires some { 1 ≤ k }
+    requires few { k ≤ ZONES }
     ensures { IfOk result (λ r. r ≡ name_server k) }
 {
-    let rdata = named(b"ns.invalid.")?.wire().to_vec(alloc)?;
+    let rdata = named(b"ns.invalid.").wire().to_vec(alloc)?;
     hourly(alloc, zone(alloc, k)?, TYPE_NS, rdata)
 }
 
@@ -132,14 +142,18 @@ fn address(alloc: Global, owner: Name, second: u8, k: u16) -> Result<Rr, AllocEr
 
 /// The address that comes with serial 2.
 pub(crate) fn mail(alloc: Global, k: u16) -> Result<Rr, AllocError>
+    requires some { 1 ≤ k }
+    requires few { k ≤ ZONES }
     ensures { IfOk result (λ r. r ≡ mail k) }
 {
-    let owner = named(numbered(alloc, b"mail.z", k, b".test.")?.as_slice())?;
+    let owner = named(numbered(alloc, b"mail.z", k, b".test.")?.as_slice());
     address(alloc, owner, 1, k)
 }
 
 /// The records of serial 1, without a digest.
 pub(crate) fn first_records(alloc: Global, k: u16) -> Result<Vec<Rr>, AllocError>
+    requires some { 1 ≤ k }
+    requires few { k ≤ ZONES }
     ensures { IfOk result (λ records. records.items ≡ first_records k) }
 {
     let apex = zone(alloc, k)?;
@@ -152,6 +166,8 @@ pub(crate) fn first_records(alloc: Global, k: u16) -> Result<Vec<Rr>, AllocError
 
 /// The records of serial 2, without a digest.
 fn second_records(alloc: Global, k: u16) -> Result<Vec<Rr>, AllocError>
+    requires some { 1 ≤ k }
+    requires few { k ≤ ZONES }
     ensures { IfOk result (λ records. records.items ≡ second_records k) }
 {
     let apex = zone(alloc, k)?;
@@ -165,6 +181,7 @@ fn second_records(alloc: Global, k: u16) -> Result<Vec<Rr>, AllocError>
 
 /// The ZONEMD record of the version that records make, with a serial.
 fn digest(alloc: Global, apex: &Name, serial: u32, records: Vec<Rr>) -> Result<Rr, AllocError>
+    requires { fault_of apex.now (distinct records.items) ≡ None }
     ensures { IfOk result (λ r. r ≡ digest apex.now serial records.items) }
 {
     let mut rdata = four(serial).to_vec(alloc)?;
@@ -173,13 +190,14 @@ fn digest(alloc: Global, apex: &Name, serial: u32, records: Vec<Rr>) -> Result<R
     hourly(alloc, *apex, TYPE_ZONEMD, rdata)
 }
 
-/// Puts the SHA-384 of the version that records make. They make one; should they not, the error is that memory ran out.
+/// Puts the SHA-384 of the version that records make.
 fn put_digest(
     alloc: Global,
     apex: &Name,
     records: Vec<Rr>,
     rdata: &mut Vec<u8>,
 ) -> Result<(), AllocError>
+    requires { fault_of apex.now (distinct records.items) ≡ None }
     ensures { OnOk result (rdata.new.items ≡ rdata.old.items
         ++ sha384 (digested apex.now (zone_of apex.now records.items).records)) }
 {
@@ -187,12 +205,15 @@ fn put_digest(
         Ok(version) => {
             rdata.extend_from_slice(zone_digest::<Sha384>(apex, version.records()).as_slice())
         }
-        Err(_) => Err(AllocError),
+        Err(ZoneError::OutOfMemory) => Err(AllocError),
+        Err(ZoneError::Fault(_)) => unreachable!(),
     }
 }
 
 /// The digest of a zone with serial 1.
 pub(crate) fn first_digest(alloc: Global, k: u16) -> Result<Rr, AllocError>
+    requires some { 1 ≤ k }
+    requires few { k ≤ ZONES }
     ensures { IfOk result (λ r. r ≡ digest (zone k) 1 (first_records k)) }
 {
     digest(alloc, &zone(alloc, k)?, 1, first_records(alloc, k)?)
@@ -200,6 +221,8 @@ pub(crate) fn first_digest(alloc: Global, k: u16) -> Result<Rr, AllocError>
 
 /// The digest of a zone with serial 2.
 pub(crate) fn second_digest(alloc: Global, k: u16) -> Result<Rr, AllocError>
+    requires some { 1 ≤ k }
+    requires few { k ≤ ZONES }
     ensures { IfOk result (λ r. r ≡ digest (zone k) 2 (second_records k)) }
 {
     digest(alloc, &zone(alloc, k)?, 2, second_records(alloc, k)?)

@@ -34,7 +34,7 @@ pub fn generate(alloc: Global, number: u16) -> Result<Octets, AllocError>
 }
 
 /// The settings and all transfers.
-#[tactic(auto, using(crate::proofs::Bounds::range_all, crate::proofs::Bounds::kept_all))]
+#[tactic(auto, using(crate::proofs::Bounds::range_all, crate::proofs::Bounds::kept_all, crate::proofs::Bounds::range_some, crate::proofs::Bounds::kept_some))]
 fn transfers(alloc: Global, number: u16) -> Result<Vec<u8>, AllocError>
     requires { number ≤ ZONES }
     ensures { IfOk result (λ text. text.items ≡ transfers number) }
@@ -61,7 +61,7 @@ fn questions(alloc: Global, number: u16) -> Result<Vec<u8>, AllocError>
         alloc,
         &mut out,
         b"1150",
-        query(alloc, 0, &named(b"other.")?)?.as_slice(),
+        query(alloc, 0, &named(b"other."))?.as_slice(),
     )?;
     put_queries(alloc, b"1700", &numbers, &mut out)?;
     Ok(out)
@@ -99,6 +99,8 @@ fn changed(alloc: Global, numbers: &[u16]) -> Result<Vec<u16>, AllocError>
 
 /// The settings, and the catalog's transfer.
 fn put_catalog(alloc: Global, numbers: &[u16], out: &mut Vec<u8>) -> Result<(), AllocError>
+    requires some { All (λ k. 1 ≤ k) numbers.now }
+    requires few { All (λ k. k ≤ ZONES) numbers.now }
     ensures { OnOk result (out.new.items
         ≡ out.old.items ++ (settings ++ catalog_text numbers.now)) }
 {
@@ -111,6 +113,8 @@ fn put_catalog(alloc: Global, numbers: &[u16], out: &mut Vec<u8>) -> Result<(), 
 
 /// The messages with the zones' member nodes.
 fn put_members(alloc: Global, numbers: &[u16], octets: &mut Vec<u8>) -> Result<(), AllocError>
+    requires some { All (λ k. 1 ≤ k) numbers.now }
+    requires few { All (λ k. k ≤ ZONES) numbers.now }
     ensures { OnOk result (octets.new.items
         ≡ octets.old.items ++ flat_map catalog_member numbers.now) }
 {
@@ -122,7 +126,8 @@ fn put_members(alloc: Global, numbers: &[u16], octets: &mut Vec<u8>) -> Result<(
 
 /// The first transfers of all zones.
 fn put_first(alloc: Global, numbers: &[u16], out: &mut Vec<u8>) -> Result<(), AllocError>
-    requires zones { All (λ k. k ≤ ZONES) numbers.now }
+    requires some { All (λ k. 1 ≤ k) numbers.now }
+    requires few { All (λ k. k ≤ ZONES) numbers.now }
     ensures { OnOk result (out.new.items ≡ out.old.items ++ flat_map first_transfer numbers.now) }
 {
     'zones: for k in numbers {
@@ -133,7 +138,8 @@ fn put_first(alloc: Global, numbers: &[u16], out: &mut Vec<u8>) -> Result<(), Al
 
 /// The first transfer of a zone.
 fn put_first_of(alloc: Global, k: u16, out: &mut Vec<u8>) -> Result<(), AllocError>
-    requires zone { k ≤ ZONES }
+    requires some { 1 ≤ k }
+    requires few { k ≤ ZONES }
     ensures { OnOk result (out.new.items ≡ out.old.items ++ first_transfer k) }
 {
     let ticket = k + 1;
@@ -148,7 +154,8 @@ fn put_first_of(alloc: Global, k: u16, out: &mut Vec<u8>) -> Result<(), AllocErr
 /// The transfers of each tenth zone, which broke off.
 fn put_next(alloc: Global, number: u16, tenths: &[u16], out: &mut Vec<u8>) -> Result<(), AllocError>
     requires number { number ≤ ZONES }
-    requires zones { All (λ k. k ≤ ZONES) tenths.now }
+    requires some { All (λ k. 1 ≤ k) tenths.now }
+    requires few { All (λ k. k ≤ ZONES) tenths.now }
     ensures { OnOk result (out.new.items
         ≡ out.old.items ++ flat_map (next_transfer number) tenths.now) }
 {
@@ -184,7 +191,8 @@ fn put_changes(
     out: &mut Vec<u8>,
 ) -> Result<(), AllocError>
     requires number { number ≤ ZONES }
-    requires zones { All (λ k. k ≤ ZONES) changed.now }
+    requires some { All (λ k. 1 ≤ k) changed.now }
+    requires few { All (λ k. k ≤ ZONES) changed.now }
     ensures { OnOk result (out.new.items
         ≡ out.old.items ++ flat_map (change_transfer number) changed.now) }
 {
@@ -202,6 +210,8 @@ fn put_queries(
     numbers: &[u16],
     out: &mut Vec<u8>,
 ) -> Result<(), AllocError>
+    requires some { All (λ k. 1 ≤ k) numbers.now }
+    requires few { All (λ k. k ≤ ZONES) numbers.now }
     ensures { OnOk result (out.new.items
         ≡ out.old.items ++ flat_map (asked moment.now) numbers.now) }
 {
@@ -213,6 +223,8 @@ fn put_queries(
 
 /// The question for a zone at a moment.
 fn put_query(alloc: Global, moment: &[u8], k: u16, out: &mut Vec<u8>) -> Result<(), AllocError>
+    requires some { 1 ≤ k }
+    requires few { k ≤ ZONES }
     ensures { OnOk result (out.new.items ≡ out.old.items ++ asked moment.now k) }
 {
     let octets = query(alloc, k, &www(alloc, k)?)?;

@@ -1,6 +1,6 @@
 //! Names and lines.
 ghost use Rattle.std.specs.Prelude.{◌≡◌, ◌++◌, IfOk, OnOk, drop, codes};
-ghost use Rattle.dz_gen.specs.Texts.{numbered, named, take_line, transfer, ask_line};
+ghost use Rattle.dz_gen.specs.Texts.{numbered, named, IsSpelled, take_line, transfer, ask_line};
 
 use dz_name::Name;
 use itoa::Buffer;
@@ -32,13 +32,14 @@ fn zeros_before(count: usize) -> &'static [u8]
     zeros.get(count..).unwrap_or(&[])
 }
 
-/// The name that a text spells. Each text here is a name; should one not be, the error is that memory ran out.
-pub(crate) fn named(text: &[u8]) -> Result<Name, AllocError>
-    ensures { IfOk result (λ name. name ≡ named text.now) }
+/// The name that a text spells.
+pub(crate) fn named(text: &[u8]) -> Name
+    requires { IsSpelled text.now }
+    ensures { result ≡ named text.now }
 {
     match Name::parse(text) {
-        Ok(name) => Ok(name),
-        Err(_) => Err(AllocError),
+        Ok(name) => name,
+        Err(_) => unreachable!(),
     }
 }
 

@@ -11,3 +11,5 @@ pub mod StepLemmas
 pub mod TakingLemmas
 pub mod RehearseLemmas
 pub mod LeadLemmas
+pub mod GoingLemmas
+pub mod RehearsalLemmas

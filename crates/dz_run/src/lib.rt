@@ -6,6 +6,7 @@ mod answering;
 mod commands;
 mod ends;
 mod events;
+mod laws;
 mod opening;
 mod rehearse;
 mod replaying;

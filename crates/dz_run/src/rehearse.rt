@@ -28,8 +28,7 @@ pub(crate) fn rehearse<R: Wait, K: Sink>(
     requires number { number ≤ ZONES }
     requires desk { IsNewDesk desk.publisher desk.readings.items }
     ensures rehearses { Rehearses number result.status (K.held output) (K.held result.output) }
-    ensures ended { result.status ≢ Status.NoMemory
-        → (said_of replay_rules (opening []) (script number)).ending ≡ End.Done }
+    ensures ended { (said_of replay_rules (opening []) (script number)).ending ≡ End.Done }
     ensures published { result.status ≢ Status.NoMemory
         → result.desk.publisher.list ≡ list_of_script (script number) }
     ensures begins { IsPrefix result.desk.publisher.list (list_of_script (script number)) }
@@ -56,6 +55,9 @@ pub(crate) fn rehearse<R: Wait, K: Sink>(
     let mut output = output;
     let status = match status {
         Status::Done => tell(alloc, sink.written(), &mut output),
+        // no line of the script is bad
+        Status::BadInput => unreachable!(),
+        // the source and the sink are in memory
         _ => Status::NoMemory,
     };
     Ended {
