@@ -63,5 +63,6 @@ unfolding distinct
 behind_the_end = refl
 
 -- the first record that doesn't fit decides
-pub gap_before_the_end : reading_of apex (soa ∷ record_of TYPE_SOA apex (8 ∷ []) ∷ soa ∷ address ∷ []) ≡ misfit SerialGap
+pub gap_before_the_end : reading_of apex (soa ∷ record_of TYPE_SOA apex (8 ∷ []) ∷ soa ∷ address ∷ [])
+    ≡ misfit SerialGap
 gap_before_the_end = refl

@@ -12,4 +12,5 @@ ReadingStands = (apex : Name) (records : List Record) → Stands (IsWhole apex) 
 
 -- what holds of a list is what the reading says
 abbrev pub NothingElse : Type 0
-NothingElse = (apex : Name) (records : List Record) (reading : Reading) → Stands (IsWhole apex) Blames records reading → reading ≡ reading_of apex records
+NothingElse = (apex : Name) (records : List Record) (reading : Reading) → Stands (IsWhole apex) Blames records reading
+    → reading ≡ reading_of apex records

@@ -19,7 +19,8 @@ pub data Amid : Type 0 where
 abbrev pub one : Name → Amid → Record → Place Amid
 one apex nothing r = if is_apex_soa apex r then amid (opened r []) else failed NotSoaFirst
 one apex (opened first body) r =
-    if is_apex_soa apex r then (if bytes_eq r.rdata first.rdata then ended (distinct (first ∷ body)) else failed SerialGap)
+    if is_apex_soa apex r
+    then (if bytes_eq r.rdata first.rdata then ended (distinct (first ∷ body)) else failed SerialGap)
     else amid (opened first (body ++ r ∷ []))
 
 -- the place after these records

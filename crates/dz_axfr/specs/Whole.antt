@@ -8,8 +8,8 @@ use Rattle.dz_xfr.specs.declared.fault.ShapeFault.{ShapeFault}
 use Rattle.dz_xfr.specs.declared.fault.ShapeFault.TheVariants.{NotSoaFirst, SerialGap}
 use Rattle.dz_xfr.specs.Apex.{is_apex_soa}
 
--- an SOA of the apex, a body without one, and an SOA of the apex with the first one's RDATA. The zone has the first SOA
--- and the body; of records that are the same the first is kept (RFC 2181 section 5)
+-- an SOA of the apex, a body without one, and an SOA of the apex with the first one's RDATA. The zone has the first
+-- SOA and the body; of records that are the same the first is kept (RFC 2181 section 5)
 pub record IsWhole (apex : Name) (records zone : List Record) : Type 0 where
   pub first : Record
   pub body : List Record

@@ -18,7 +18,8 @@ use Rattle.dz_member.specs.declared.listing.Node.{Node}
 use Rattle.dz_catalog.specs.Broken.{is_version, twins, version_2, broken_records}
 use Rattle.dz_catalog.specs.Listing.{listing_of}
 use Rattle.dz_catalog.proofs.TwinLemmas.{one_owner}
-use Rattle.dz_catalog.specs.Member.{is_node, is_coo, is_member, node_of, nodes_of, coo_of, groups_of, coo_name, group_name}
+use Rattle.dz_catalog.specs.Member.{is_node, is_coo, is_member, node_of, nodes_of, coo_of, groups_of, coo_name}
+use Rattle.dz_catalog.specs.Member.{group_name}
 
 two_filters : {X : Type 0} (p q : X → Bool) (xs : List X) → filter p (filter q xs) ≡ filter q (filter p xs)
 two_filters p q [] = refl
@@ -35,18 +36,22 @@ two_filters p q (x ∷ xs) =
     ]
 
 -- a filter of records in order is in order
-filter_puts : (p : Record → Bool) (rs : List Record) → puts before (filter p (puts before rs)) ≡ puts before (filter p rs)
+filter_puts : (p : Record → Bool) (rs : List Record)
+    → puts before (filter p (puts before rs)) ≡ puts before (filter p rs)
 filter_puts p rs =
-    alike before before_ranks (puts before (filter p (puts before rs))) (puts before (filter p rs)) (ascends_puts before before_ranks (filter p (puts before rs))) (ascends_puts before before_ranks (filter p rs))
+    alike before before_ranks (puts before (filter p (puts before rs))) (puts before (filter p rs))
+    (ascends_puts before before_ranks (filter p (puts before rs))) (ascends_puts before before_ranks (filter p rs))
     (λ z.
     puts_keep before before_ranks z (filter p (puts before rs))
     ∙ (two_filters (ties before z) p (puts before rs)
-    ∙ (ap (filter p) (puts_keep before before_ranks z rs) ∙ (two_filters p (ties before z) rs ∙ sym (puts_keep before before_ranks z (filter p rs))))))
+    ∙ (ap (filter p) (puts_keep before before_ranks z rs)
+    ∙ (two_filters p (ties before z) rs ∙ sym (puts_keep before before_ranks z (filter p rs))))))
 
 owned_order : (rs : List Record) (name : List (List ℕ)) → records_of (in_order rs) name ≡ records_of rs name
 owned_order rs name =
     let p = λ (r : Record). same_name r.owner name in
-    in_order_puts (filter p (in_order rs)) ∙ (ap (λ xs. puts before (filter p xs)) (in_order_puts rs) ∙ (filter_puts p rs ∙ sym (in_order_puts (filter p rs))))
+    in_order_puts (filter p (in_order rs)) ∙ (ap (λ xs. puts before (filter p xs)) (in_order_puts rs)
+    ∙ (filter_puts p rs ∙ sym (in_order_puts (filter p rs))))
 
 all_pass : (xs : List Record) → filter (λ _. true) xs ≡ xs
 all_pass [] = refl
@@ -56,7 +61,8 @@ order_twice : (rs : List Record) → in_order (in_order rs) ≡ in_order rs
 order_twice rs =
     in_order_puts (in_order rs)
     ∙ (ap (puts before) (in_order_puts rs)
-    ∙ (ap (puts before) (sym (all_pass (puts before rs))) ∙ (filter_puts (λ _. true) rs ∙ (ap (puts before) (all_pass rs) ∙ sym (in_order_puts rs)))))
+    ∙ (ap (puts before) (sym (all_pass (puts before rs)))
+    ∙ (filter_puts (λ _. true) rs ∙ (ap (puts before) (all_pass rs) ∙ sym (in_order_puts rs)))))
 
 and_no : (a b : Bool) → (a && false) ≡ (b && false)
 and_no true true = refl
@@ -92,22 +98,29 @@ broken_order apex rs =
 abbrev with : List (List ℕ) → Record → Option (List (List ℕ)) → List (List ℕ) → Option Node
 with apex r coo groups =
     if is_member apex r
-    then option_and_then (λ label. option_map (λ zone. record { label = label; zone = zone; coo = coo; groups = groups }) (target_of r)) (first_label r.owner)
+    then option_and_then
+    (λ label. option_map (λ zone. record { label = label; zone = zone; coo = coo; groups = groups }) (target_of r))
+    (first_label r.owner)
     else None
 
 node_order : (apex : List (List ℕ)) (rs : List Record) (r : Record) → node_of apex (in_order rs) r ≡ node_of apex rs r
 unfolding node_of
 node_order apex rs r =
-    let coo : coo_of (in_order rs) r.owner ≡ coo_of rs r.owner = ap (λ (xs : List Record). option_and_then target_of (slice_get (of_type 12 xs) 0)) (owned_order rs (coo_name r.owner)) in
-    let groups : groups_of (in_order rs) r.owner ≡ groups_of rs r.owner = ap (λ (xs : List Record). map (λ (s : Record). s.rdata) (of_type 16 xs)) (owned_order rs (group_name r.owner)) in
+    let coo : coo_of (in_order rs) r.owner ≡ coo_of rs r.owner =
+    ap (λ (xs : List Record). option_and_then target_of (slice_get (of_type 12 xs) 0))
+    (owned_order rs (coo_name r.owner)) in
+    let groups : groups_of (in_order rs) r.owner ≡ groups_of rs r.owner = ap
+    (λ (xs : List Record). map (λ (s : Record). s.rdata) (of_type 16 xs)) (owned_order rs (group_name r.owner)) in
     ap (λ c. with apex r c (groups_of (in_order rs) r.owner)) coo ∙ ap (λ g. with apex r (coo_of rs r.owner) g) groups
 
 nodes_order : (apex : List (List ℕ)) (rs : List Record) → nodes_of apex (in_order rs) ≡ nodes_of apex rs
 nodes_order apex rs =
-    ap (λ f. filter_map f (in_order (in_order rs))) (λ i r. node_order apex rs r i) ∙ ap (filter_map (node_of apex rs)) (order_twice rs)
+    ap (λ f. filter_map f (in_order (in_order rs))) (λ i r. node_order apex rs r i)
+    ∙ ap (filter_map (node_of apex rs)) (order_twice rs)
 
 listing_order : (apex : List (List ℕ)) (rs : List Record) → listing_of apex (in_order rs) ≡ listing_of apex rs
 listing_order apex rs = rw (broken_order apex rs, nodes_order apex rs) refl
 
-pub order_is_free : (apex : List (List ℕ)) (rs ss : List Record) → in_order rs ≡ in_order ss → listing_of apex rs ≡ listing_of apex ss
+pub order_is_free : (apex : List (List ℕ)) (rs ss : List Record) → in_order rs ≡ in_order ss
+    → listing_of apex rs ≡ listing_of apex ss
 order_is_free apex rs ss e = sym (listing_order apex rs) ∙ (ap (listing_of apex) e ∙ listing_order apex ss)

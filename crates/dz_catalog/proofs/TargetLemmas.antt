@@ -1,5 +1,6 @@
 -- The RDATA of a record that leads to a name is the name's wire form.
-use Rattle.std.proofs.Common.{◌≡◌, ℕ, List, [], ◌∷◌, ◌++◌, length, drop, refl, ◌∙◌, ap, arith, Some, None, true, false, inl, inr, append-nil}
+use Rattle.std.proofs.Common.{◌≡◌, ℕ, List, [], ◌∷◌, ◌++◌, length, drop, refl, ◌∙◌, ap, arith, Some, None, true, false}
+use Rattle.std.proofs.Common.{inl, inr, append-nil}
 use Rattle.std.specs.Prelude.{◌==◌}
 use Rattle.std.specs.Option.{option_map_or}
 use Rattle.std.proofs.lemmas.Bool.{eqb-true}
@@ -17,13 +18,15 @@ use Rattle.dz_record.proofs.FieldLemmas.{fits_record}
 one_name : (rdata : List ℕ) → fits (DomainName ∷ []) rdata 0 ≡ true → IsWire rdata
 unfolding fits field_end
 one_name rdata h =
-    elim (canonical_end rdata 0) as (λ e. canonical_end rdata 0 ≡ e → option_map_or (λ end. end == length rdata) e false ≡ true → IsWire rdata) [
+    elim (canonical_end rdata 0) as (λ e. canonical_end rdata 0 ≡ e
+    → option_map_or (λ end. end == length rdata) e false ≡ true → IsWire rdata) [
       | None ↦ λ p q. absurd (cc)
       | Some end ↦ λ p q.
           let found = canonical_end_found rdata 0 end p in
           let last : end ≡ length rdata = eqb-true end (length rdata) q in
           let none : drop end rdata ≡ [] = drop_all end rdata (omega (arith, last)) in
-          is_wire found.0 rdata found.1.name (drop_between rdata 0 end found.0 found.1 ∙ (ap (λ xs. wire_of found.0 ++ xs) none ∙ append-nil (wire_of found.0)))
+          is_wire found.0 rdata found.1.name (drop_between rdata 0 end found.0 found.1
+          ∙ (ap (λ xs. wire_of found.0 ++ xs) none ∙ append-nil (wire_of found.0)))
     ] refl h
 
 target_fields : (kind : ℕ) → has_target kind ≡ true → fields_of kind ≡ DomainName ∷ []
@@ -35,7 +38,11 @@ target_fields kind h =
         | inl w ↦ rw w.1 refl
         | inr b ↦ elim (eqb_tells kind 12) [
           | inl w ↦ rw w.1 refl
-          | inr c ↦ elim (eqb_tells kind 39) [ inl w ↦ rw w.1 refl | inr d ↦ let q = rw (a.0, b.0, c.0, d.0) at h in absurd (cc) ]
+          | inr c ↦ elim (eqb_tells kind 39) [
+            | inl w ↦ rw w.1 refl
+            | inr d ↦
+                let q = rw (a.0, b.0, c.0, d.0) at h in absurd (cc)
+          ]
         ]
       ]
     ]

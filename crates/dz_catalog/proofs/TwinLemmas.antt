@@ -21,7 +21,8 @@ pub one_owner : (x y : Record) → both_are 12 x y ≡ true → x.owner ≡ y.ow
 unfolding both_are
 one_owner x y t = (same_decides x.owner y.owner).0 (and_parts (same_name x.owner y.owner) _ t).0
 
-twins_gap : (test : List (List ℕ) → Bool) (x y z : Record) → true ≡ true → before y x ≡ false → before z y ≡ false → twins test x z ≡ true → (twins test x y || twins test y z) ≡ true
+twins_gap : (test : List (List ℕ) → Bool) (x y z : Record) → true ≡ true → before y x ≡ false → before z y ≡ false
+    → twins test x z ≡ true → (twins test x y || twins test y z) ≡ true
 unfolding twins
 twins_gap test x y z k a b t =
     let p = and_parts (test x.owner) (both_are 12 x z) t in
@@ -33,18 +34,21 @@ twins_gap test x y z k a b t =
           or_right (test x.owner && both_are 12 x y) (test y.owner && both_are 12 y z) (rw (q, u) refl)
     ]
 
-pub twins_walk : (test : List (List ℕ) → Bool) (rs : List Record) (r : Bool) → IsStrictlySortedBy record_order rs → IsAllAdjacentAnswer (λ a b c. c ≡ not (twins test a b)) rs r → not r ≡ some_two (twins test) rs
+pub twins_walk : (test : List (List ℕ) → Bool) (rs : List Record) (r : Bool) → IsStrictlySortedBy record_order rs
+    → IsAllAdjacentAnswer (λ a b c. c ≡ not (twins test a b)) rs r → not r ≡ some_two (twins test) rs
 twins_walk test rs r up h =
     adjacent_answer (λ a b. not (twins test a b)) rs r h
     ∙ (ap (λ t. neighbours t rs) (λ i a b. not_not (twins test a b) i)
     ∙ sym (two_neighbours before (twins test) (λ _. true) (twins_gap test) rs (each_true rs) (rising_ascends rs up)))
 
 -- where no owner has two PTR records, none that passes a test has
-pub pairs_walk : (rs : List Record) (r : Bool) → IsStrictlySortedBy record_order rs → IsAllAdjacentAnswer (λ a b c. c ≡ not (both_are 12 a b)) rs r → not r ≡ some_two (both_are 12) rs
+pub pairs_walk : (rs : List Record) (r : Bool) → IsStrictlySortedBy record_order rs
+    → IsAllAdjacentAnswer (λ a b c. c ≡ not (both_are 12 a b)) rs r → not r ≡ some_two (both_are 12) rs
 unfolding twins
 pairs_walk rs r up h = twins_walk (λ _. true) rs r up h
 
-none_any : {X : Type 0} (p q : X → Bool) → ((y : X) → q y ≡ false → p y ≡ false) → (xs : List X) → list_any q xs ≡ false → list_any p xs ≡ false
+none_any : {X : Type 0} (p q : X → Bool) → ((y : X) → q y ≡ false → p y ≡ false) → (xs : List X)
+    → list_any q xs ≡ false → list_any p xs ≡ false
 none_any p q w [] e = refl
 none_any p q w (x ∷ xs) e =
     elim (cases_Bool (q x)) [
@@ -59,7 +63,8 @@ no_twins test x y e = elim (cases_Bool (test x.owner)) [
   | inr f ↦ rw f refl
 ]
 
-pub none_twin : (test : List (List ℕ) → Bool) (rs : List Record) → some_two (both_are 12) rs ≡ false → some_two (twins test) rs ≡ false
+pub none_twin : (test : List (List ℕ) → Bool) (rs : List Record) → some_two (both_are 12) rs ≡ false
+    → some_two (twins test) rs ≡ false
 unfolding some_two
 none_twin test [] e = refl
 none_twin test (x ∷ xs) e =

@@ -1,5 +1,6 @@
 -- The records of a catalog's version.
-use Rattle.std.proofs.Common.{◌≡◌, ℕ, ◌+◌, ◌≤◌, Bool, false, not, List, [], ◌∷◌, length, refl, sym, ◌∙◌, ap, subst, arith, inl, inr, suc}
+use Rattle.std.proofs.Common.{◌≡◌, ℕ, ◌+◌, ◌≤◌, Bool, false, not, List, [], ◌∷◌, length, refl, sym, ◌∙◌, ap, subst}
+use Rattle.std.proofs.Common.{arith, inl, inr, suc}
 use Rattle.std.specs.Prelude.{filter, ◌==◌, ◌&&◌, ◌||◌}
 use Rattle.std.specs.List.{All, list_any}
 use Rattle.std.specs.List.Sorted.{IsStrictlySortedBy}
@@ -19,7 +20,8 @@ use Rattle.dz_catalog.specs.inner.Below.{is_at}
 no_length : (xs : List Record) → (suc (length xs) == 0) ≡ false
 no_length xs = grind (arith, nat_tests)
 
-pub nothing_kept : (p : Record → Bool) (xs ys : List Record) → filter p xs ≡ ys → (length ys == 0) ≡ not (list_any p xs)
+pub nothing_kept : (p : Record → Bool) (xs ys : List Record) → filter p xs ≡ ys
+    → (length ys == 0) ≡ not (list_any p xs)
 nothing_kept p [] ys e = rw (← e) refl
 nothing_kept p (x ∷ xs) ys e =
     elim (cases_Bool (p x)) [
@@ -29,10 +31,12 @@ nothing_kept p (x ∷ xs) ys e =
 
 pub other_kept : (p q : Record → Bool) (xs : List Record) → list_any q (filter p xs) ≡ list_any (λ r. p r && q r) xs
 other_kept p q [] = refl
-other_kept p q (x ∷ xs) = elim (cases_Bool (p x)) [ inl t ↦ rw t (ap (λ b. q x || b) (other_kept p q xs)) | inr f ↦ rw f (other_kept p q xs) ]
+other_kept p q (x ∷ xs) = elim (cases_Bool (p x))
+    [ inl t ↦ rw t (ap (λ b. q x || b) (other_kept p q xs)) | inr f ↦ rw f (other_kept p q xs) ]
 
 -- they are one RRset
-pub kept_rrset : (apex : List (List ℕ)) (records rrset : List Record) (name : List (List ℕ)) → IsStrictlySortedBy record_order records → name ≡ version_name apex
+pub kept_rrset : (apex : List (List ℕ)) (records rrset : List Record) (name : List (List ℕ))
+    → IsStrictlySortedBy record_order records → name ≡ version_name apex
     → rrset ≡ of_type 16 (records_of records name) → rrset ≡ filter (is_version apex) records
 kept_rrset apex records rrset name up is e =
     e
@@ -46,13 +50,16 @@ unfolding wire_of
 long apex r much valid =
     elim (cases_Bool (is_version apex r)) [
       | inl t ↦
-          let e : r.owner ≡ version_name apex = (same_decides r.owner (version_name apex)).0 (and_parts (r.kind == 16) (same_name r.owner (version_name apex)) t).1 in
-          let short : length (wire_of (version_name apex)) ≤ 255 = subst (λ (n : List (List ℕ)). length (wire_of n) ≤ 255) e valid.owner.short in
+          let e : r.owner ≡ version_name apex = (same_decides r.owner (version_name apex)).0
+          (and_parts (r.kind == 16) (same_name r.owner (version_name apex)) t).1 in
+          let short : length (wire_of (version_name apex)) ≤ 255 =
+          subst (λ (n : List (List ℕ)). length (wire_of n) ≤ 255) e valid.owner.short in
           absurd (omega (arith, short, much))
       | inr f ↦ f
     ]
 
-pub kept_none : (apex : List (List ℕ)) (records : List Record) → 255 ≤ length (wire_of apex) + 7 → All IsRecord records → [] ≡ filter (is_version apex) records
+pub kept_none : (apex : List (List ℕ)) (records : List Record) → 255 ≤ length (wire_of apex) + 7 → All IsRecord records
+    → [] ≡ filter (is_version apex) records
 kept_none apex [] much held = refl
 kept_none apex (r ∷ rs) much held =
     rw (long apex r much (held 0 r (omega arith))) (kept_none apex rs much (λ k d lt. held (suc k) d (omega arith)))

@@ -13,7 +13,8 @@ use Rattle.dz_member.specs.Listing.{same_zone}
 use Rattle.dz_settings.specs.Twice.{has_twice}
 use Rattle.dz_catalog.specs.Member.{is_node, is_coo, is_member, nodes_of}
 use Rattle.dz_member.specs.declared.listing.Broken.{Broken}
-use Rattle.dz_member.specs.declared.listing.Broken.TheVariants.{NoVersion, VersionTwice, OtherVersion, MemberTwice, CooTwice, TooManyMembers, ZoneTwice}
+use Rattle.dz_member.specs.declared.listing.Broken.TheVariants.{NoVersion, VersionTwice, OtherVersion, MemberTwice}
+use Rattle.dz_member.specs.declared.listing.Broken.TheVariants.{CooTwice, TooManyMembers, ZoneTwice}
 use Rattle.dz_member.specs.declared.listing.TheConstants.Listing.{NODES}
 
 -- the name of the schema's version (RFC 9432 section 4.2.1)
@@ -73,4 +74,5 @@ broken_records apex records =
 
 -- why the catalog is broken, if it is: the first reason that holds
 abbrev pub broken_of : Name → List Record → Option Broken
-broken_of apex records = option_or (broken_records apex records) (if zone_twice (nodes_of apex records) then Some ZoneTwice else None)
+broken_of apex records =
+    option_or (broken_records apex records) (if zone_twice (nodes_of apex records) then Some ZoneTwice else None)

@@ -39,7 +39,8 @@ is_coo apex name = begins_with (codes "coo") name && option_map_or (is_node apex
 abbrev pub is_member : Name → Record → Bool
 is_member apex r = r.kind == TYPE_PTR && is_node apex r.owner
 
--- the catalog that a node's change of ownership names; where there are more, that of the first record (RFC 9432 section
+-- the catalog that a node's change of ownership names; where there are more, that of the first record (RFC 9432
+-- section
 -- 4.3.1)
 abbrev pub coo_of : List Record → Name → Option Name
 coo_of records node = option_and_then target_of (slice_get (of_type TYPE_PTR (records_of records (coo_name node))) 0)

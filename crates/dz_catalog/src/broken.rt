@@ -9,7 +9,8 @@ ghost use Rattle.dz_record.specs.Record.{record_order};
 ghost use Rattle.dz_zone.specs.Valid.{both_are};
 ghost use Rattle.dz_catalog.specs.Member.{is_node, is_coo, is_member};
 ghost use Rattle.dz_catalog.specs.inner.Count.{by_count};
-ghost use Rattle.dz_catalog.specs.Broken.{is_version, no_version, version_twice, other_version, version_name, version_2, twins, member_twice, coo_twice, broken_records};
+ghost use Rattle.dz_catalog.specs.Broken.{is_version, no_version, version_twice, other_version, version_name};
+ghost use Rattle.dz_catalog.specs.Broken.{version_2, twins, member_twice, coo_twice, broken_records};
 
 use crate::names::{is_coo, is_node};
 use dz_lookup::rrset_of;

@@ -1,6 +1,7 @@
 //! The member nodes, from records in canonical order.
 
-ghost use Rattle.std.specs.Prelude.{◌≡◌, ◌==◌, ◌∷◌, ◌+◌, ◌<◌, ◌++◌, length, drop, not, count_by, IfOk, OnOk, find, position};
+ghost use Rattle.std.specs.Prelude.{◌≡◌, ◌==◌, ◌∷◌, ◌+◌, ◌<◌, ◌++◌, length, drop, not, count_by, IfOk, OnOk, find};
+ghost use Rattle.std.specs.Prelude.{position};
 ghost use Rattle.std.specs.List.{filter_map};
 ghost use Rattle.std.specs.List.Sorted.{IsStrictlySortedBy};
 ghost use Rattle.std.specs.Option.{option_map, option_to_list};

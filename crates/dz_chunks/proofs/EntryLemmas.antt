@@ -1,5 +1,6 @@
--- Where a key stands among entries in the order of their keys, and what a change of the entry there does.
-use Rattle.std.proofs.Common.{◌≡◌, ℕ, zero, suc, ◌+◌, ◌<◌, ◌≤◌, Bool, true, false, List, [], ◌∷◌, ◌++◌, length, take, drop, get_or, Some, None, Result, Ok, Err, IfOk, refl, sym, ◌∙◌, ap, arith}
+-- Where a key is among entries in the order of their keys, and what a change of the entry there does.
+use Rattle.std.proofs.Common.{◌≡◌, ℕ, zero, suc, ◌+◌, ◌<◌, ◌≤◌, Bool, true, false, List, [], ◌∷◌, ◌++◌, length, take}
+use Rattle.std.proofs.Common.{drop, get_or, Some, None, Result, Ok, Err, IfOk, refl, sym, ◌∙◌, ap, arith}
 use Rattle.std.specs.Prelude.{T, ◌&&◌}
 use Rattle.std.specs.Ordering.{is_lt, is_gt, is_eq, ordering_reverse}
 use Rattle.std.specs.Cmp.{IsTotalOrder}
@@ -71,34 +72,44 @@ module _ {K X : Type 0} (R : K → K → Ordering) where
 
 module _ {K X : Type 0} (R : K → K → Ordering) (o : IsTotalOrder R) where
   -- from what a binary search says
-  pub before_from : (k : K) (xs : List (K × X)) (i : ℕ) → i ≤ length xs → ((j : ℕ) (d : K × X) → 0 ≤ j → j < i → is_lt (R (get_or xs j d).0 k) ≡ true) → AllBefore R k (take i xs)
+  pub before_from : (k : K) (xs : List (K × X)) (i : ℕ) → i ≤ length xs
+      → ((j : ℕ) (d : K × X) → 0 ≤ j → j < i → is_lt (R (get_or xs j d).0 k) ≡ true) → AllBefore R k (take i xs)
   before_from k xs zero within h = tt
   before_from k [] (suc i) within h = tt
-  before_from k (x ∷ xs) (suc i) within h =
-      (greater_back R o x.0 k (h 0 x (omega arith) (omega arith)), before_from k xs i (omega arith) (λ j d low lt. h (suc j) d (omega arith) (omega arith)))
+  before_from k (x ∷ xs) (suc i) within h = (
+    greater_back R o x.0 k (h 0 x (omega arith) (omega arith)),
+    before_from k xs i (omega arith) (λ j d low lt. h (suc j) d (omega arith) (omega arith)),
+  )
 
-  pub here_from : (k : K) (xs : List (K × X)) (i : ℕ) → ((j : ℕ) (d : K × X) → i ≤ j → j < length xs → is_lt (R (get_or xs j d).0 k) ≡ false) → NotBefore R k (drop i xs)
+  pub here_from : (k : K) (xs : List (K × X)) (i : ℕ)
+      → ((j : ℕ) (d : K × X) → i ≤ j → j < length xs → is_lt (R (get_or xs j d).0 k) ≡ false)
+      → NotBefore R k (drop i xs)
   here_from k [] zero h = tt
   here_from k [] (suc i) h = tt
-  here_from k (x ∷ xs) zero h = ap is_gt (o.antisymm k x.0) ∙ reversed_not_gt (R x.0 k) (h 0 x (omega arith) (omega arith))
+  here_from k (x ∷ xs) zero h =
+      ap is_gt (o.antisymm k x.0) ∙ reversed_not_gt (R x.0 k) (h 0 x (omega arith) (omega arith))
   here_from k (x ∷ xs) (suc i) h = here_from k xs i (λ j d low lt. h (suc j) d (omega arith) (omega arith))
 
-  pub below_at : (y : K) (xs : List (K × X)) → T (below_all R y xs) → (j : ℕ) (d : K × X) → j < length xs → R y (get_or xs j d).0 ≡ Less
+  pub below_at : (y : K) (xs : List (K × X)) → T (below_all R y xs) → (j : ℕ) (d : K × X) → j < length xs
+      → R y (get_or xs j d).0 ≡ Less
   below_at y [] b j d lt = absurd (omega arith)
   below_at y (x ∷ xs) b zero d lt = less_of (R y x.0) (true_of _ (first_of_both _ (below_all R y xs) b))
   below_at y (x ∷ xs) b (suc j) d lt = below_at y xs (second_of_both (is_lt (R y x.0)) _ b) j d (omega arith)
 
-  pub entries_partitioned : (k : K) (xs : List (K × X)) → T (is_sorted R xs) → IsPartitionedBy (λ e. is_lt (R e.0 k)) xs
+  pub entries_partitioned : (k : K) (xs : List (K × X)) → T (is_sorted R xs)
+      → IsPartitionedBy (λ e. is_lt (R e.0 k)) xs
   entries_partitioned k [] s i j d le lt h = absurd (omega arith)
   entries_partitioned k (x ∷ xs) s zero zero d le lt h = h
   entries_partitioned k (x ∷ xs) s (suc i) zero d le lt h = absurd (omega arith)
   entries_partitioned k (x ∷ xs) s zero (suc j) d le lt h =
-      ap is_lt (o.trans x.0 (get_or xs j d).0 k (below_at x.0 xs (first_of_both _ (is_sorted R xs) s) j d (omega arith)) (less_of (R (get_or xs j d).0 k) h))
+      ap is_lt (o.trans x.0 (get_or xs j d).0 k
+      (below_at x.0 xs (first_of_both _ (is_sorted R xs) s) j d (omega arith)) (less_of (R (get_or xs j d).0 k) h))
   entries_partitioned k (x ∷ xs) s (suc i) (suc j) d le lt h =
       entries_partitioned k xs (second_of_both (below_all R x.0 xs) _ s) i j d (omega arith) (omega arith) h
 
   -- an entry replaced, inserted, removed and found at the place of its key
-  pub replaced_is : ((a b : K) → R a b ≡ Equal → a ≡ b) → (k : K) (v : X) (xs : List (K × X)) (at : ℕ) → AllBefore R k (take at xs) → begins_at R k (drop at xs) ≡ true
+  pub replaced_is : ((a b : K) → R a b ≡ Equal → a ≡ b) → (k : K) (v : X) (xs : List (K × X)) (at : ℕ)
+      → AllBefore R k (take at xs) → begins_at R k (drop at xs) ≡ true
       → take at xs ++ (k, v) ∷ drop (at + 1) xs ≡ put R k v xs
   replaced_is one k v [] zero before here = absurd (false≢true here)
   replaced_is one k v [] (suc i) before here = absurd (false≢true here)
@@ -109,32 +120,39 @@ module _ {K X : Type 0} (R : K → K → Ordering) (o : IsTotalOrder R) where
       let e : suc i + 1 ≡ suc (i + 1) = omega arith in
       rw (e, before.0) (ap (λ l. x ∷ l) (replaced_is one k v xs i before.1 here))
 
-  pub inserted_is : (k : K) (v : X) (xs : List (K × X)) (at : ℕ) → AllBefore R k (take at xs) → NotBefore R k (drop at xs) → begins_at R k (drop at xs) ≡ false
+  pub inserted_is : (k : K) (v : X) (xs : List (K × X)) (at : ℕ) → AllBefore R k (take at xs)
+      → NotBefore R k (drop at xs) → begins_at R k (drop at xs) ≡ false
       → take at xs ++ (k, v) ∷ drop at xs ≡ put R k v xs
   inserted_is k v [] zero before next other = refl
   inserted_is k v [] (suc i) before next other = refl
   inserted_is k v (x ∷ xs) zero before next other = rw (less_left (R k x.0) next other) refl
-  inserted_is k v (x ∷ xs) (suc i) before next other = rw before.0 (ap (λ l. x ∷ l) (inserted_is k v xs i before.1 next other))
+  inserted_is k v (x ∷ xs) (suc i) before next other =
+      rw before.0 (ap (λ l. x ∷ l) (inserted_is k v xs i before.1 next other))
 
-  pub found_is : (k : K) (xs : List (K × X)) (at : ℕ) (d : K × X) → AllBefore R k (take at xs) → begins_at R k (drop at xs) ≡ true → Some (get_or xs at d).1 ≡ find R k xs
+  pub found_is : (k : K) (xs : List (K × X)) (at : ℕ) (d : K × X) → AllBefore R k (take at xs)
+      → begins_at R k (drop at xs) ≡ true → Some (get_or xs at d).1 ≡ find R k xs
   found_is k [] zero d before here = absurd (false≢true here)
   found_is k [] (suc i) d before here = absurd (false≢true here)
   found_is k (x ∷ xs) zero d before here = rw (equal_of (R k x.0) here) refl
   found_is k (x ∷ xs) (suc i) d before here = rw before.0 (found_is k xs i d before.1 here)
 
-  -- what comes behind an entry that isn't before the key
+  -- what comes after an entry that isn't before the key
   pub behind_of_below : (k y : K) (xs : List (K × X)) → is_gt (R k y) ≡ false → T (below_all R y xs) → AllBehind R k xs
   behind_of_below k y [] h b = tt
-  behind_of_below k y (x ∷ xs) h b =
-      (less_through R o k y x.0 h (less_of (R y x.0) (true_of _ (first_of_both _ (below_all R y xs) b))), behind_of_below k y xs h (second_of_both (is_lt (R y x.0)) _ b))
+  behind_of_below k y (x ∷ xs) h b = (
+    less_through R o k y x.0 h (less_of (R y x.0) (true_of _ (first_of_both _ (below_all R y xs) b))),
+    behind_of_below k y xs h (second_of_both (is_lt (R y x.0)) _ b),
+  )
 
-  pub removed_is : (k : K) (xs : List (K × X)) (at : ℕ) → T (is_sorted R xs) → AllBefore R k (take at xs) → begins_at R k (drop at xs) ≡ true
+  pub removed_is : (k : K) (xs : List (K × X)) (at : ℕ) → T (is_sorted R xs) → AllBefore R k (take at xs)
+      → begins_at R k (drop at xs) ≡ true
       → take at xs ++ drop (at + 1) xs ≡ without_key R k xs
   removed_is k [] zero s before here = absurd (false≢true here)
   removed_is k [] (suc i) s before here = absurd (false≢true here)
   removed_is k (x ∷ xs) zero s before here =
       let same = equal_of (R k x.0) here in
-      rw same (sym (behind_kept R k xs (behind_of_below k x.0 xs (ap is_gt same) (first_of_both _ (is_sorted R xs) s))))
+      rw same
+      (sym (behind_kept R k xs (behind_of_below k x.0 xs (ap is_gt same) (first_of_both _ (is_sorted R xs) s))))
   removed_is k (x ∷ xs) (suc i) s before here =
       let e : suc i + 1 ≡ suc (i + 1) = omega arith in
       rw (e, before.0) (ap (λ l. x ∷ l) (removed_is k xs i (second_of_both (below_all R x.0 xs) _ s) before.1 here))
@@ -144,22 +162,28 @@ module _ {K X : Type 0} (R : K → K → Ordering) (o : IsTotalOrder R) where
   find_behind k (x ∷ xs) b = rw b.0 (find_behind k xs b.1)
 
   -- a key that isn't at its place is nowhere
-  pub missing_is : (k : K) (xs : List (K × X)) (at : ℕ) → T (is_sorted R xs) → AllBefore R k (take at xs) → NotBefore R k (drop at xs) → begins_at R k (drop at xs) ≡ false → None ≡ find R k xs
+  pub missing_is : (k : K) (xs : List (K × X)) (at : ℕ) → T (is_sorted R xs) → AllBefore R k (take at xs)
+      → NotBefore R k (drop at xs) → begins_at R k (drop at xs) ≡ false → None ≡ find R k xs
   missing_is k [] zero s before next other = refl
   missing_is k [] (suc i) s before next other = refl
   missing_is k (x ∷ xs) zero s before next other =
-      rw (less_left (R k x.0) next other) (find_behind k xs (behind_of_below k x.0 xs next (first_of_both _ (is_sorted R xs) s)))
-  missing_is k (x ∷ xs) (suc i) s before next other = rw before.0 (missing_is k xs i (second_of_both (below_all R x.0 xs) _ s) before.1 next other)
+      rw (less_left (R k x.0) next other)
+      (find_behind k xs (behind_of_below k x.0 xs next (first_of_both _ (is_sorted R xs) s)))
+  missing_is k (x ∷ xs) (suc i) s before next other =
+      rw before.0 (missing_is k xs i (second_of_both (below_all R x.0 xs) _ s) before.1 next other)
 
-  pub unchanged_is : (k : K) (xs : List (K × X)) (at : ℕ) → T (is_sorted R xs) → AllBefore R k (take at xs) → NotBefore R k (drop at xs) → begins_at R k (drop at xs) ≡ false → xs ≡ without_key R k xs
+  pub unchanged_is : (k : K) (xs : List (K × X)) (at : ℕ) → T (is_sorted R xs) → AllBefore R k (take at xs)
+      → NotBefore R k (drop at xs) → begins_at R k (drop at xs) ≡ false → xs ≡ without_key R k xs
   unchanged_is k [] zero s before next other = refl
   unchanged_is k [] (suc i) s before next other = refl
   unchanged_is k (x ∷ xs) zero s before next other =
-      rw (less_left (R k x.0) next other) (ap (λ l. x ∷ l) (sym (behind_kept R k xs (behind_of_below k x.0 xs next (first_of_both _ (is_sorted R xs) s)))))
+      rw (less_left (R k x.0) next other) (ap
+      (λ l. x ∷ l) (sym (behind_kept R k xs (behind_of_below k x.0 xs next (first_of_both _ (is_sorted R xs) s)))))
   unchanged_is k (x ∷ xs) (suc i) s before next other =
       rw before.0 (ap (λ l. x ∷ l) (unchanged_is k xs i (second_of_both (below_all R x.0 xs) _ s) before.1 next other))
 
-pub ok_into : {A E : Type 0} {B : Type 0} (f : A → B) (r : Result A E) (s t : B) → IfOk r (λ v. f v ≡ s) → s ≡ t → IfOk r (λ v. f v ≡ t)
+pub ok_into : {A E : Type 0} {B : Type 0} (f : A → B) (r : Result A E) (s t : B) → IfOk r (λ v. f v ≡ s) → s ≡ t
+    → IfOk r (λ v. f v ≡ t)
 ok_into f (Ok i) s t h e = h ∙ e
 ok_into f (Err x) s t h e = tt
 
@@ -167,6 +191,7 @@ pub ok_then : {A E : Type 0} (P Q : A → Type 0) (r : Result A E) → IfOk r P 
 ok_then P Q (Ok i) h f = f i h
 ok_then P Q (Err x) h f = tt
 
-pub ok_with : {A E : Type 0} (P Q S : A → Type 0) (r : Result A E) → IfOk r P → IfOk r Q → ((x : A) → P x → Q x → S x) → IfOk r S
+pub ok_with : {A E : Type 0} (P Q S : A → Type 0) (r : Result A E) → IfOk r P → IfOk r Q
+    → ((x : A) → P x → Q x → S x) → IfOk r S
 ok_with P Q S (Ok i) h k f = f i h k
 ok_with P Q S (Err x) h k f = tt

@@ -1,5 +1,6 @@
 -- A search by halves: its steps, and what it leaves on either side.
-use Rattle.std.proofs.Common.{◌≡◌, ℕ, ◌+◌, ◌*◌, ◌<◌, ◌≤◌, Bool, true, false, List, length, get_or, sym, ◌∙◌, ap, arith, inl, inr}
+use Rattle.std.proofs.Common.{◌≡◌, ℕ, ◌+◌, ◌*◌, ◌<◌, ◌≤◌, Bool, true, false, List, length, get_or, sym, ◌∙◌, ap, arith}
+use Rattle.std.proofs.Common.{inl, inr}
 use Rattle.std.specs.Prelude.{◌^◌, ◌/◌}
 use Rattle.std.specs.List.Sorted.{IsPartitionedBy}
 use Rattle.std.proofs.lemmas.Bool.{cases_Bool, cases_lt, false≢true}
@@ -21,14 +22,17 @@ doubled t u s n is h some =
     let m : 2 ^ t * 1 ≤ 2 ^ t * s = mul-le (2 ^ t) 1 (2 ^ t) s (omega arith) (omega arith) in
     rw p (omega arith)
 
-module _ {X : Type 0} (p : X → Bool) (xs : List X) (parted : IsPartitionedBy p xs) (middle : ℕ) (m : X) (is : m ≡ get_or xs middle m) (within : middle < length xs) where
+module _ {X : Type 0} (p : X → Bool) (xs : List X) (parted : IsPartitionedBy p xs) (middle : ℕ) (m : X)
+    (is : m ≡ get_or xs middle m) (within : middle < length xs) where
   -- the answer of one item, carried to those before it or after it
   pub before_more : p m ≡ true → (j : ℕ) (d : X) → j < middle + 1 → p (get_or xs j d) ≡ true
-  before_more told j d lt = parted j middle d (omega arith) within (ap p (get_or_default xs middle d m within) ∙ (ap p (sym is) ∙ told))
+  before_more told j d lt =
+      parted j middle d (omega arith) within (ap p (get_or_default xs middle d m within) ∙ (ap p (sym is) ∙ told))
 
   pub behind_more : p m ≡ false → (j : ℕ) (d : X) → middle ≤ j → j < length xs → p (get_or xs j d) ≡ false
   behind_more told j d le lt = elim (cases_Bool (p (get_or xs j d))) [
-    | inl t ↦ absurd (false≢true (sym told ∙ (ap p is ∙ (ap p (get_or_default xs middle m d within) ∙ parted middle j d le lt t))))
+    | inl t ↦ absurd
+        (false≢true (sym told ∙ (ap p is ∙ (ap p (get_or_default xs middle m d within) ∙ parted middle j d le lt t))))
     | inr f ↦ f
   ]
 
@@ -49,5 +53,6 @@ among entries m t bits few h le = elim (cases_lt bits t) [
   | inr ge ↦ ge
 ]
 
-pub takes_at_most : (entries m t more taken : ℕ) → m ≤ entries / 64 + 1 → 2 ^ t ≤ 2 * m + 1 → taken ≤ t + more → TakesAtMost entries more taken
+pub takes_at_most : (entries m t more taken : ℕ) → m ≤ entries / 64 + 1 → 2 ^ t ≤ 2 * m + 1 → taken ≤ t + more
+    → TakesAtMost entries more taken
 takes_at_most entries m t more taken few h le bits enough = omega (arith, among entries m t bits few h enough, le)

@@ -1,5 +1,5 @@
--- Meaning: a finite map as its entries in ascending order of their keys. `find`, `put` and `is_sorted` are those of the
--- standard library.
+-- Meaning: a finite map as its entries in ascending order of their keys. `find`, `put` and `is_sorted` are those of
+-- the standard library.
 use Rattle.std.specs.Prelude.{not, Bool, List, filter, Option, None}
 use Rattle.std.specs.List.{last_or}
 use Rattle.std.specs.Ordering.{eq_by_cmp, is_gt}

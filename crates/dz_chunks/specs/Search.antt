@@ -1,8 +1,8 @@
 -- Meaning: how many comparisons of keys a search takes.
 use Rattle.std.specs.Prelude.{ℕ, ◌+◌, ◌*◌, ◌/◌, ◌≤◌, ◌^◌}
 
--- so many comparisons a search by halves among so many items takes at most: one more than the binary logarithm of twice
--- as many
+-- so many comparisons a search by halves among so many items takes at most: one more than the binary logarithm of
+-- twice as many
 abbrev pub IsSearch : ℕ → ℕ → Type 0
 IsSearch items taken = 2 ^ taken ≤ 2 * items + 1
 

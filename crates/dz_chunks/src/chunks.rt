@@ -1,6 +1,7 @@
 //! A finite map in shared chunks.
 
-ghost use Rattle.std.specs.Prelude.{◌≡◌, ℕ, ◌+◌, ◌-◌, ◌*◌, ◌/◌, ◌^◌, ◌<◌, ◌≤◌, List, [], ◌∷◌, ◌++◌, length, map, T, IfOk, min, IsTrue};
+ghost use Rattle.std.specs.Prelude.{◌≡◌, ℕ, ◌+◌, ◌-◌, ◌*◌, ◌/◌, ◌^◌, ◌<◌, ◌≤◌, List, [], ◌∷◌, ◌++◌, length, map, T};
+ghost use Rattle.std.specs.Prelude.{IfOk, min, IsTrue};
 ghost use Rattle.std.specs.FinMap.{is_sorted, find, put};
 ghost use Rattle.std.specs.Option.{option_map};
 ghost use Rattle.dz_chunks.specs.Map.{last_upto, without_key};

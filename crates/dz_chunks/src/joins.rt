@@ -1,6 +1,7 @@
 //! Chunks with other entries in place of one: split where they are too many, joined with a neighbour where they are few.
 
-ghost use Rattle.std.specs.Prelude.{◌≡◌, ℕ, ◌+◌, ◌-◌, ◌<◌, ◌≤◌, List, [], ◌∷◌, ◌++◌, length, take, drop, map, OnOk, IfOk};
+ghost use Rattle.std.specs.Prelude.{◌≡◌, ℕ, ◌+◌, ◌-◌, ◌<◌, ◌≤◌, List, [], ◌∷◌, ◌++◌, length, take, drop, map, OnOk};
+ghost use Rattle.std.specs.Prelude.{IfOk};
 ghost use Rattle.dz_chunks.specs.Chunked.{flat, AreChunks};
 ghost use Rattle.dz_chunks.specs.inner.Chunked.{length_at, length_before};
 

@@ -8,7 +8,8 @@ use Rattle.dz_io.specs.declared.peer.Peer.{Peer}
 use Rattle.dz_config.specs.Document.{addresses_of}
 
 -- one more
-pub put_more : (addresses : List Octets) (hosts : List Peer) (place : ℕ) (host : Peer) → place < length addresses → place < length hosts → host ≡ get_or hosts place host
+pub put_more : (addresses : List Octets) (hosts : List Peer) (place : ℕ) (host : Peer) → place < length addresses
+    → place < length hosts → host ≡ get_or hosts place host
     → take place addresses ≡ addresses_of (take place hosts)
     → take (place + 1) (set addresses place host.address) ≡ addresses_of (take (place + 1) hosts)
 put_more addresses hosts place host room lt is so =

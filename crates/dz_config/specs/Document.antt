@@ -1,6 +1,7 @@
 -- Meaning: the configuration that a document has, or the least fault of it. A document is a table as TOML defines it
 -- (TOML 1.1): however it is written, by headers, dotted keys or inline tables.
-use Rattle.std.specs.Prelude.{Bool, ◌||◌, not, nat_le, nat_lt, List, [], ◌∷◌, length, map, codes, Option, Some, None, Result, Ok, Err, if◌then◌else◌}
+use Rattle.std.specs.Prelude.{Bool, ◌||◌, not, nat_le, nat_lt, List, [], ◌∷◌, length, map, codes, Option, Some, None}
+use Rattle.std.specs.Prelude.{Result, Ok, Err, if◌then◌else◌}
 use Rattle.std.specs.List.{list_any}
 use Rattle.std.specs.Option.{option_and_then, option_map_or}
 use Rattle.std.specs.Str.{bytes_eq}
@@ -15,20 +16,24 @@ use Rattle.dz_name.specs.Text.{name_of_text}
 use Rattle.dz_name.specs.Words.{Name, Octets}
 use Rattle.hex.specs.Hex.{decode_of}
 use Rattle.hex.specs.declared.error.FromHexError.{FromHexError}
-use Rattle.toml.specs.Data.{Data, Items, no_items, item, Members, no_members, member, get_member, as_str, as_array, as_table}
+use Rattle.toml.specs.Data.{Data, Items, no_items, item, Members, no_members, member, get_member, as_str, as_array}
+use Rattle.toml.specs.Data.{as_table}
 use Rattle.dz_settings.specs.Peer.{host_of, peer_of, policy_of}
 use Rattle.dz_config.specs.Reading.{Reading, both, made, read_in, gathered}
 use Rattle.dz_config.specs.declared.downstream.TheConstants.{DOWNSTREAM}
 use Rattle.dz_config.specs.declared.config.Said.{Said}
-use Rattle.dz_config.specs.declared.fault.ConfigFault.TheVariants.{UnknownKey, MissingValue, BadName, UnknownPolicy, BadPeer, OutOfLimits, Twice, BadSecret}
+use Rattle.dz_config.specs.declared.fault.ConfigFault.TheVariants.{UnknownKey, MissingValue, BadName, UnknownPolicy}
+use Rattle.dz_config.specs.declared.fault.ConfigFault.TheVariants.{BadPeer, OutOfLimits, Twice, BadSecret}
 use Rattle.dz_config.specs.declared.keys.Place.{Place}
 use Rattle.dz_config.specs.declared.keys.Place.TheVariants.{Document, Catalog, Group}
 
 -- a key of the document, of a catalog or of a group
 abbrev pub is_key : Place → Octets → Bool
-is_key Document key = bytes_eq key (codes "listen") || (bytes_eq key (codes "catalog") || bytes_eq key (codes "downstream"))
+is_key Document key =
+    bytes_eq key (codes "listen") || (bytes_eq key (codes "catalog") || bytes_eq key (codes "downstream"))
 is_key Catalog key =
-    bytes_eq key (codes "name") || (bytes_eq key (codes "policy") || (bytes_eq key (codes "primaries") || (bytes_eq key (codes "group") || (bytes_eq key (codes "key") || bytes_eq key (codes "secret")))))
+    bytes_eq key (codes "name") || (bytes_eq key (codes "policy") || (bytes_eq key (codes "primaries")
+    || (bytes_eq key (codes "group") || (bytes_eq key (codes "key") || bytes_eq key (codes "secret")))))
 is_key Group key = bytes_eq key (codes "word") || (bytes_eq key (codes "policy") || bytes_eq key (codes "primaries"))
 
 -- the keys of a table
@@ -87,7 +92,8 @@ primaries_of table = read_in (λ values. gathered (map primary_of values)) (valu
 abbrev pub group_in : Members → Reading GroupSettings
 group_in table =
     made (λ p. record { word = p.1.0; policy = p.1.1.0; primaries = p.1.1.1 })
-    (both (known Group table) (both (text_at (codes "word") table) (both (read_in policy_from (text_at (codes "policy") table)) (primaries_of table))))
+    (both (known Group table) (both (text_at (codes "word") table)
+    (both (read_in policy_from (text_at (codes "policy") table)) (primaries_of table))))
 
 -- the group of a value, which must be a table
 abbrev pub group_of : Data → Reading GroupSettings
@@ -118,7 +124,8 @@ secret_from text = secret_read (decode_of text)
 -- a key of a name and a secret, both of which must be there
 abbrev pub key_in : Members → Reading Key
 key_in table =
-    made (λ p. record { name = p.0; secret = p.1 }) (both (read_in name_from (text_at (codes "key") table)) (made secret_from (text_at (codes "secret") table)))
+    made (λ p. record { name = p.0; secret = p.1 })
+    (both (read_in name_from (text_at (codes "key") table)) (made secret_from (text_at (codes "secret") table)))
 
 -- the key of a catalog, by its keys `key` and `secret`: both, or neither
 abbrev pub key_from : Option Data → Option Data → Members → Reading (Option Key)
@@ -133,9 +140,11 @@ key_of table = key_from (get_member (codes "key") table) (get_member (codes "sec
 -- the catalog of a table
 abbrev pub catalog_in : Members → Reading CatalogSettings
 catalog_in table =
-    made (λ p. record { name = p.1.0; policy = p.1.1.0; primaries = p.1.1.1.0; groups = p.1.1.1.1.0; key = p.1.1.1.1.1 })
+    made
+    (λ p. record { name = p.1.0; policy = p.1.1.0; primaries = p.1.1.1.0; groups = p.1.1.1.1.0; key = p.1.1.1.1.1 })
     (both (known Catalog table)
-    (both (read_in name_from (text_at (codes "name") table)) (both (read_in policy_from (text_at (codes "policy") table)) (both (primaries_of table) (both (groups_of table) (key_of table))))))
+    (both (read_in name_from (text_at (codes "name") table)) (both (read_in policy_from
+    (text_at (codes "policy") table)) (both (primaries_of table) (both (groups_of table) (key_of table))))))
 
 -- the catalog of a value, which must be a table
 abbrev pub catalog_of : Data → Reading CatalogSettings
@@ -156,7 +165,8 @@ downstream_host value = read_in host_from (wanted (as_str value))
 -- the hosts to which zones are sent, by the key `downstream`, which may be missing
 abbrev pub hosts_from : Option Data → Members → Reading (List Peer)
 hosts_from None table = Ok []
-hosts_from (Some value) table = read_in (λ values. gathered (map downstream_host values)) (values_at (codes "downstream") table)
+hosts_from (Some value) table =
+    read_in (λ values. gathered (map downstream_host values)) (values_at (codes "downstream") table)
 
 -- the hosts to which zones are sent
 abbrev pub hosts_of : Members → Reading (List Peer)
@@ -166,7 +176,8 @@ hosts_of table = hosts_from (get_member (codes "downstream") table) table
 abbrev pub settings_of : Members → Reading (Peer × (List CatalogSettings × List Peer))
 settings_of table =
     made (λ p. p.1)
-    (both (known Document table) (both (read_in peer_from (text_at (codes "listen") table)) (both (catalogs_of table) (hosts_of table))))
+    (both (known Document table)
+    (both (read_in peer_from (text_at (codes "listen") table)) (both (catalogs_of table) (hosts_of table))))
 
 -- the addresses of hosts
 abbrev pub addresses_of : List Peer → List Octets

@@ -1,7 +1,8 @@
 -- Judge: documents with each fault, computed by the checker.
 use Rattle.std.specs.Prelude.{◌≡◌, refl, pos, [], ◌∷◌, replicate, Option, Some, None, Ok, Err, codes, ℕ, List, Float}
 use Rattle.hex.specs.Hex.{decode_pairs}
-use Rattle.toml.specs.Data.{Data, Items, string, integer, array, table, no_items, item, Members, no_members, member, float, datetime}
+use Rattle.toml.specs.Data.{Data, Items, string, integer, array, table, no_items, item, Members, no_members, member}
+use Rattle.toml.specs.Data.{float, datetime}
 use Rattle.dz_settings.specs.declared.config.CatalogSettings.{CatalogSettings}
 use Rattle.dz_settings.specs.declared.config.Policy.TheVariants.{Off, Present}
 use Rattle.dz_settings.specs.declared.key.Key.{Key}
@@ -9,7 +10,8 @@ use Rattle.dz_name.specs.Name.{wire_of}
 use Rattle.dz_name.specs.Text.{items, labels_from, with_label, name_of_text}
 use Rattle.dz_name.specs.Words.{Octets}
 use Rattle.dz_config.specs.Document.{catalog_in, config_of, downstream_of}
-use Rattle.dz_config.specs.declared.fault.ConfigFault.TheVariants.{UnknownKey, MissingValue, BadName, BadPeer, OutOfLimits, Twice, BadSecret, UnknownPolicy}
+use Rattle.dz_config.specs.declared.fault.ConfigFault.TheVariants.{UnknownKey, MissingValue, BadName, BadPeer}
+use Rattle.dz_config.specs.declared.fault.ConfigFault.TheVariants.{OutOfLimits, Twice, BadSecret, UnknownPolicy}
 use Rattle.dz_config.specs.declared.config.TheConstants.{TEXT_OCTETS}
 use Rattle.dz_config.specs.declared.downstream.TheConstants.{DOWNSTREAM}
 
@@ -20,23 +22,30 @@ listen = string (codes "192.0.2.10")
 pub empty : config_of no_members ≡ Err MissingValue
 empty = refl
 
-pub unknown_first : config_of (member (codes "listen") (integer (pos 1)) (member (codes "x") (integer (pos 1)) no_members)) ≡ Err UnknownKey
+pub unknown_first : config_of
+    (member (codes "listen") (integer (pos 1)) (member (codes "x") (integer (pos 1)) no_members)) ≡ Err UnknownKey
 unknown_first = refl
 
-pub no_catalogs : config_of (member (codes "catalog") (array no_items) (member (codes "listen") listen no_members)) ≡ Err OutOfLimits
+pub no_catalogs : config_of (member (codes "catalog") (array no_items) (member (codes "listen") listen no_members))
+    ≡ Err OutOfLimits
 no_catalogs = refl
 
-pub bad_listen : config_of (member (codes "catalog") (array no_items) (member (codes "listen") (string (codes "1.2.3")) no_members)) ≡ Err BadPeer
+pub bad_listen : config_of (member (codes "catalog") (array no_items)
+    (member (codes "listen") (string (codes "1.2.3")) no_members)) ≡ Err BadPeer
 bad_listen = refl
 
-pub table_for_array : config_of (member (codes "catalog") (table (member (codes "x") (integer (pos 1)) no_members)) (member (codes "listen") listen no_members)) ≡ Err MissingValue
+pub table_for_array : config_of (member (codes "catalog") (table (member (codes "x") (integer (pos 1)) no_members))
+    (member (codes "listen") listen no_members)) ≡ Err MissingValue
 table_for_array = refl
 
 -- a host is an address alone
-pub bad_host : config_of (member (codes "catalog") (array no_items) (member (codes "downstream") (array (item (string (codes "1.2.3.4:53")) no_items)) (member (codes "listen") listen no_members))) ≡ Err BadPeer
+pub bad_host : config_of (member (codes "catalog") (array no_items) (member (codes "downstream")
+    (array (item (string (codes "1.2.3.4:53")) no_items)) (member (codes "listen") listen no_members)))
+    ≡ Err BadPeer
 bad_host = refl
 
-pub no_hosts : config_of (member (codes "catalog") (array no_items) (member (codes "downstream") (array no_items) (member (codes "listen") listen no_members))) ≡ Err OutOfLimits
+pub no_hosts : config_of (member (codes "catalog") (array no_items)
+    (member (codes "downstream") (array no_items) (member (codes "listen") listen no_members))) ≡ Err OutOfLimits
 no_hosts = refl
 
 -- ---- keys
@@ -46,7 +55,8 @@ primaries = item (string (codes "192.0.2.1")) no_items
 
 -- a catalog with these primaries, and with further members
 abbrev catalog : Items → Members → Members
-catalog hosts more = member (codes "name") (string (codes "c")) (member (codes "policy") (string (codes "off")) (member (codes "primaries") (array hosts) more))
+catalog hosts more = member (codes "name") (string (codes "c"))
+    (member (codes "policy") (string (codes "off")) (member (codes "primaries") (array hosts) more))
 
 -- the name of a key, before further members
 abbrev key : Octets → Members → Members
@@ -66,18 +76,26 @@ one catalog = document (item (table catalog) no_items)
 
 -- the settings of that catalog with this key
 abbrev read_with : Option Key → CatalogSettings
-read_with key = record { name = codes "c" ∷ []; policy = Off; primaries = record { address = 192 ∷ 0 ∷ 2 ∷ 1 ∷ []; port = 53 } ∷ []; groups = []; key = key }
+read_with key = record {
+  name = codes "c" ∷ [];
+  policy = Off;
+  primaries = record { address = 192 ∷ 0 ∷ 2 ∷ 1 ∷ []; port = 53 } ∷ [];
+  groups = [];
+  key = key;
+}
 
 pub no_key : catalog_in (catalog primaries no_members) ≡ Ok (read_with None)
 unfolding name_of_text items labels_from with_label wire_of
 no_key = refl
 
 -- either case is hex
-pub a_key : catalog_in (catalog primaries (key (codes "k") (secret (codes "00fF")))) ≡ Ok (read_with (Some (record { name = codes "k" ∷ []; secret = 0 ∷ 255 ∷ [] })))
+pub a_key : catalog_in (catalog primaries (key (codes "k") (secret (codes "00fF"))))
+    ≡ Ok (read_with (Some (record { name = codes "k" ∷ []; secret = 0 ∷ 255 ∷ [] })))
 unfolding name_of_text items labels_from with_label wire_of decode_pairs
 a_key = refl
 
-pub long_secret : catalog_in (catalog primaries (key (codes "k") (secret (replicate 128 97)))) ≡ Ok (read_with (Some (record { name = codes "k" ∷ []; secret = replicate 64 170 })))
+pub long_secret : catalog_in (catalog primaries (key (codes "k") (secret (replicate 128 97))))
+    ≡ Ok (read_with (Some (record { name = codes "k" ∷ []; secret = replicate 64 170 })))
 unfolding name_of_text items labels_from with_label wire_of decode_pairs
 long_secret = refl
 
@@ -115,7 +133,8 @@ pub limits_first : config_of (one (catalog no_items (key (codes "k") (secret (co
 unfolding name_of_text items labels_from with_label wire_of
 limits_first = refl
 
-pub twice_first : config_of (document (item (table (catalog primaries (key (codes "k") (secret (codes "0"))))) (item (table (catalog primaries no_members)) no_items))) ≡ Err Twice
+pub twice_first : config_of (document (item (table (catalog primaries (key (codes "k") (secret (codes "0")))))
+    (item (table (catalog primaries no_members)) no_items))) ≡ Err Twice
 unfolding name_of_text items labels_from with_label wire_of
 twice_first = refl
 
@@ -136,7 +155,8 @@ abbrev named : Octets → Octets → List Octets → Members
 named name policy hosts = member (codes "name") (string name) (settings policy hosts no_members)
 
 abbrev sample : Members → Members
-sample more = member (codes "name") (string (codes "catalog.example.")) (settings (codes "present") (codes "192.0.2.1" ∷
+sample more =
+    member (codes "name") (string (codes "catalog.example.")) (settings (codes "present") (codes "192.0.2.1" ∷
     codes "192.0.2.2:5353" ∷ []) more)
 
 abbrev group : Octets → List Octets → Members
@@ -224,7 +244,8 @@ pub least_is_an_unknown_policy : config_of (documented (plain ∷ plain ∷ no_p
 unfolding name_of_text items labels_from with_label wire_of
 least_is_an_unknown_policy = refl
 
-pub least_is_a_bad_peer : config_of (documented (plain ∷ plain ∷ no_primaries ∷ bad_peer ∷ []) no_members) ≡ Err BadPeer
+pub least_is_a_bad_peer : config_of (documented (plain ∷ plain ∷ no_primaries ∷ bad_peer ∷ []) no_members)
+    ≡ Err BadPeer
 unfolding name_of_text items labels_from with_label wire_of
 least_is_a_bad_peer = refl
 

@@ -2,7 +2,9 @@
 use Rattle.std.specs.Prelude.{ℕ, nat_le, List, [], ◌∷◌, ◌++◌, Result, Ok, Err, if◌then◌else◌}
 use Rattle.std.specs.List.{fold}
 use Rattle.dz_config.specs.declared.fault.ConfigFault.{ConfigFault}
-use Rattle.dz_config.specs.declared.fault.ConfigFault.TheVariants.{NotToml, UnknownKey, MissingValue, BadName, UnknownPolicy, BadPeer, OutOfLimits, Twice, BadSecret}
+use Rattle.dz_config.specs.declared.fault.ConfigFault.TheVariants.{NotToml, UnknownKey, MissingValue, BadName}
+use Rattle.dz_config.specs.declared.fault.ConfigFault.TheVariants.{UnknownPolicy, BadPeer, OutOfLimits, Twice}
+use Rattle.dz_config.specs.declared.fault.ConfigFault.TheVariants.{BadSecret}
 
 -- a value that was read, or a fault
 abbrev pub Reading : Type 0 → Type 0

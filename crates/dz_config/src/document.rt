@@ -4,7 +4,10 @@
 
 ghost use Rattle.std.specs.Prelude.{◌≡◌, IfOk, Some, [], map, codes};
 ghost use Rattle.toml.specs.View.{view, table_view};
-ghost use Rattle.dz_config.specs.Document.{text_at, name_from, policy_from, peer_from, primary_of, primaries_of, group_in, group_of, groups_of, secret_kept, secret_from, key_in, key_of, catalog_in, catalog_of, catalogs_of, host_from, downstream_host, hosts_of, settings_of};
+ghost use Rattle.dz_config.specs.Document.{text_at, name_from, policy_from, peer_from, primary_of, primaries_of};
+ghost use Rattle.dz_config.specs.Document.{group_in, group_of, groups_of, secret_kept, secret_from, key_in, key_of};
+ghost use Rattle.dz_config.specs.Document.{catalog_in, catalog_of, catalogs_of, host_from, downstream_host, hosts_of};
+ghost use Rattle.dz_config.specs.Document.{settings_of};
 ghost use Rattle.dz_config.specs.Reading.{both, made, read_in, gathered};
 
 use crate::fault::ConfigFault;

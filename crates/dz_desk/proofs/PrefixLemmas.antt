@@ -1,5 +1,6 @@
 -- Lists that begin with others.
-use Rattle.std.proofs.Common.{◌≡◌, ℕ, zero, suc, ◌≤◌, List, [], ◌∷◌, ◌++◌, length, Some, slice_get, refl, sym, ap, ◌∙◌, append_assoc, length-append, arith}
+use Rattle.std.proofs.Common.{◌≡◌, ℕ, zero, suc, ◌≤◌, List, [], ◌∷◌, ◌++◌, length, Some, slice_get, refl, sym, ap, ◌∙◌}
+use Rattle.std.proofs.Common.{append_assoc, length-append, arith}
 use Rattle.std.proofs.lemmas.List.{append-nil}
 use mathlib.Core.List.{IsPrefix}
 
@@ -21,7 +22,8 @@ module _ {A : Type 0} where
   tails x y xs ys p = (cc (p.1), (p.0, cc (p.1)))
 
   -- of two that begin one list, the shorter begins the other
-  pub prefix_shorter : (xs ys whole : List A) → IsPrefix xs whole → IsPrefix ys whole → length xs ≤ length ys → IsPrefix xs ys
+  pub prefix_shorter : (xs ys whole : List A) → IsPrefix xs whole → IsPrefix ys whole → length xs ≤ length ys
+      → IsPrefix xs ys
   prefix_shorter [] ys whole p q less = (ys, refl)
   prefix_shorter (x ∷ xs) [] whole p q less = absurd (omega arith)
   prefix_shorter (x ∷ xs) (y ∷ ys) [] p q less = absurd (cc (p.1))
@@ -41,7 +43,8 @@ module _ {A : Type 0} where
       cc (t.0, prefix_whole xs ys t.1 (omega arith))
 
   -- an element keeps its place
-  pub prefix_get : (xs ys : List A) (place : ℕ) (x : A) → IsPrefix xs ys → slice_get xs place ≡ Some x → slice_get ys place ≡ Some x
+  pub prefix_get : (xs ys : List A) (place : ℕ) (x : A) → IsPrefix xs ys → slice_get xs place ≡ Some x
+      → slice_get ys place ≡ Some x
   prefix_get [] ys place x p there = absurd cc
   prefix_get (z ∷ xs) [] place x p there = absurd (cc (p.1))
   prefix_get (z ∷ xs) (y ∷ ys) zero x p there = cc (p.1, there)

@@ -23,12 +23,16 @@ pub keeps_later : (x y : Page) (seats : List (Option Page)) → Keeps x seats �
 keeps_later x y seats keeps goes n seen at = seen_later seen x y (keeps n seen at) goes
 
 -- ---- a seat that comes to see what fits, and a further seat
-pub seat_sees : (x : Page) (seats : List (Option Page)) (n : ℕ) (seen : Option Page) → Keeps x seats → WasSeen seen x → Keeps x (set seats n seen)
+pub seat_sees : (x : Page) (seats : List (Option Page)) (n : ℕ) (seen : Option Page) → Keeps x seats → WasSeen seen x
+    → Keeps x (set seats n seen)
 seat_sees x seats n seen keeps fits j other at =
-    ⊎_elim (λ (own : (j ≡ n) × (seen ≡ other)). subst (λ (o : Option Page). WasSeen o x) own.1 fits) (λ (else : (j ≢ n) × (get_elem? seats j ≡ some other)). keeps j other else.1) (at_set seats n j seen other at)
+    ⊎_elim (λ (own : (j ≡ n) × (seen ≡ other)). subst (λ (o : Option Page). WasSeen o x) own.1 fits)
+    (λ (else : (j ≢ n) × (get_elem? seats j ≡ some other)). keeps j other else.1) (at_set seats n j seen other at)
 
-pub seat_more : (x : Page) (seats : List (Option Page)) (seen : Option Page) → Keeps x seats → WasSeen seen x → Keeps x (seats ++ seen ∷ [])
-seat_more x seats seen keeps fits j other at = ⊎_elim (keeps j other) (λ (own : seen ≡ other). subst (λ (o : Option Page). WasSeen o x) own fits) (at_snoc seats seen other j at)
+pub seat_more : (x : Page) (seats : List (Option Page)) (seen : Option Page) → Keeps x seats → WasSeen seen x
+    → Keeps x (seats ++ seen ∷ [])
+seat_more x seats seen keeps fits j other at = ⊎_elim (keeps j other)
+    (λ (own : seen ≡ other). subst (λ (o : Option Page). WasSeen o x) own fits) (at_snoc seats seen other j at)
 
 -- ---- the steps
 no_seats : (x : Page) → Keeps x []
@@ -51,11 +55,14 @@ pub enters : (n : ℕ) (before : Option Page) → Turns Keeps n before (λ x. x)
 enters n before x = shows n before x x (goes_self x)
 
 pub tells : (n : ℕ) (seen : Option Page) → Forks Keeps n seen seen seen
-tells n seen x seats keeps at = seat_more x (set seats n seen) seen (seat_sees x seats n seen keeps (keeps n seen at)) (keeps n seen at)
+tells n seen x seats keeps at =
+    seat_more x (set seats n seen) seen (seat_sees x seats n seen keeps (keeps n seen at)) (keeps n seen at)
 
-pub learns : (n : ℕ) (before : Option Page) (other : ℕ) (noted : Option Page) → Merges Keeps n before other noted noted None
+pub learns : (n : ℕ) (before : Option Page) (other : ℕ) (noted : Option Page)
+    → Merges Keeps n before other noted noted None
 learns n before other noted x seats keeps at apart there =
     let fits : WasSeen noted x =
-    ⊎_elim (λ (own : (other ≡ n) × (noted ≡ noted)). absurd (apart own.0)) (λ (else : (other ≢ n) × (get_elem? seats other ≡ some noted)). keeps other noted else.1)
+    ⊎_elim (λ (own : (other ≡ n) × (noted ≡ noted)). absurd (apart own.0))
+    (λ (else : (other ≢ n) × (get_elem? seats other ≡ some noted)). keeps other noted else.1)
     (at_set seats n other noted noted there) in
     seat_sees x (set seats n noted) other None (seat_sees x seats n noted keeps fits) tt

@@ -14,6 +14,7 @@ IsHeard may_fail list peer zone (Heard heard witness) = heard ≡ heard_at list 
 IsHeard may_fail list peer zone LogFault = may_fail
 
 -- the witness of one that was heard says so
-abbrev pub IsWitnessed : {W : Type 0} → (W → List Entry → Peer → Name → notify.Heard → Type 0) → List Entry → Peer → Name → Hearing W → Type 0
+abbrev pub IsWitnessed : {W : Type 0} → (W → List Entry → Peer → Name → notify.Heard → Type 0) → List Entry → Peer
+    → Name → Hearing W → Type 0
 IsWitnessed witnesses list peer zone (Heard heard witness) = witnesses witness list peer zone heard
 IsWitnessed witnesses list peer zone LogFault = ⊤

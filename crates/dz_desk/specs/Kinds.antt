@@ -8,7 +8,8 @@ use Rattle.dz_history.specs.Legal.{IsLegal}
 use Rattle.dz_desk.specs.Seen.{Page, Goes}
 use Rattle.dz_desk.specs.Rule.{Keeps}
 
--- a desk at a moment: the published list and its table, and what each end saw last: the publisher, each reading, each note
+-- a desk at a moment: the published list and its table, and what each end saw last: the publisher, each reading, each
+-- note
 pub record DeskAt : Type 0 where
   pub published : Page
   pub table : List SlotOf

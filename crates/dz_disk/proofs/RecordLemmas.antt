@@ -1,14 +1,18 @@
 -- What the records of a file are.
-use Rattle.std.proofs.Common.{◌≡◌, ◌≢◌, ℕ, zero, suc, ◌+◌, ◌<◌, ◌≤◌, Bool, true, false, cond, List, [], ◌∷◌, ◌++◌, length, take, drop, refl, sym, ap, ◌∙◌, arith, append_assoc, length-append, length-drop}
+use Rattle.std.proofs.Common.{◌≡◌, ◌≢◌, ℕ, zero, suc, ◌+◌, ◌<◌, ◌≤◌, Bool, true, false, cond, List, [], ◌∷◌, ◌++◌}
+use Rattle.std.proofs.Common.{length, take, drop, refl, sym, ap, ◌∙◌, arith, append_assoc, length-append, length-drop}
 use Rattle.std.specs.Prelude.{◌==◌}
 use Rattle.std.specs.Int.{w64, to_be_bytes, from_be_bytes}
-use Rattle.std.proofs.lemmas.Bool.{and_from, and_left, and_right, eq-eqb, ne_eqb, le-leb, lt-leb, cond-true, cond-false}
+use Rattle.std.proofs.lemmas.Bool.{and_from, and_left, and_right, eq-eqb, ne_eqb, le-leb, lt-leb, cond-true}
+use Rattle.std.proofs.lemmas.Bool.{cond-false}
 use Rattle.std.proofs.lemmas.List.{take_at, drop_at, append-nil}
 use Rattle.std.proofs.lemmas.Nat.{from_be_bytes-to_be_bytes_8}
-use Rattle.dz_disk.specs.RecordLog.{body, log, size_of, payload_of, following, is_open, records_within, records, IsPayload, ArePayloads}
+use Rattle.dz_disk.specs.RecordLog.{body, log, size_of, payload_of, following, is_open, records_within, records}
+use Rattle.dz_disk.specs.RecordLog.{IsPayload, ArePayloads}
 
 module _ (reads : List ℕ → Bool) where
-  same_within : (j k : ℕ) (file : List ℕ) → length file ≤ j → length file ≤ k → records_within reads j file ≡ records_within reads k file
+  same_within : (j k : ℕ) (file : List ℕ) → length file ≤ j → length file ≤ k
+      → records_within reads j file ≡ records_within reads k file
   unfolding records_within
   same_within zero zero file a b = refl
   same_within zero (suc k) [] a b = refl
@@ -18,17 +22,20 @@ module _ (reads : List ℕ → Bool) where
   same_within (suc j) (suc k) [] a b = refl
   same_within (suc j) (suc k) (g ∷ rest) a b =
       ap (λ r. cond (is_open reads g rest) (payload_of rest ∷ r) [])
-      (same_within j k (following rest) (omega (arith, a, length-drop (8 + size_of rest) rest)) (omega (arith, b, length-drop (8 + size_of rest) rest)))
+      (same_within j k (following rest) (omega (arith, a, length-drop (8 + size_of rest) rest))
+      (omega (arith, b, length-drop (8 + size_of rest) rest)))
 
   pub records_nil : records reads [] ≡ []
   unfolding records records_within
   records_nil = refl
 
-  pub records_cons : (gate : ℕ) (rest : List ℕ) → records reads (gate ∷ rest) ≡ cond (is_open reads gate rest) (payload_of rest ∷ records reads (following rest)) []
+  pub records_cons : (gate : ℕ) (rest : List ℕ) → records reads (gate ∷ rest)
+      ≡ cond (is_open reads gate rest) (payload_of rest ∷ records reads (following rest)) []
   unfolding records records_within
   records_cons gate rest =
       ap (λ r. cond (is_open reads gate rest) (payload_of rest ∷ r) [])
-      (same_within (length rest) (length (following rest)) (following rest) (omega (arith, length-drop (8 + size_of rest) rest)) (omega arith))
+      (same_within (length rest) (length (following rest)) (following rest)
+      (omega (arith, length-drop (8 + size_of rest) rest)) (omega arith))
 
   pub shut : (gate : ℕ) (rest : List ℕ) → is_open reads gate rest ≡ false → records reads (gate ∷ rest) ≡ []
   shut gate rest never = records_cons gate rest ∙ cond-false _ _ _ never
@@ -67,7 +74,8 @@ module _ (reads : List ℕ → Bool) (p more : List ℕ) (is : IsPayload reads p
 
   pub size_is : size_of (body p ++ more) ≡ length p
   size_is =
-      ap (λ l. from_be_bytes w64 (take 8 l)) parts ∙ ap (λ l. from_be_bytes w64 l) (take_at (to_be_bytes w64 (length p)) (p ++ more) 8 refl)
+      ap (λ l. from_be_bytes w64 (take 8 l)) parts
+      ∙ ap (λ l. from_be_bytes w64 l) (take_at (to_be_bytes w64 (length p)) (p ++ more) 8 refl)
       ∙ from_be_bytes-to_be_bytes_8 (length p) is.short
 
   pub payload_is : payload_of (body p ++ more) ≡ p
@@ -84,7 +92,8 @@ module _ (reads : List ℕ → Bool) (p more : List ℕ) (is : IsPayload reads p
   unfolding is_open
   opens =
       and_from _ _ (eq-eqb 1 1 refl)
-      (and_from _ _ (le-leb _ _ (omega (arith, size_is, length-append (body p) more, length-body p))) (ap reads payload_is ∙ is.readable))
+      (and_from _ _ (le-leb _ _ (omega (arith, size_is, length-append (body p) more, length-body p)))
+      (ap reads payload_is ∙ is.readable))
 
   pub records_first : records reads (1 ∷ (body p ++ more)) ≡ p ∷ records reads more
   records_first =
@@ -93,7 +102,8 @@ module _ (reads : List ℕ → Bool) (p more : List ℕ) (is : IsPayload reads p
       ∙ ap (λ l. p ∷ records reads l) after_is
 
 -- whole records, and whatever records the rest has
-pub records_log : (reads : List ℕ → Bool) (list : List (List ℕ)) (end : List ℕ) → ArePayloads reads list → records reads (log list ++ end) ≡ list ++ records reads end
+pub records_log : (reads : List ℕ → Bool) (list : List (List ℕ)) (end : List ℕ) → ArePayloads reads list
+    → records reads (log list ++ end) ≡ list ++ records reads end
 records_log reads [] end fits = refl
 records_log reads (p ∷ ps) end fits =
     ap (λ l. records reads (1 ∷ l)) (append_assoc (body p) (log ps) end)
@@ -104,16 +114,28 @@ pub log_push : (list : List (List ℕ)) (p end : List ℕ) → log (list ++ p �
 log_push [] p end = ap (λ l. 1 ∷ (l ++ end)) (append-nil (body p))
 log_push (q ∷ qs) p end =
     ap (λ l. 1 ∷ l)
-    (append_assoc (body q) (log (qs ++ p ∷ [])) end ∙ ap (λ l. body q ++ l) (log_push qs p end) ∙ sym (append_assoc (body q) (log qs) (1 ∷ (body p ++ end))))
+    (append_assoc (body q) (log (qs ++ p ∷ [])) end ∙ ap (λ l. body q ++ l) (log_push qs p end)
+    ∙ sym (append_assoc (body q) (log qs) (1 ∷ (body p ++ end))))
 
-pub length-log_push : (list : List (List ℕ)) (p : List ℕ) → length (log (list ++ p ∷ [])) ≡ length (log list) + 9 + length p
+pub length-log_push : (list : List (List ℕ)) (p : List ℕ)
+    → length (log (list ++ p ∷ [])) ≡ length (log list) + 9 + length p
 length-log_push list p =
-    omega (arith, ap length (log_push list p []), length-append (log (list ++ p ∷ [])) [], length-append (log list) (1 ∷ (body p ++ [])), length-append (body p) [], length-body p)
+    omega (
+      arith,
+      ap length (log_push list p []),
+      length-append (log (list ++ p ∷ [])) [],
+      length-append (log list) (1 ∷ (body p ++ [])),
+      length-append (body p) [],
+      length-body p,
+    )
 
-pub fits_push : (reads : List ℕ → Bool) (list : List (List ℕ)) (p : List ℕ) → ArePayloads reads list → IsPayload reads p → ArePayloads reads (list ++ p ∷ [])
+pub fits_push : (reads : List ℕ → Bool) (list : List (List ℕ)) (p : List ℕ) → ArePayloads reads list
+    → IsPayload reads p → ArePayloads reads (list ++ p ∷ [])
 fits_push reads [] p fits is = (is, tt)
 fits_push reads (q ∷ qs) p fits is = (fits.0, fits_push reads qs p fits.1 is)
 
 -- records and an end that has none
-pub records_shut : (reads : List ℕ → Bool) (list : List (List ℕ)) (file end : List ℕ) → ArePayloads reads list → file ≡ log list ++ end → records reads end ≡ [] → records reads file ≡ list
-records_shut reads list file end fits are none = ap (λ l. records reads l) are ∙ records_log reads list end fits ∙ ap (λ l. list ++ l) none ∙ append-nil list
+pub records_shut : (reads : List ℕ → Bool) (list : List (List ℕ)) (file end : List ℕ) → ArePayloads reads list
+    → file ≡ log list ++ end → records reads end ≡ [] → records reads file ≡ list
+records_shut reads list file end fits are none =
+    ap (λ l. records reads l) are ∙ records_log reads list end fits ∙ ap (λ l. list ++ l) none ∙ append-nil list

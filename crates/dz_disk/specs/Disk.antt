@@ -35,13 +35,15 @@ pub record Passes (was now : ℕ) (then since : ℕ → List ℕ → Type 0) (ma
   pub all : (t : ℕ) (c : List ℕ) → t ≤ was → then t c → since t c
 
 -- a crash at any moment from the old state to the new one leaves a file that satisfies P
-pub record Leaves {D : Type 0} (clock : D → ℕ) (left_from : D → ℕ → List ℕ → Type 0) (old new : D) (P : List ℕ → Type 0) : Type 0 where
+pub record Leaves {D : Type 0} (clock : D → ℕ) (left_from : D → ℕ → List ℕ → Type 0) (old new : D)
+    (P : List ℕ → Type 0) : Type 0 where
   pub later : clock old ≤ clock new
   pub each : (c : List ℕ) → left_from new (clock old) c → P c
   pub longer : (t : ℕ) (c : List ℕ) → t ≤ clock old → left_from new t c → left_from old t c ⊎ P c
 
 -- nothing but reads: the file is as before, and a crash at any moment leaves what it might have left before
-pub record IsQuiet {D : Type 0} (file : D → Option (List ℕ)) (may_leave : D → List ℕ → Type 0) (clock : D → ℕ) (left_from : D → ℕ → List ℕ → Type 0) (old new : D) : Type 0 where
+pub record IsQuiet {D : Type 0} (file : D → Option (List ℕ)) (may_leave : D → List ℕ → Type 0) (clock : D → ℕ)
+    (left_from : D → ℕ → List ℕ → Type 0) (old new : D) : Type 0 where
   pub same : file new ≡ file old
   pub crash : (c : List ℕ) → may_leave new c → may_leave old c
   pub leaves : Leaves clock left_from old new (may_leave old)

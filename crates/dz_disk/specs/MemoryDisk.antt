@@ -28,8 +28,13 @@ place at s = min at (length s.octets)
 -- the state after one more act
 abbrev pub after : State → DiskAct → State
 after s (act.Wrote at piece) =
-    record { sure = s.sure; ranges = record { at = place at s; count = length piece.items } ∷ s.ranges; octets = put (place at s) piece.items s.octets }
-after s (act.Tried at count) = record { sure = s.sure; ranges = record { at = at; count = count } ∷ s.ranges; octets = s.octets }
+    record {
+      sure = s.sure;
+      ranges = record { at = place at s; count = length piece.items } ∷ s.ranges;
+      octets = put (place at s) piece.items s.octets;
+    }
+after s (act.Tried at count) =
+    record { sure = s.sure; ranges = record { at = at; count = count } ∷ s.ranges; octets = s.octets }
 after s act.Synced = begun s.octets
 
 -- the state after these acts on a disk that began with these octets

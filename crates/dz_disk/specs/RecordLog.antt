@@ -1,5 +1,6 @@
 -- Meaning: a file as a list of records, each preceded by a gate.
-use Rattle.std.specs.Prelude.{◌≡◌, ◌⊎◌, ◌+◌, ◌<◌, ◌≤◌, ◌^◌, ◌&&◌, ◌==◌, ℕ, zero, suc, Bool, false, true, nat_le, if◌then◌else◌, List, [], ◌∷◌, ◌++◌, length, take, drop, Option, Some, None}
+use Rattle.std.specs.Prelude.{◌≡◌, ◌⊎◌, ◌+◌, ◌<◌, ◌≤◌, ◌^◌, ◌&&◌, ◌==◌, ℕ, zero, suc, Bool, false, true, nat_le}
+use Rattle.std.specs.Prelude.{if◌then◌else◌, List, [], ◌∷◌, ◌++◌, length, take, drop, Option, Some, None}
 use Rattle.std.specs.List.{AllByRecursion}
 use Rattle.std.specs.Int.{w64, to_be_bytes, from_be_bytes}
 use Rattle.dz_disk.specs.Disk.{IsSure}
@@ -33,12 +34,13 @@ following rest = drop (8 + size_of rest) rest
 unfoldable pub is_open : (List ℕ → Bool) → ℕ → List ℕ → Bool
 is_open reads gate rest = (gate == 1) && (nat_le (8 + size_of rest) (length rest) && reads (payload_of rest))
 
--- the payloads of the records, in order, up to the first gate that isn't open; each record takes at least one octet, so
--- there are no more records than octets
+-- the payloads of the records, in order, up to the first gate that isn't open; each record takes at least one octet,
+-- so there are no more records than octets
 unfoldable pub records_within : (List ℕ → Bool) → ℕ → List ℕ → List (List ℕ)
 records_within reads zero file = []
 records_within reads (suc most) [] = []
-records_within reads (suc most) (gate ∷ rest) = if is_open reads gate rest then payload_of rest ∷ records_within reads most (following rest) else []
+records_within reads (suc most) (gate ∷ rest) =
+    if is_open reads gate rest then payload_of rest ∷ records_within reads most (following rest) else []
 
 -- the payloads of the records of a file, in order
 unfoldable pub records : (List ℕ → Bool) → List ℕ → List (List ℕ)
@@ -75,7 +77,8 @@ IsBeforeOrAfter reads list last file = (records reads file ≡ list) ⊎ (record
 
 -- an index and the offset of a file's closed gate: the index is of the file's records, the gate follows them, and all
 -- of the file is on the disk
-pub record IsSettled {I : Type 0} (reads : List ℕ → Bool) (is_of : I → List (List ℕ) → Type 0) (may_leave : List ℕ → Type 0) (index : I) (end : ℕ) (file : List ℕ) : Type 0 where
+pub record IsSettled {I : Type 0} (reads : List ℕ → Bool) (is_of : I → List (List ℕ) → Type 0)
+    (may_leave : List ℕ → Type 0) (index : I) (end : ℕ) (file : List ℕ) : Type 0 where
   pub rest : IsAtRest (records reads file) file
   pub fits : ArePayloads reads (records reads file)
   pub ends : end ≡ length (log (records reads file))
@@ -83,7 +86,8 @@ pub record IsSettled {I : Type 0} (reads : List ℕ → Bool) (is_of : I → Lis
   pub known : is_of index (records reads file)
 
 -- the same for a log, as long as no call of its disk has failed
-pub record IsLog {I : Type 0} (reads : List ℕ → Bool) (is_of : I → List (List ℕ) → Type 0) (told : Option (List ℕ)) (may_leave : List ℕ → Type 0) (index : I) (end : ℕ) (has_failed : Bool) : Type 0 where
+pub record IsLog {I : Type 0} (reads : List ℕ → Bool) (is_of : I → List (List ℕ) → Type 0) (told : Option (List ℕ))
+    (may_leave : List ℕ → Type 0) (index : I) (end : ℕ) (has_failed : Bool) : Type 0 where
   pub within : end ≤ limit
   pub kept : has_failed ≡ false → (file : List ℕ) → told ≡ Some file → IsSettled reads is_of may_leave index end file
 
@@ -96,9 +100,11 @@ pub record LogOf (D I : Type 0) : Type 0 where
   pub has_failed : Bool
 
 -- a file was opened: its records are as before, and it is settled
-abbrev pub Opens : {I : Type 0} → (List ℕ → Bool) → (I → List (List ℕ) → Type 0) → Option (List ℕ) → Option (List ℕ) → (List ℕ → Type 0) → I → ℕ → Type 0
+abbrev pub Opens : {I : Type 0} → (List ℕ → Bool) → (I → List (List ℕ) → Type 0) → Option (List ℕ) → Option (List ℕ)
+    → (List ℕ → Type 0) → I → ℕ → Type 0
 Opens reads is_of before now may_leave index end = (old : List ℕ) → before ≡ Some old
-    → (new : List ℕ) × (now ≡ Some new) × (records reads new ≡ records reads old) × IsSettled reads is_of may_leave index end new
+    → (new : List ℕ) × (now ≡ Some new) × (records reads new ≡ records reads old)
+    × IsSettled reads is_of may_leave index end new
 
 -- a file that is reported now was reported before
 abbrev pub WasTold : Option (List ℕ) → Option (List ℕ) → Type 0
@@ -106,7 +112,8 @@ WasTold before now = (new : List ℕ) → now ≡ Some new → (old : List ℕ) 
 
 -- a record was added to the records
 abbrev pub Joins : (List ℕ → Bool) → Option (List ℕ) → Option (List ℕ) → List ℕ → Type 0
-Joins reads before now payload = (old : List ℕ) → before ≡ Some old → (new : List ℕ) × (now ≡ Some new) × (records reads new ≡ records reads old ++ payload ∷ [])
+Joins reads before now payload = (old : List ℕ) → before ≡ Some old
+    → (new : List ℕ) × (now ≡ Some new) × (records reads new ≡ records reads old ++ payload ∷ [])
 
 -- the first octets, of this number, or none where there are fewer
 abbrev pub IsPart : Option (List ℕ) → ℕ → List ℕ → Type 0

@@ -17,11 +17,13 @@ IsLeftAmong list due before file = (file ≡ before) ⊎ IsLeftAt list due file
 
 -- all of them were added to the records, in order
 abbrev pub JoinInOrder : (List ℕ → Bool) → Option (List ℕ) → Option (List ℕ) → List (List ℕ) → Type 0
-JoinInOrder reads before now due = (old : List ℕ) → before ≡ Some old → (new : List ℕ) × (now ≡ Some new) × (records reads new ≡ records reads old ++ due)
+JoinInOrder reads before now due = (old : List ℕ) → before ≡ Some old
+    → (new : List ℕ) × (now ≡ Some new) × (records reads new ≡ records reads old ++ due)
 
 -- a number of them were added to the records, the first ones
 abbrev pub SomeJoin : (List ℕ → Bool) → Option (List ℕ) → Option (List ℕ) → List (List ℕ) → Type 0
-SomeJoin reads before now due = (old : List ℕ) → before ≡ Some old → (new : List ℕ) × (count : ℕ) × (now ≡ Some new) × (records reads new ≡ records reads old ++ take count due)
+SomeJoin reads before now due = (old : List ℕ) → before ≡ Some old
+    → (new : List ℕ) × (count : ℕ) × (now ≡ Some new) × (records reads new ≡ records reads old ++ take count due)
 
 -- for one of them there is no room after the records
 abbrev pub HasNoRoom : ℕ → List (List ℕ) → Type 0

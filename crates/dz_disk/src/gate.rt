@@ -1,6 +1,7 @@
 //! Writes that are on the disk before the call returns: a gate that is closed, and a record that is added.
 
-ghost use Rattle.std.specs.Prelude.{◌≡◌, ◌≢◌, ◌<◌, ◌≤◌, ◌^◌, ◌⊎◌, [], ◌∷◌, ◌++◌, ℕ, List, Option, Some, None, length, take, slice_get, option_map, IfOk, OnOk};
+ghost use Rattle.std.specs.Prelude.{◌≡◌, ◌≢◌, ◌<◌, ◌≤◌, ◌^◌, ◌⊎◌, [], ◌∷◌, ◌++◌, ℕ, List, Option, Some, None, length};
+ghost use Rattle.std.specs.Prelude.{take, slice_get, option_map, IfOk, OnOk};
 ghost use Rattle.dz_io.specs.Device.{HasCause};
 ghost use Rattle.dz_disk.specs.Disk.{put, IsTorn, IsSure, Leaves};
 ghost use Rattle.dz_disk.specs.RecordLog.{body, log, IsAtRest, IsLeft, WasTold};

@@ -1,6 +1,7 @@
 //! A disk in memory, whose writes a crash may tear.
 
-ghost use Rattle.std.specs.Prelude.{◌≡◌, ◌<◌, ◌≤◌, ◌⊎◌, ℕ, List, [], ◌∷◌, ◌++◌, Some, length, is_err, option_map, IsErr, IsOk, IsTrue, IfOk, OnOk, OnErr};
+ghost use Rattle.std.specs.Prelude.{◌≡◌, ◌<◌, ◌≤◌, ◌⊎◌, ℕ, List, [], ◌∷◌, ◌++◌, Some, length, is_err, option_map};
+ghost use Rattle.std.specs.Prelude.{IsErr, IsOk, IsTrue, IfOk, OnOk, OnErr};
 ghost use Rattle.dz_io.specs.Counts.{HasRisen};
 ghost use Rattle.dz_io.specs.Device.{HasCause};
 ghost use Rattle.dz_io.specs.Memory.{is_to_fail, one_more, after_call, no_calls};

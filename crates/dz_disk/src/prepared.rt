@@ -3,7 +3,8 @@
 ghost use Rattle.std.specs.Prelude.{◌≡◌, ◌<◌, ◌≤◌, ℕ, List, Some, length, IfOk, IsErrOf};
 ghost use Rattle.dz_io.specs.Device.{HasCauseOf};
 ghost use Rattle.dz_disk.specs.Disk.{Leaves};
-ghost use Rattle.dz_disk.specs.RecordLog.{limit, log, records, IsPayload, ArePayloads, IsLeft, MayLeaveOnly, Opens, WasTold};
+ghost use Rattle.dz_disk.specs.RecordLog.{limit, log, records, IsPayload, ArePayloads, IsLeft, MayLeaveOnly, Opens};
+ghost use Rattle.dz_disk.specs.RecordLog.{WasTold};
 
 use crate::gate::close_gate;
 use crate::scan::read_log;

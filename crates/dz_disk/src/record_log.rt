@@ -1,9 +1,11 @@
 //! A list of records on a disk, to which records are added.
 
-ghost use Rattle.std.specs.Prelude.{◌≡◌, ◌⊎◌, ◌↔◌, ◌+◌, ◌<◌, ◌≤◌, ◌^◌, ℕ, List, Some, Err, true, false, length, drop, option_map, IfOk, IfErr, OnOk, IsErrOf};
+ghost use Rattle.std.specs.Prelude.{◌≡◌, ◌⊎◌, ◌↔◌, ◌+◌, ◌<◌, ◌≤◌, ◌^◌, ℕ, List, Some, Err, true, false, length, drop};
+ghost use Rattle.std.specs.Prelude.{option_map, IfOk, IfErr, OnOk, IsErrOf};
 ghost use Rattle.dz_io.specs.Counts.{HasRisen};
 ghost use Rattle.dz_disk.specs.Disk.{Leaves, IsQuiet};
-ghost use Rattle.dz_disk.specs.RecordLog.{limit, log, records, IsPayload, ArePayloads, IsLeft, MayLeaveOnly, IsSettled, Opens, Joins, IsPart};
+ghost use Rattle.dz_disk.specs.RecordLog.{limit, log, records, IsPayload, ArePayloads, IsLeft, MayLeaveOnly};
+ghost use Rattle.dz_disk.specs.RecordLog.{IsSettled, Opens, Joins, IsPart};
 
 use crate::gate::{join, stage};
 use crate::prepared::prepare;

@@ -1,6 +1,7 @@
 //! Reading the records of a file.
 
-ghost use Rattle.std.specs.Prelude.{◌≡◌, ◌+◌, ◌<◌, ◌≤◌, ◌^◌, ℕ, List, Option, Some, length, take, drop, option_map, IfOk, IfSome, IsErrOf};
+ghost use Rattle.std.specs.Prelude.{◌≡◌, ◌+◌, ◌<◌, ◌≤◌, ◌^◌, ℕ, List, Option, Some, length, take, drop, option_map};
+ghost use Rattle.std.specs.Prelude.{IfOk, IfSome, IsErrOf};
 ghost use Rattle.std.specs.Int.{w64, to_be_bytes};
 ghost use Rattle.dz_io.specs.Device.{HasCause, HasCauseOf};
 ghost use Rattle.dz_disk.specs.Disk.{IsQuiet};

@@ -16,17 +16,21 @@ use Rattle.dz_fetch.proofs.GainLemmas.{gains_none, tells_gained}
 pub none_written : (query : Octets) (held : Option Octets) → GainsPrefix query held held
 none_written query held = (0, omega arith, gains_none held)
 
-pub all_written : (query : Octets) (before after : Option Octets) → Gains query before after → GainsPrefix query before after
+pub all_written : (query : Octets) (before after : Option Octets) → Gains query before after
+    → GainsPrefix query before after
 all_written query before after gained = (length query, omega arith, rw (take-length query) gained)
 
 -- it was written before the transfer was read, whatever came of that
-pub asked_by : (result : Fetched) (query : Octets) (before after : Option Octets) → Gains query before after → IsAsked result query before after
+pub asked_by : (result : Fetched) (query : Octets) (before after : Option Octets) → Gains query before after
+    → IsAsked result query before after
 asked_by (fetched.Finished read) query before after gained = gained
 asked_by fetched.LinkFault query before after gained = all_written query before after gained
 asked_by fetched.OutOfMemory query before after gained = all_written query before after gained
 
 -- the link that was asked and read goes to the primary
-pub fetched_over : (result : Fetched) (job : JobOf) (held0 held1 given0 given1 left : Option Octets) (faults : ℕ) → Tells [] held0 → Tells [] given0 → IsAsked result (query_of job) held0 held1 → IsTaken result job given0 given1 left
+pub fetched_over : (result : Fetched) (job : JobOf) (held0 held1 given0 given1 left : Option Octets) (faults : ℕ)
+    → Tells [] held0 → Tells [] given0 → IsAsked result (query_of job) held0 held1
+    → IsTaken result job given0 given1 left
     → IsFetched result job (Some (dialled job.flight.primary given1 left held1 faults))
 fetched_over (fetched.Finished read) job held0 held1 given0 given1 left faults unwritten unread asked taken = (
   refl,
@@ -38,6 +42,12 @@ fetched_over (fetched.Finished read) job held0 held1 given0 given1 left faults u
   },
 )
 fetched_over fetched.LinkFault job held0 held1 given0 given1 left faults unwritten unread asked taken =
-    record { peer = refl; written = (asked.0, tells_gained (take asked.0 (query_of job)) held0 held1 unwritten asked.2) }
+    record {
+      peer = refl;
+      written = (asked.0, tells_gained (take asked.0 (query_of job)) held0 held1 unwritten asked.2);
+    }
 fetched_over fetched.OutOfMemory job held0 held1 given0 given1 left faults unwritten unread asked taken =
-    record { peer = refl; written = (asked.0, tells_gained (take asked.0 (query_of job)) held0 held1 unwritten asked.2) }
+    record {
+      peer = refl;
+      written = (asked.0, tells_gained (take asked.0 (query_of job)) held0 held1 unwritten asked.2);
+    }

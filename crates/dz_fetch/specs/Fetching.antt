@@ -66,7 +66,8 @@ links_of None = []
 links_of (Some link) = link ∷ []
 
 -- a job's transfer was fetched over at most one link, which joined those that came back to the dialer
-pub record IsFetch (result : Fetched) (job : JobOf) (before after : Option (List Dialled)) (faults now : ℕ) : Type 0 where
+pub record IsFetch (result : Fetched) (job : JobOf) (before after : Option (List Dialled))
+    (faults now : ℕ) : Type 0 where
   pub link : Option Dialled
   pub fetched : IsFetched result job link
   pub gains : Gains (links_of link) before after

@@ -34,7 +34,8 @@ peer_is a b e f = λ i. record { address = e i; port = f i }
 
 peer_decides : (a b : Peer) → Decides (same_peer a b) (a ≡ b)
 peer_decides a b =
-    by_parts (same_peer a b) (Decides-and (bytes_eq a.address b.address) (a.port == b.port) (bytes_eq-Decides a.address b.address) (unsigned_Decides a.port b.port))
+    by_parts (same_peer a b) (Decides-and (bytes_eq a.address b.address) (a.port == b.port)
+    (bytes_eq-Decides a.address b.address) (unsigned_Decides a.port b.port))
     (λ p. peer_is a b p.0 p.1) (λ e. (ap (λ (x : Peer). x.address) e, ap (λ (x : Peer). x.port) e))
 
 record IsSameQuery (a b : Flight) : Type 0 where
@@ -47,25 +48,48 @@ query_decides : (a b : Flight) → Decides (same_query a b) (IsSameQuery a b)
 query_decides a b =
     by_parts (same_query a b)
     (Decides-and (same_ask a.ask b.ask) _ (ask_decides a.ask b.ask)
-    (Decides-and (a.id == b.id) _ (unsigned_Decides a.id b.id) (Decides-and (same_peer a.primary b.primary) (a.moment == b.moment) (peer_decides a.primary b.primary) (unsigned_Decides a.moment b.moment))))
-    (λ p. record { ask = p.0; id = p.1.0; primary = p.1.1.0; moment = p.1.1.1 }) (λ q. (q.ask, (q.id, (q.primary, q.moment))))
+    (Decides-and (a.id == b.id) _ (unsigned_Decides a.id b.id) (Decides-and (same_peer a.primary b.primary)
+    (a.moment == b.moment) (peer_decides a.primary b.primary) (unsigned_Decides a.moment b.moment))))
+    (λ p. record { ask = p.0; id = p.1.0; primary = p.1.1.0; moment = p.1.1.1 })
+    (λ q. (q.ask, (q.id, (q.primary, q.moment))))
 
-flight_is : (a b : Flight) → a.ticket ≡ b.ticket → a.entries ≡ b.entries → a.zone ≡ b.zone → a.incarnation ≡ b.incarnation → IsSameQuery a b → a ≡ b
-flight_is a b t l z n q = λ i. record { ticket = t i; entries = l i; zone = z i; incarnation = n i; ask = q.ask i; id = q.id i; primary = q.primary i; moment = q.moment i }
+flight_is : (a b : Flight) → a.ticket ≡ b.ticket → a.entries ≡ b.entries → a.zone ≡ b.zone
+    → a.incarnation ≡ b.incarnation → IsSameQuery a b → a ≡ b
+flight_is a b t l z n q = λ i. record {
+  ticket = t i;
+  entries = l i;
+  zone = z i;
+  incarnation = n i;
+  ask = q.ask i;
+  id = q.id i;
+  primary = q.primary i;
+  moment = q.moment i;
+}
 
 query_of : (a b : Flight) → a ≡ b → IsSameQuery a b
-query_of a b e = record { ask = ap (λ (x : Flight). x.ask) e; id = ap (λ (x : Flight). x.id) e; primary = ap (λ (x : Flight). x.primary) e; moment = ap (λ (x : Flight). x.moment) e }
+query_of a b e = record {
+  ask = ap (λ (x : Flight). x.ask) e;
+  id = ap (λ (x : Flight). x.id) e;
+  primary = ap (λ (x : Flight). x.primary) e;
+  moment = ap (λ (x : Flight). x.moment) e;
+}
 
 flight_decides : (a b : Flight) → Decides (same_flight a b) (a ≡ b)
 flight_decides a b =
     by_parts (same_flight a b)
-    (Decides-and (same_number a b) _ (Decides-and (a.ticket == b.ticket) (a.entries == b.entries) (unsigned_Decides a.ticket b.ticket) (unsigned_Decides a.entries b.entries))
-    (Decides-and (same_name a.zone b.zone) _ (same_decides a.zone b.zone) (Decides-and (a.incarnation == b.incarnation) (same_query a b) (unsigned_Decides a.incarnation b.incarnation) (query_decides a b))))
+    (Decides-and (same_number a b) _ (Decides-and (a.ticket == b.ticket) (a.entries == b.entries)
+    (unsigned_Decides a.ticket b.ticket) (unsigned_Decides a.entries b.entries))
+    (Decides-and (same_name a.zone b.zone) _ (same_decides a.zone b.zone) (Decides-and (a.incarnation == b.incarnation)
+    (same_query a b) (unsigned_Decides a.incarnation b.incarnation) (query_decides a b))))
     (λ p. flight_is a b p.0.0 p.0.1 p.1.0 p.1.1.0 p.1.1.1)
-    (λ e. ((ap (λ (x : Flight). x.ticket) e, ap (λ (x : Flight). x.entries) e), (ap (λ (x : Flight). x.zone) e, (ap (λ (x : Flight). x.incarnation) e, query_of a b e))))
+    (λ e. (
+      (ap (λ (x : Flight). x.ticket) e, ap (λ (x : Flight). x.entries) e),
+      (ap (λ (x : Flight). x.zone) e, (ap (λ (x : Flight). x.incarnation) e, query_of a b e)),
+    ))
 
 -- ---- jobs in flight
-pub among_decides : (flight : Flight) (fs : List Flying) → Decides (list_any (λ f. same_flight f.flight flight) fs) (IsAmong flight (map job_in fs))
+pub among_decides : (flight : Flight) (fs : List Flying)
+    → Decides (list_any (λ f. same_flight f.flight flight) fs) (IsAmong flight (map job_in fs))
 unfolding IsAmong
 among_decides flight [] = (λ t. absurd (cc), λ a. absurd a)
 among_decides flight (f ∷ fs) = elim (cases_Bool (same_flight f.flight flight)) [
@@ -79,6 +103,7 @@ among_decides flight (f ∷ fs) = elim (cases_Bool (same_flight f.flight flight)
   )
 ]
 
-pub any_ticket : (n : ℕ) (fs : List Flying) → list_any (λ f. f.flight.ticket == n) fs ≡ list_any (λ j. j.flight.ticket == n) (map job_in fs)
+pub any_ticket : (n : ℕ) (fs : List Flying)
+    → list_any (λ f. f.flight.ticket == n) fs ≡ list_any (λ j. j.flight.ticket == n) (map job_in fs)
 any_ticket n [] = refl
 any_ticket n (f ∷ fs) = ap (λ b. (f.flight.ticket == n) || b) (any_ticket n fs)

@@ -6,13 +6,15 @@ use Rattle.dz_job.specs.Job.{JobOf}
 use Rattle.dz_fleet.specs.Core.{Core}
 use Rattle.dz_fleet.specs.Sound.{IsAmong, IsSent, IsSound, IsFlying}
 
-pub among_at : (jobs : List JobOf) (place : ℕ) (job : JobOf) → slice_get jobs place ≡ Some job → IsAmong job.flight jobs
+pub among_at : (jobs : List JobOf) (place : ℕ) (job : JobOf) → slice_get jobs place ≡ Some job
+    → IsAmong job.flight jobs
 unfolding IsAmong
 among_at [] place job e = absurd (cc)
 among_at (j ∷ js) zero job e = inl (let s : j ≡ job = cc in ap (λ (x : JobOf). x.flight) s)
 among_at (j ∷ js) (suc k) job e = inr (among_at js k job e)
 
-pub all_at : {X : Type 0} (P : X → Type 0) (xs : List X) (place : ℕ) (x : X) → AllByRecursion P xs → slice_get xs place ≡ Some x → P x
+pub all_at : {X : Type 0} (P : X → Type 0) (xs : List X) (place : ℕ) (x : X) → AllByRecursion P xs
+    → slice_get xs place ≡ Some x → P x
 all_at P [] place x h e = absurd (cc)
 all_at P (y ∷ ys) zero x h e = let s : y ≡ x = cc in subst P s h.0
 all_at P (y ∷ ys) (suc k) x h e = all_at P ys k x h.1 e

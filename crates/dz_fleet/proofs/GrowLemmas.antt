@@ -1,5 +1,6 @@
 -- The list of taken transfers only grows, whatever happens.
-use Rattle.std.proofs.Common.{◌≡◌, ℕ, Bool, true, false, List, [], ◌∷◌, ◌++◌, refl, sym, ◌∙◌, ap, append_assoc, Some, None}
+use Rattle.std.proofs.Common.{◌≡◌, ℕ, Bool, true, false, List, [], ◌∷◌, ◌++◌, refl, sym, ◌∙◌, ap, append_assoc, Some}
+use Rattle.std.proofs.Common.{None}
 use Rattle.std.specs.Prelude.{Option, if◌then◌else◌}
 use Rattle.std.proofs.lemmas.List.{append-nil}
 use Rattle.dz_name.specs.Words.{Name, Octets}
@@ -9,12 +10,16 @@ use Rattle.dz_history.specs.declared.aftermath.Aftermath.{Aftermath}
 use Rattle.dz_history.specs.declared.entry.Entry.{Entry}
 use Rattle.dz_job.specs.Job.{JobOf}
 use Rattle.dz_job.specs.declared.verdict.Verdict.{Verdict}
-use Rattle.dz_job.specs.declared.verdict.Verdict.TheVariants.{Published, Confirmed, Refused, PolicyRefused, Stale, OutOfMemory}
+use Rattle.dz_job.specs.declared.verdict.Verdict.TheVariants.{Published, Confirmed, Refused, PolicyRefused, Stale}
+use Rattle.dz_job.specs.declared.verdict.Verdict.TheVariants.{OutOfMemory}
 use Rattle.dz_history.specs.declared.aftermath.Aftermath.TheVariants.{Member}
 use Rattle.dz_fleet.specs.declared.due.Due.{Due}
 use Rattle.dz_fleet.specs.declared.due.Due.TheVariants as due
-use Rattle.dz_fleet.specs.Core.{Core, due_of, after_due, ended_of, is_old_serial, entry_for, after_failure, after_refusal, after_success, after_end, used_of, verdict_of, after_verdict, heard_of, after_notify}
-use Rattle.dz_fleet.specs.Events.{Event, asked, ended, starved, failed, notified, next, after_events, IsFrontOf, ListOnlyGrows}
+use Rattle.dz_fleet.specs.Core.{Core, due_of, after_due, ended_of, is_old_serial, entry_for, after_failure}
+use Rattle.dz_fleet.specs.Core.{after_refusal, after_success, after_end, used_of, verdict_of, after_verdict, heard_of}
+use Rattle.dz_fleet.specs.Core.{after_notify}
+use Rattle.dz_fleet.specs.Events.{Event, asked, ended, starved, failed, notified, next, after_events, IsFrontOf}
+use Rattle.dz_fleet.specs.Events.{ListOnlyGrows}
 
 -- ---- lists
 front_same : (xs ys : List Entry) → ys ≡ xs → IsFrontOf xs ys
@@ -34,15 +39,18 @@ end_list : (c : Core) (job : JobOf) (now : ℕ) (o : Option ℕ) → (after_end 
 end_list c job now None = refl
 end_list c job now (Some position) = refl
 
-refused_list : (c : Core) (job : JobOf) (now : ℕ) (b : Bool) → (if b then after_failure c job now else after_refusal c job now).list ≡ c.list
+refused_list : (c : Core) (job : JobOf) (now : ℕ) (b : Bool)
+    → (if b then after_failure c job now else after_refusal c job now).list ≡ c.list
 refused_list c job now true = refl
 refused_list c job now false = refl
 
-success_list : (c : Core) (job : JobOf) (octets : Octets) (aftermath : Aftermath) → IsFrontOf c.list (after_success c job octets aftermath).list
+success_list : (c : Core) (job : JobOf) (octets : Octets) (aftermath : Aftermath)
+    → IsFrontOf c.list (after_success c job octets aftermath).list
 unfolding after_success
 success_list c job octets aftermath = (entry_for job octets ∷ [], refl)
 
-verdict_list : (c : Core) (job : JobOf) (octets : Octets) (now : ℕ) (v : Verdict) → IsFrontOf c.list (after_verdict c job octets now v).list
+verdict_list : (c : Core) (job : JobOf) (octets : Octets) (now : ℕ) (v : Verdict)
+    → IsFrontOf c.list (after_verdict c job octets now v).list
 verdict_list c job octets now (Published position serial aftermath) = success_list c job octets aftermath
 verdict_list c job octets now (Confirmed position serial) = success_list c job octets Member
 verdict_list c job octets now (Refused fault) = front_same _ _ (refused_list c job now (is_old_serial fault))

@@ -22,7 +22,8 @@ use Rattle.dz_fleet.proofs.HandLemmas.{job_is}
 use Rattle.dz_fleet.proofs.TakeLemmas.{stands_some}
 use Rattle.dz_fleet.proofs.WaitLemmas.{seat_stands}
 
-module _ (h : State) (list : List Entry) (tickets : ℕ) (fs : List Flying) (values : List ValuesOf) (k : IsKept h list tickets fs values) (place : ℕ) (seat : Seat) (b : ValuesOf)
+module _ (h : State) (list : List Entry) (tickets : ℕ) (fs : List Flying) (values : List ValuesOf)
+    (k : IsKept h list tickets fs values) (place : ℕ) (seat : Seat) (b : ValuesOf)
     (there : slice_get (seats h) place ≡ Some seat) (is : slice_get values place ≡ Some b) where
   pub job_turn : b.turn < primaries_of (after list) seat.zone
   job_turn =
@@ -32,15 +33,37 @@ module _ (h : State) (list : List Entry) (tickets : ℕ) (fs : List Flying) (val
   pub job_primaries : IsSome (primaries_at (after list) seat.zone)
   job_primaries =
       let at = place_seat h k.state k.apart place seat there in
-      subst (λ s. IsSome (primaries_at s seat.zone)) k.after (primaries_there h k.placed seat.zone (stands_some h seat.zone seat.incarnation (seat_stands h seat at.1)))
+      subst (λ s. IsSome (primaries_at s seat.zone)) k.after
+      (primaries_there h k.placed seat.zone (stands_some h seat.zone seat.incarnation (seat_stands h seat at.1)))
 
-  pub job_made : (now entries : ℕ) (held : Option Zone) (ask : Ask) (primary : Peer) (key : Option Key) → entries ≡ h.count → held ≡ held_at h seat.zone → key ≡ key_at h seat.zone → ask ≡ ask_of held b.whole → primary ≡ primary_at (primaries_at (after list) seat.zone) b.turn
+  pub job_made : (now entries : ℕ) (held : Option Zone) (ask : Ask) (primary : Peer) (key : Option Key)
+      → entries ≡ h.count → held ≡ held_at h seat.zone → key ≡ key_at h seat.zone → ask ≡ ask_of held b.whole
+      → primary ≡ primary_at (primaries_at (after list) seat.zone) b.turn
       → record {
-        flight = record { ticket = tickets + 1; zone = seat.zone; incarnation = seat.incarnation; ask = ask; id = (tickets + 1) % 2 ^ 16; primary = primary; moment = now; entries = entries };
+        flight = record {
+          ticket = tickets + 1;
+          zone = seat.zone;
+          incarnation = seat.incarnation;
+          ask = ask;
+          id = (tickets + 1) % 2 ^ 16;
+          primary = primary;
+          moment = now;
+          entries = entries;
+        };
         held = held;
         key = key;
       } ≡ job_at (core_in list tickets fs values) now place
   job_made now entries held ask primary key n e d f g =
       let count : entries ≡ length list = n ∙ (ap (λ (s : State). s.count) k.after ∙ count_is list k.sound.legal) in
       let v : value_at values place ≡ b = get_or_from_slice_get values place b fresh is in
-      rw (job_is (core_in list tickets fs values) now place seat (subst (λ s. slice_get (seats s) place ≡ Some seat) k.after there), v, f, g, count, e, d, k.after) refl
+      rw (
+        job_is (core_in list tickets fs values) now place seat
+            (subst (λ s. slice_get (seats s) place ≡ Some seat) k.after there),
+        v,
+        f,
+        g,
+        count,
+        e,
+        d,
+        k.after,
+      ) refl

@@ -28,27 +28,34 @@ opened_legal : (config : List CatalogSettings) → IsAllowed config → IsLegal 
 unfolding IsLegalFrom
 opened_legal config allowed = ((refl, allowed), tt)
 
-opened_size : (config : List CatalogSettings) → length (replicate (length config) fresh) ≡ length (seats (opened config))
+opened_size : (config : List CatalogSettings)
+    → length (replicate (length config) fresh) ≡ length (seats (opened config))
 opened_size config = length-replicate (length config) fresh ∙ omega (arith, seats_size (opened config))
 
 fresh_at : (n k : ℕ) → k < n → value_at (replicate n fresh) k ≡ fresh
 fresh_at n k lt = get_or-replicate n k fresh fresh lt
 
-opened_waits : (config : List CatalogSettings) → IsState (opened config) → (place : ℕ) (seat : Seat) → slice_get (seats (opened config)) place ≡ Some seat → IsWaiting (opened config) [] seat (value_at (replicate (length config) fresh) place)
+opened_waits : (config : List CatalogSettings) → IsState (opened config)
+    → (place : ℕ) (seat : Seat) → slice_get (seats (opened config)) place ≡ Some seat
+    → IsWaiting (opened config) [] seat (value_at (replicate (length config) fresh) place)
 opened_waits config ok place seat there =
-    let lt : place < length config = omega (arith, slice_get_within (seats (opened config)) place seat there, seats_size (opened config)) in
+    let lt : place < length config =
+    omega (arith, slice_get_within (seats (opened config)) place seat there, seats_size (opened config)) in
     rw (fresh_at (length config) place lt) record { busy = refl; turn = some_primary (opened config) seat.zone ok }
 
 none_apart : AreApart []
 unfolding AreApart
 none_apart = tt
 
-opened_sound : (config : List CatalogSettings) → IsAllowed config → IsState (opened config) → IsSound (opened_core config)
+opened_sound : (config : List CatalogSettings) → IsAllowed config → IsState (opened config)
+    → IsSound (opened_core config)
 opened_sound config allowed ok = record {
   legal = opened_legal config allowed;
   begun = omega arith;
   sized = opened_size config ∙ sym (ap (λ s. length (seats s)) (opened_state config));
-  waiting = λ place seat there. subst (λ s. IsWaiting s [] seat (value_at (replicate (length config) fresh) place)) (sym (opened_state config)) (opened_waits config ok place seat (subst (λ s. slice_get (seats s) place ≡ Some seat) (opened_state config) there));
+  waiting = λ place seat there. subst (λ s. IsWaiting s [] seat (value_at (replicate (length config) fresh) place))
+      (sym (opened_state config)) (opened_waits config ok place seat
+      (subst (λ s. slice_get (seats s) place ≡ Some seat) (opened_state config) there));
   sent = tt;
   apart = none_apart;
   few = omega arith;
@@ -56,7 +63,8 @@ opened_sound config allowed ok = record {
   most = omega arith;
 }
 
-pub opened_kept : (config : List CatalogSettings) (h : State) → IsAllowed config → h ≡ opened config → IsState h → IsKept h (Setup config ∷ []) 0 [] (replicate (length config) fresh)
+pub opened_kept : (config : List CatalogSettings) (h : State) → IsAllowed config → h ≡ opened config → IsState h
+    → IsKept h (Setup config ∷ []) 0 [] (replicate (length config) fresh)
 opened_kept config h allowed is ok = record {
   after = is ∙ sym (opened_state config);
   state = ok;

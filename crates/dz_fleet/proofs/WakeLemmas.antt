@@ -21,17 +21,21 @@ pub same_busy : (t : Timing) (b : Bool) → t.busy ≡ b → (timer.notified t).
 same_busy t true e = rw e refl
 same_busy t false e = rw e refl
 
-module _ (h : State) (list : List Entry) (tickets : ℕ) (fs : List Flying) (values : List ValuesOf) (k : IsKept h list tickets fs values) (zone : List (List ℕ)) (place : ℕ) where
+module _ (h : State) (list : List Entry) (tickets : ℕ) (fs : List Flying) (values : List ValuesOf)
+    (k : IsKept h list tickets fs values) (zone : List (List ℕ)) (place : ℕ) where
   pub wake_fits : place_at h zone ≡ Some place → place < length values
   wake_fits at = rw (k.sound.sized, ← k.after) (place_within h zone place at)
 
-  pub kept_wake : (v : ValuesOf) → place_at h zone ≡ Some place → slice_get values place ≡ Some v → IsKept h list tickets fs (slice_set values place (notified v))
+  pub kept_wake : (v : ValuesOf) → place_at h zone ≡ Some place → slice_get values place ≡ Some v
+      → IsKept h list tickets fs (slice_set values place (notified v))
   kept_wake v at is =
       let e : value_at values place ≡ v = get_or_from_slice_get values place v fresh is in
-      kept_changed h list tickets fs values place (notified v) k (wake_fits at) (rw e (same_busy v.timing v.timing.busy refl)) (rw e refl)
+      kept_changed h list tickets fs values place (notified v) k (wake_fits at)
+      (rw e (same_busy v.timing v.timing.busy refl)) (rw e refl)
 
   pub wake_core : (v : ValuesOf) → place_at h zone ≡ Some place → slice_get values place ≡ Some v
-      → core_in list tickets fs (slice_set values place (notified v)) ≡ after_notify (core_in list tickets fs values) zone Taken
+      → core_in list tickets fs (slice_set values place (notified v))
+      ≡ after_notify (core_in list tickets fs values) zone Taken
   wake_core v at is =
       let e : value_at values place ≡ v = get_or_from_slice_get values place v fresh is in
       let there : place_at (after list) zone ≡ Some place = subst (λ s. place_at s zone ≡ Some place) k.after at in

@@ -1,6 +1,8 @@
 -- Meaning: the core of the server (RFC 9432 section 5, RFC 1995 section 4, RFC 1996 section 3, RFC 8976 section 4). It
 -- is the list of taken transfers, the jobs in flight, and what each zone waits for; events change them.
-use Rattle.std.specs.Prelude.{ℕ, ◌+◌, ◌-◌, ◌^◌, ◌%◌, ◌==◌, ◌||◌, Bool, true, false, not, nat_le, nat_lt, List, [], ◌∷◌, ◌++◌, length, filter, take, slice_index_or, replicate, position, Option, Some, None, if◌then◌else◌}
+use Rattle.std.specs.Prelude.{ℕ, ◌+◌, ◌-◌, ◌^◌, ◌%◌, ◌==◌, ◌||◌, Bool, true, false, not, nat_le, nat_lt, List, [], ◌∷◌}
+use Rattle.std.specs.Prelude.{◌++◌, length, filter, take, slice_index_or, replicate, position, Option, Some, None}
+use Rattle.std.specs.Prelude.{if◌then◌else◌}
 use Rattle.std.specs.Option.{option_map, option_map_or}
 use Rattle.dz_name.specs.Words.{Name, Octets}
 use Rattle.dz_io.specs.declared.peer.Peer.{Peer}
@@ -35,7 +37,8 @@ use Rattle.dz_job.specs.declared.flight.Flight.{Flight}
 use Rattle.dz_fleet.specs.declared.due.Due.{Due}
 use Rattle.dz_fleet.specs.declared.due.Due.TheVariants as due
 use Rattle.dz_job.specs.declared.verdict.Verdict.{Verdict}
-use Rattle.dz_job.specs.declared.verdict.Verdict.TheVariants.{Published, Confirmed, Refused, PolicyRefused, Stale, OutOfMemory}
+use Rattle.dz_job.specs.declared.verdict.Verdict.TheVariants.{Published, Confirmed, Refused, PolicyRefused, Stale}
+use Rattle.dz_job.specs.declared.verdict.Verdict.TheVariants.{OutOfMemory}
 use Rattle.dz_job.specs.declared.verdict.Failure.{Failure}
 use Rattle.dz_job.specs.declared.verdict.Failure.TheVariants as failures
 use Rattle.dz_job.specs.Job.{JobOf, transfer_for, taken_for, serial_in, refresh_in, retry_in}
@@ -56,7 +59,8 @@ state_of c = after c.list
 
 -- the core of a configuration: each catalog begins
 abbrev pub opened_core : List CatalogSettings → Core
-opened_core config = record { list = Setup config ∷ []; tickets = 0; flight = []; values = replicate (length config) fresh }
+opened_core config =
+    record { list = Setup config ∷ []; tickets = 0; flight = []; values = replicate (length config) fresh }
 
 -- ---- a job is asked for
 -- 16 jobs are in flight, or 2^64 - 2 tickets were handed out
@@ -106,7 +110,11 @@ flight_for c now seat v = record {
 
 -- the job of a zone at this moment, with the version that is held and the key of its catalog
 abbrev pub job_for : Core → ℕ → Seat → ValuesOf → JobOf
-job_for c now seat v = record { flight = flight_for c now seat v; held = held_at (state_of c) seat.zone; key = key_at (state_of c) seat.zone }
+job_for c now seat v = record {
+  flight = flight_for c now seat v;
+  held = held_at (state_of c) seat.zone;
+  key = key_at (state_of c) seat.zone;
+}
 
 -- the job of the zone at a place
 unfoldable pub job_at : Core → ℕ → ℕ → JobOf
@@ -115,7 +123,8 @@ job_at c now place = job_for c now (seat_at (state_of c) place) (value_at c.valu
 -- what is due, where this is the place of the first zone: its job once its moment has come
 abbrev pub due_from : Core → ℕ → Option ℕ → Due
 due_from c now None = due.Idle (quiet_of c now)
-due_from c now (Some place) = if nat_lt now (value_at c.values place).timing.next then due.Idle (quiet_of c now) else due.Job (job_at c now place)
+due_from c now (Some place) = if nat_lt now (value_at c.values place).timing.next then due.Idle (quiet_of c now)
+    else due.Job (job_at c now place)
 
 -- what is due at this moment
 abbrev pub due_of : Core → ℕ → Due
@@ -180,7 +189,8 @@ entry_for job octets = Transfer (taken_for job octets)
 
 -- what zones wait for after a success: this one for its next refresh, from the moment of the job
 abbrev pub succeeded_in : State → Name → ℕ → List ValuesOf → List ValuesOf
-succeeded_in t zone moment values = changed values (place_at t zone) (λ v. succeeded v moment (refresh_in (held_at t zone)))
+succeeded_in t zone moment values =
+    changed values (place_at t zone) (λ v. succeeded v moment (refresh_in (held_at t zone)))
 
 -- the core after a transfer was taken: its entry joins the list
 unfoldable pub after_success : Core → JobOf → Octets → Aftermath → Core
@@ -188,7 +198,9 @@ after_success c job octets aftermath =
     let t = step (state_of c) (entry_for job octets) in
     record (landed c job) {
       list = c.list ++ entry_for job octets ∷ [];
-      values = succeeded_in t job.flight.zone job.flight.moment (values_after (state_of c) c.values aftermath t.fold.members);
+      values =
+          succeeded_in t job.flight.zone job.flight.moment
+          (values_after (state_of c) c.values aftermath t.fold.members);
     }
 
 -- the policy of a zone accepts what the ZONEMD records of a new version say (RFC 8976 section 4)
@@ -211,7 +223,8 @@ used_of job octets = take (octets_used (transfer_for job) octets) octets
 
 -- what is wrong with the signatures of these octets, where the zone's catalog has a key
 unfoldable pub tsig_of : Core → JobOf → Octets → Option TsigFault
-tsig_of c job octets = tsig_in (key_at (state_of c) job.flight.zone) (transfer_for job) (used_of job octets) job.flight.moment
+tsig_of c job octets =
+    tsig_in (key_at (state_of c) job.flight.zone) (transfer_for job) (used_of job octets) job.flight.moment
 
 -- what comes of a transfer once it is known whether it is signed; one that is refused anyway keeps its fault
 abbrev pub screened : Option TsigFault → Decision → Decision
@@ -222,7 +235,8 @@ screened (Some f) (new zone) = transfer.refused (Tsig f)
 
 -- the verdict on a job that ended with these octets
 unfoldable pub verdict_of : Core → JobOf → Octets → Verdict
-verdict_of c job octets = verdict_from c job (screened (tsig_of c job octets) (outcome (transfer_for job) octets)) (ended_of c job)
+verdict_of c job octets =
+    verdict_from c job (screened (tsig_of c job octets) (outcome (transfer_for job) octets)) (ended_of c job)
 
 -- the core after a job that failed, whose incarnation had ended or not
 abbrev pub after_end : Core → JobOf → ℕ → Option ℕ → Core
@@ -233,7 +247,8 @@ after_end c job now None = after_failure c job now
 abbrev pub after_verdict : Core → JobOf → Octets → ℕ → Verdict → Core
 after_verdict c job octets now (Published position serial aftermath) = after_success c job octets aftermath
 after_verdict c job octets now (Confirmed position serial) = after_success c job octets Member
-after_verdict c job octets now (Refused fault) = if is_old_serial fault then after_failure c job now else after_refusal c job now
+after_verdict c job octets now (Refused fault) =
+    if is_old_serial fault then after_failure c job now else after_refusal c job now
 after_verdict c job octets now (PolicyRefused standing) = after_refusal c job now
 after_verdict c job octets now (Stale position) = landed c job
 after_verdict c job octets now OutOfMemory = after_end c job now (ended_of c job)

@@ -36,7 +36,8 @@ next c (notified peer zone) = after_notify c zone (heard_of c peer zone)
 -- a job that ends is this core's, all octets of its transfer are used, and moments are below 2^40
 abbrev pub CanHappen : Core → Event → Type 0
 CanHappen c (asked now memory) = now < 2 ^ 40
-CanHappen c (ended job octets now) = IsFlying c job × ((octets_used (transfer_for job) octets ≡ length octets) × (now < 2 ^ 40))
+CanHappen c (ended job octets now) =
+    IsFlying c job × ((octets_used (transfer_for job) octets ≡ length octets) × (now < 2 ^ 40))
 CanHappen c (starved job now) = IsFlying c job × (now < 2 ^ 40)
 CanHappen c (failed job now) = IsFlying c job × (now < 2 ^ 40)
 CanHappen c (notified peer zone) = ⊤
@@ -56,11 +57,13 @@ IsFrontOf front list = (more : List Entry) × (list ≡ front ++ more)
 
 -- whatever happens, the list of taken transfers only grows
 abbrev pub ListOnlyGrows : Type 0
-ListOnlyGrows = (c : Core) (events more : List Event) → IsFrontOf (after_events c events).list (after_events c (events ++ more)).list
+ListOnlyGrows = (c : Core) (events more : List Event)
+    → IsFrontOf (after_events c events).list (after_events c (events ++ more)).list
 
 -- a property holds of the core of every allowed configuration, and stays so whatever can happen
 abbrev pub Stays : (Core → Type 0) → Type 0
-Stays holds = (config : List CatalogSettings) (events : List Event) → IsAllowed config → CanHappenInTurn (opened_core config) events
+Stays holds = (config : List CatalogSettings) (events : List Event) → IsAllowed config
+    → CanHappenInTurn (opened_core config) events
     → holds (after_events (opened_core config) events)
 
 -- the list stays legal
@@ -74,8 +77,11 @@ CoreStaysSound = Stays IsSound
 -- each call leaves the core after an event: what `due`, `offer` and `notify` ensure says so, and what `settle` and
 -- `fail` ensure is that event
 pub record CallsAreEvents : Type 0 where
-  pub due : (c : Core) (now : ℕ) (answer : Due) (d : Core) → IsDue c now answer d → (memory : Bool) × (d ≡ next c (asked now memory))
-  pub offer : (c : Core) (job : JobOf) (octets : Octets) (now : ℕ) (verdict : Verdict) (d : Core) → IsOffered c job octets now verdict d
+  pub due : (c : Core) (now : ℕ) (answer : Due) (d : Core) → IsDue c now answer d
+      → (memory : Bool) × (d ≡ next c (asked now memory))
+  pub offer : (c : Core) (job : JobOf) (octets : Octets) (now : ℕ) (verdict : Verdict) (d : Core)
+      → IsOffered c job octets now verdict d
       → (d ≡ next c (ended job octets now)) ⊎ (d ≡ next c (starved job now))
-  pub notify : (c : Core) (peer : Peer) (zone : Name) (h : Heard) (d : Core) → h ≡ heard_of c peer zone → d ≡ after_notify c zone h
+  pub notify : (c : Core) (peer : Peer) (zone : Name) (h : Heard) (d : Core) → h ≡ heard_of c peer zone
+      → d ≡ after_notify c zone h
       → d ≡ next c (notified peer zone)

@@ -1,5 +1,6 @@
 -- Meaning: what holds of every core that can come about.
-use Rattle.std.specs.Prelude.{⊤, ◌≡◌, ◌⊎◌, ℕ, ◌+◌, ◌-◌, ◌^◌, ◌<◌, ◌≤◌, ◌==◌, ◌&&◌, Bool, true, false, List, [], ◌∷◌, length, slice_get, Some, None}
+use Rattle.std.specs.Prelude.{⊤, ◌≡◌, ◌⊎◌, ℕ, ◌+◌, ◌-◌, ◌^◌, ◌<◌, ◌≤◌, ◌==◌, ◌&&◌, Bool, true, false, List, [], ◌∷◌}
+use Rattle.std.specs.Prelude.{length, slice_get, Some, None}
 use Rattle.std.specs.List.{AllByRecursion, list_any}
 use mathlib.Core.List.{IsPrefix}
 use Rattle.dz_name.specs.Name.{same_name}
@@ -37,8 +38,10 @@ pub record IsSent (list : List Entry) (tickets : ℕ) (job : JobOf) : Type 0 whe
   pub ticket : job.flight.ticket ≤ tickets
   pub given : IsGiven list job
   pub old : job.flight.incarnation < length list
-  pub standing : ended list job.flight.zone job.flight.incarnation ≡ None → stands (after list) job.flight.zone job.flight.incarnation ≡ true
-  pub held : stands (after list) job.flight.zone job.flight.incarnation ≡ true → job.held ≡ held_at (after list) job.flight.zone
+  pub standing : ended list job.flight.zone job.flight.incarnation ≡ None
+      → stands (after list) job.flight.zone job.flight.incarnation ≡ true
+  pub held : stands (after list) job.flight.zone job.flight.incarnation ≡ true
+      → job.held ≡ held_at (after list) job.flight.zone
 
 -- tickets rise, and no two jobs are of one incarnation
 unfoldable pub AreApart : List JobOf → Type 0
@@ -60,7 +63,8 @@ pub record IsSound (c : Core) : Type 0 where
   pub legal : IsLegal c.list
   pub begun : 0 < length c.list
   pub sized : length c.values ≡ length (seats (state_of c))
-  pub waiting : (place : ℕ) (seat : Seat) → slice_get (seats (state_of c)) place ≡ Some seat → IsWaiting (state_of c) c.flight seat (value_at c.values place)
+  pub waiting : (place : ℕ) (seat : Seat) → slice_get (seats (state_of c)) place ≡ Some seat
+      → IsWaiting (state_of c) c.flight seat (value_at c.values place)
   pub sent : AllByRecursion (IsSent c.list c.tickets) c.flight
   pub apart : AreApart c.flight
   pub few : length c.flight ≤ 16
@@ -77,4 +81,5 @@ IsAmong flight (job ∷ jobs) = (job.flight ≡ flight) ⊎ IsAmong flight jobs
 pub record IsFlying (c : Core) (job : JobOf) : Type 0 where
   pub there : IsAmong job.flight c.flight
   pub given : IsGiven c.list job
-  pub held : stands (state_of c) job.flight.zone job.flight.incarnation ≡ true → job.held ≡ held_at (state_of c) job.flight.zone
+  pub held : stands (state_of c) job.flight.zone job.flight.incarnation ≡ true
+      → job.held ≡ held_at (state_of c) job.flight.zone

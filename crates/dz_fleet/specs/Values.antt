@@ -1,5 +1,6 @@
 -- Meaning: what zones wait for, by their places (RFC 1035 section 3.3.13, RFC 9432 section 5).
-use Rattle.std.specs.Prelude.{ℕ, ◌==◌, ◌&&◌, Bool, List, ◌++◌, length, map, take, slice_set, slice_index_or, Option, Some, None, if◌then◌else◌}
+use Rattle.std.specs.Prelude.{ℕ, ◌==◌, ◌&&◌, Bool, List, ◌++◌, length, map, take, slice_set, slice_index_or, Option}
+use Rattle.std.specs.Prelude.{Some, None, if◌then◌else◌}
 use Rattle.std.specs.Option.{option_map_or, option_eq}
 use Rattle.std.specs.Str.{bytes_eq}
 use Rattle.dz_name.specs.Name.{same_name}
@@ -33,7 +34,8 @@ kept v before m = if same_primaries before m then v else turned_back v
 
 -- the values of a member that was this one before, or none: those of its incarnation, or those of a zone that begins
 abbrev pub carried_from : State → List ValuesOf → MemberOf → Option MemberOf → ValuesOf
-carried_from s values m (Some before) = if before.incarnation == m.incarnation then kept (value_in values (place_at s m.zone)) before m else fresh
+carried_from s values m (Some before) =
+    if before.incarnation == m.incarnation then kept (value_in values (place_at s m.zone)) before m else fresh
 carried_from s values m None = fresh
 
 -- the values of a member after a listing

@@ -10,7 +10,8 @@ use Rattle.dz_history.specs.declared.aftermath.Aftermath.TheVariants.{Member, Br
 use Rattle.dz_history.specs.State.{State}
 use Rattle.dz_history.specs.After.{step, aftermath_of, decision_of}
 use Rattle.dz_job.specs.declared.verdict.Verdict.{Verdict}
-use Rattle.dz_job.specs.declared.verdict.Verdict.TheVariants.{Published, Confirmed, Refused, PolicyRefused, Stale, OutOfMemory}
+use Rattle.dz_job.specs.declared.verdict.Verdict.TheVariants.{Published, Confirmed, Refused, PolicyRefused, Stale}
+use Rattle.dz_job.specs.declared.verdict.Verdict.TheVariants.{OutOfMemory}
 use Rattle.dz_job.specs.Job.{JobOf, transfer_for, taken_for}
 use Rattle.dz_fleet.specs.Values.{relisted_values}
 use Rattle.dz_fleet.specs.Core.{Core, state_of, entry_for, verdict_of}

@@ -8,7 +8,8 @@ ghost use Rattle.dz_history.specs.State.{held_at, primaries_at};
 ghost use Rattle.dz_fleet.specs.Quiet.{IsQuiet};
 ghost use Rattle.dz_fleet.specs.Answers.{IsHanded};
 ghost use Rattle.dz_fleet.specs.Values.{value_at};
-ghost use Rattle.dz_fleet.specs.Core.{state_of, is_full, first_place, quiet_of, ask_of, primary_at, primaries_of, job_at, heard_of, after_notify};
+ghost use Rattle.dz_fleet.specs.Core.{state_of, is_full, first_place, quiet_of, ask_of, primary_at, primaries_of};
+ghost use Rattle.dz_fleet.specs.Core.{job_at, heard_of, after_notify};
 ghost use Rattle.dz_fleet.specs.Answers.{IsDue};
 
 use crate::due::{Due, Quiet};

@@ -1,13 +1,16 @@
 //! Jobs that end.
 
-ghost use Rattle.std.specs.Prelude.{◌≡◌, ◌<◌, ◌≤◌, ◌^◌, ◌==◌, ◌++◌, ◌∷◌, [], Some, None, true, false, not, length, map, filter, option_map, IsSome, if◌then◌else◌};
+ghost use Rattle.std.specs.Prelude.{◌≡◌, ◌<◌, ◌≤◌, ◌^◌, ◌==◌, ◌++◌, ◌∷◌, [], Some, None, true, false, not, length};
+ghost use Rattle.std.specs.Prelude.{map, filter, option_map, IsSome, if◌then◌else◌};
 ghost use Rattle.std.specs.List.{find};
 ghost use Rattle.std.specs.Option.{unwrap_or};
 ghost use Rattle.dz_history.specs.Legal.{CanFollow};
 ghost use Rattle.dz_timer.specs.Values.{failed, refused};
 ghost use Rattle.dz_job.specs.Job.{IsJob, JobOf, transfer_for};
 ghost use Rattle.dz_job.specs.Job.{refresh_in, retry_in};
-ghost use Rattle.dz_fleet.specs.Core.{Core, state_of, ended_of, entry_for, primaries_of, landed, is_old_serial, after_failure, after_refusal, after_success, after_end, settled, failed_core, failure_of};
+ghost use Rattle.dz_fleet.specs.Core.{Core, state_of, ended_of, entry_for, primaries_of, landed, is_old_serial};
+ghost use Rattle.dz_fleet.specs.Core.{after_failure, after_refusal, after_success, after_end, settled, failed_core};
+ghost use Rattle.dz_fleet.specs.Core.{failure_of};
 ghost use Rattle.dz_fleet.specs.Answers.{IsOffered};
 ghost use Rattle.dz_fleet.specs.Weighing.{Fits, Renewed, octets_in, aftermath_in, renewal_for};
 ghost use Rattle.dz_fleet.specs.Sound.{IsFlying};

@@ -14,9 +14,11 @@ pub bytes-append : (xs ys : List ℕ) → AreBytes xs → AreBytes ys → AreByt
 bytes-append [] ys p q = q
 bytes-append (x ∷ xs) ys p q = (p.0, bytes-append xs ys p.1 q)
 
-pub bytes-flat_map : {X : Type 0} (f : X → List ℕ) (P : X → Type 0) → ((x : X) → P x → AreBytes (f x)) → (xs : List X) → AllByRecursion P xs → AreBytes (flat_map f xs)
+pub bytes-flat_map : {X : Type 0} (f : X → List ℕ) (P : X → Type 0) → ((x : X) → P x → AreBytes (f x)) → (xs : List X)
+    → AllByRecursion P xs → AreBytes (flat_map f xs)
 bytes-flat_map f P each [] all = tt
-bytes-flat_map f P each (x ∷ xs) all = bytes-append (f x) (flat_map f xs) (each x all.0) (bytes-flat_map f P each xs all.1)
+bytes-flat_map f P each (x ∷ xs) all =
+    bytes-append (f x) (flat_map f xs) (each x all.0) (bytes-flat_map f P each xs all.1)
 
 pub bytes-take : (n : ℕ) (xs : List ℕ) → AreBytes xs → AreBytes (take n xs)
 bytes-take zero xs p = tt

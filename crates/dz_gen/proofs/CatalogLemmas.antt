@@ -1,5 +1,7 @@
 -- The catalog's first transfer, message by message, comes to a valid version.
-use Rattle.std.proofs.Common.{◌≡◌, ℕ, ◌+◌, ◌*◌, ◌<◌, ◌≤◌, Bool, true, false, List, [], ◌∷◌, ◌++◌, length, refl, sym, ◌∙◌, ap, subst, arith, append-nil, append_assoc, length-append, inl, inr, Some, None, is_gt}
+use Rattle.std.proofs.Common.{◌≡◌, ℕ, ◌+◌, ◌*◌, ◌<◌, ◌≤◌, Bool, true, false, List, [], ◌∷◌, ◌++◌, length, refl, sym}
+use Rattle.std.proofs.Common.{◌∙◌, ap, subst, arith, append-nil, append_assoc, length-append, inl, inr, Some, None}
+use Rattle.std.proofs.Common.{is_gt}
 use Rattle.std.specs.Prelude.{codes, flat_map, filter, map, not, ◌==◌, ◌&&◌, ◌||◌, if◌then◌else◌}
 use Rattle.std.specs.List.{AllByRecursion, list_any, count_by}
 use Rattle.std.proofs.lemmas.Bool.{cases_Bool}
@@ -15,7 +17,8 @@ use Rattle.dz_name.specs.declared.dns.TheConstants.{TYPE_NS, TYPE_AXFR}
 use Rattle.dz_name.proofs.PartLemmas.{within_suffix}
 use Rattle.dz_record.specs.Record.{Record, same_record, record_order}
 use Rattle.dz_record.specs.Records.{distinct, insertion, in_order}
-use Rattle.dz_zone.specs.Valid.{some_two, at_apex, no_soa, soa_twice, soa_below, no_ns, out_of_zone, too_many, clash, both_are, fault_of}
+use Rattle.dz_zone.specs.Valid.{some_two, at_apex, no_soa, soa_twice, soa_below, no_ns, out_of_zone, too_many, clash}
+use Rattle.dz_zone.specs.Valid.{both_are, fault_of}
 use Rattle.dz_zone.specs.Version.{zone_of}
 use Rattle.dz_zonemd.specs.Acceptance.{accepts}
 use Rattle.dz_zonemd.specs.Standing.{standing, zonemds, is_zonemd}
@@ -43,7 +46,8 @@ use Rattle.dz_gen.proofs.CanonicalLemmas.{Respects, same_parts, not_false, filte
 use Rattle.dz_gen.proofs.MessageLemmas.{IsZone}
 use Rattle.dz_gen.proofs.ReadingLemmas.{zones}
 use Rattle.dz_gen.proofs.SentLemmas.{IsSmall, fits, judged, answered, frame_size, asks, question_is}
-use Rattle.dz_gen.proofs.SmallLemmas.{zone_named, node_named, group_named, catalog_named, version_named, soa_small, invalid_small, pointer_small, text_small}
+use Rattle.dz_gen.proofs.SmallLemmas.{zone_named, node_named, group_named, catalog_named, version_named, soa_small}
+use Rattle.dz_gen.proofs.SmallLemmas.{invalid_small, pointer_small, text_small}
 use Rattle.dz_gen.proofs.SpelledLemmas.{IsFour, four_digits, zone_is, node_is, group_is}
 
 -- ---- lists of records

@@ -1,5 +1,6 @@
 -- The catalog's change comes to a valid version.
-use Rattle.std.proofs.Common.{◌≡◌, ℕ, zero, suc, ◌<◌, ◌≤◌, ◌^◌, Bool, true, false, List, [], ◌∷◌, length, refl, sym, ◌∙◌, ap, subst, arith, inl, inr, Some, None}
+use Rattle.std.proofs.Common.{◌≡◌, ℕ, zero, suc, ◌<◌, ◌≤◌, ◌^◌, Bool, true, false, List, [], ◌∷◌, length, refl, sym}
+use Rattle.std.proofs.Common.{◌∙◌, ap, subst, arith, inl, inr, Some, None}
 use Rattle.std.specs.Prelude.{codes, flat_map, filter, not, ◌==◌, ◌&&◌, ◌||◌, if◌then◌else◌}
 use Rattle.std.specs.List.{AllByRecursion, list_any, find, range_with_len}
 use Rattle.std.specs.Option.{option_map_or}
@@ -37,8 +38,12 @@ use Rattle.dz_gen.proofs.ReadingLemmas.{zones}
 use Rattle.dz_gen.proofs.SentLemmas.{IsSmall, same_number, one_decides}
 use Rattle.dz_gen.proofs.SmallLemmas.{moved_named, catalog_named, soa_small, pointer_small}
 use Rattle.dz_gen.proofs.SpelledLemmas.{four_digits, node_is, moved_is}
-use Rattle.dz_gen.proofs.CanonicalLemmas.{canonical_twice, Respects, canonical_filter, not_false, filtered_any, canonical_any, same_respects, other_respects, same_parts, joins}
-use Rattle.dz_gen.proofs.CatalogLemmas.{each_more, few_filter, few_members, ns_respects, all_append, any_no, none_kept, all_filter, cat, IsBeside, catalog_is, below, kinds_differ, first, server, first_small, version_beside, server_beside, node_small, group_small, zone_name, members_beside, distinct_valid, zone_accepted}
+use Rattle.dz_gen.proofs.CanonicalLemmas.{canonical_twice, Respects, canonical_filter, not_false, filtered_any}
+use Rattle.dz_gen.proofs.CanonicalLemmas.{canonical_any, same_respects, other_respects, same_parts, joins}
+use Rattle.dz_gen.proofs.CatalogLemmas.{each_more, few_filter, few_members, ns_respects, all_append, any_no, none_kept}
+use Rattle.dz_gen.proofs.CatalogLemmas.{all_filter, cat, IsBeside, catalog_is, below, kinds_differ, first, server}
+use Rattle.dz_gen.proofs.CatalogLemmas.{first_small, version_beside, server_beside, node_small, group_small, zone_name}
+use Rattle.dz_gen.proofs.CatalogLemmas.{members_beside, distinct_valid, zone_accepted}
 
 -- ---- one change
 abbrev node_one : Record

@@ -1,5 +1,6 @@
 -- The transfers of each zone of the script come to what they are for.
-use Rattle.std.proofs.Common.{◌≡◌, ℕ, ◌<◌, ◌^◌, Bool, true, false, List, [], ◌∷◌, ◌++◌, refl, sym, ◌∙◌, ap, subst, arith}
+use Rattle.std.proofs.Common.{◌≡◌, ℕ, ◌<◌, ◌^◌, Bool, true, false, List, [], ◌∷◌, ◌++◌, refl, sym, ◌∙◌, ap, subst}
+use Rattle.std.proofs.Common.{arith}
 use Rattle.std.specs.Prelude.{codes, if◌then◌else◌}
 use Rattle.std.specs.List.{AllByRecursion}
 use Rattle.std.specs.Str.{bytes_eq}
@@ -28,9 +29,13 @@ use Rattle.dz_gen.specs.Records.{hourly, soa, address, digest, zone, www, is_str
 use Rattle.dz_gen.specs.Messages.{question, response}
 use Rattle.dz_gen.specs.Outcomes.{first_of, next_of, Brings, ZoneComes, ZonesCome}
 use Rattle.dz_gen.proofs.SentLemmas.{IsSmall, one_decides}
-use Rattle.dz_gen.proofs.SmallLemmas.{zone_named, www_named, mail_named, soa_small, server_small, address_small, zonemd_small}
+use Rattle.dz_gen.proofs.SmallLemmas.{zone_named, www_named, mail_named, soa_small, server_small, address_small}
+use Rattle.dz_gen.proofs.SmallLemmas.{zonemd_small}
 use Rattle.dz_gen.proofs.SpelledLemmas.{IsFour, four_digits, zone_is, www_is, mail_is}
-use Rattle.dz_gen.proofs.ZoneLemmas.{good, version_plain_one, version_strict_one, version_plain_two, version_strict_two, part_plain, part_strict, whole_plain, whole_strict, changes_plain, changes_strict, absent_one, absent_two, digested_one, digested_two, zonemds_one, zonemds_two, serial_one, serial_two}
+use Rattle.dz_gen.proofs.ZoneLemmas.{good, version_plain_one, version_strict_one, version_plain_two}
+use Rattle.dz_gen.proofs.ZoneLemmas.{version_strict_two, part_plain, part_strict, whole_plain, whole_strict}
+use Rattle.dz_gen.proofs.ZoneLemmas.{changes_plain, changes_strict, absent_one, absent_two, digested_one, digested_two}
+use Rattle.dz_gen.proofs.ZoneLemmas.{zonemds_one, zonemds_two, serial_one, serial_two}
 
 -- ---- the records of a zone with these names
 abbrev one_of : ℕ → Name → Name → List Record
@@ -198,9 +203,12 @@ module _ (k : ℕ) (f : IsFour (digits k)) (id : ℕ) (small : id < 2 ^ 16) wher
     changes = record {
       comes =
           ap (λ z. outcome (next_of z id) (response id (question apex TYPE_IXFR ∷ [])
-          (soa apex 2 ∷ soa apex 1 ∷ digest apex 1 one ∷ soa apex 2 ∷ address e 1 k ∷ digest apex 2 second ∷ soa apex 2 ∷ []))) (version_strict_one m same tie (10 ∷ 0 ∷ two k) (10 ∷ 1 ∷ two k) (wire_of (named (codes "ns.invalid."))) (digest apex 1 one).rdata (digest apex 2 second).rdata id)
+          (soa apex 2 ∷ soa apex 1 ∷ digest apex 1 one ∷ soa apex 2 ∷ address e 1 k ∷ digest apex 2 second
+          ∷ soa apex 2 ∷ []))) (version_strict_one m same tie (10 ∷ 0 ∷ two k) (10 ∷ 1 ∷ two k)
+          (wire_of (named (codes "ns.invalid."))) (digest apex 1 one).rdata (digest apex 2 second).rdata id)
           ∙ (one_decides (next_of _ id) apex_named small
-          (soa apex 2 ∷ soa apex 1 ∷ digest apex 1 one ∷ soa apex 2 ∷ address e 1 k ∷ digest apex 2 second ∷ soa apex 2 ∷ [])
+          (soa apex 2 ∷ soa apex 1 ∷ digest apex 1 one ∷ soa apex 2 ∷ address e 1 k ∷ digest apex 2 second
+          ∷ soa apex 2 ∷ [])
           (soa_two, (soa_one, (zonemd_one, (soa_two, (mail_small, (zonemd_two, (soa_two, tt))))))) (omega arith)
           ∙ (ap or_incomplete (changes_strict m same tie (10 ∷ 0 ∷ two k) (10 ∷ 1 ∷ two k) (wire_of (named
           (codes "ns.invalid."))) (digest apex 1 one).rdata (digest apex 2 second).rdata id)

@@ -1,5 +1,6 @@
 -- A number in decimal reads as the number.
-use Rattle.std.proofs.Common.{◌≡◌, ℕ, ◌+◌, ◌-◌, ◌*◌, ◌/◌, ◌%◌, ◌^◌, ◌<◌, ◌≤◌, true, false, List, [], ◌∷◌, ◌++◌, length, get_or, refl, ◌∙◌, arith, Some, length-append}
+use Rattle.std.proofs.Common.{◌≡◌, ℕ, ◌+◌, ◌-◌, ◌*◌, ◌/◌, ◌%◌, ◌^◌, ◌<◌, ◌≤◌, true, false, List, [], ◌∷◌, ◌++◌, length}
+use Rattle.std.proofs.Common.{get_or, refl, ◌∙◌, arith, Some, length-append}
 use Rattle.std.specs.Prelude.{◌==◌, nat_le, decimal}
 use Rattle.std.specs.Char.{is_ascii_digit}
 use Rattle.std.specs.List.{AllByRecursion, list_all, fold}
@@ -31,7 +32,8 @@ pub digits-append : (xs ys : List ℕ) → AreDigits xs → AreDigits ys → Are
 digits-append [] ys p q = q
 digits-append (x ∷ xs) ys p q = (p.0, digits-append xs ys p.1 q)
 
-value-push : (v : ℕ) (xs : List ℕ) (x : ℕ) → fold (λ n digit. n * 10 + (digit - 48)) v (xs ++ x ∷ []) ≡ fold (λ n digit. n * 10 + (digit - 48)) v xs * 10 + (x - 48)
+value-push : (v : ℕ) (xs : List ℕ) (x : ℕ) → fold (λ n digit. n * 10 + (digit - 48)) v (xs ++ x ∷ [])
+    ≡ fold (λ n digit. n * 10 + (digit - 48)) v xs * 10 + (x - 48)
 value-push v [] x = refl
 value-push v (y ∷ xs) x = value-push (v * 10 + (y - 48)) xs x
 
@@ -87,8 +89,10 @@ some_octet : (text : List ℕ) → 48 < get_or text 0 0 → 0 < length text
 some_octet [] first = absurd (omega arith)
 some_octet (c ∷ text) first = omega arith
 
-pub number_tested : (text : List ℕ) → list_all is_ascii_digit text ≡ true → 48 < get_or text 0 0 → IsNumber (value_of text) text
-number_tested text t first = record { digits = digits_from_test text t; some = some_octet text first; first = first; value = refl }
+pub number_tested : (text : List ℕ) → list_all is_ascii_digit text ≡ true → 48 < get_or text 0 0
+    → IsNumber (value_of text) text
+number_tested text t first =
+    record { digits = digits_from_test text t; some = some_octet text first; first = first; value = refl }
 
 -- digits are octets
 pub digit_bytes : (text : List ℕ) → AreDigits text → AreBytes text

@@ -1,5 +1,6 @@
 -- A line of the script is read as what it was written for.
-use Rattle.std.proofs.Common.{◌≡◌, ℕ, ◌-◌, ◌/◌, ◌%◌, ◌^◌, ◌<◌, Bool, true, false, List, [], ◌∷◌, ◌++◌, length, refl, ◌∙◌, ap, arith, Option, Some, Ok}
+use Rattle.std.proofs.Common.{◌≡◌, ℕ, ◌-◌, ◌/◌, ◌%◌, ◌^◌, ◌<◌, Bool, true, false, List, [], ◌∷◌, ◌++◌, length, refl}
+use Rattle.std.proofs.Common.{◌∙◌, ap, arith, Option, Some, Ok}
 use Rattle.std.specs.Prelude.{◌==◌, ◌&&◌, nat_lt, nat_le, nat_eq, slice_index, codes}
 use Rattle.std.specs.List.{AllByRecursion, onto_first}
 use Rattle.std.specs.Str.{bytes_eq}
@@ -57,7 +58,10 @@ hex_field [] p = tt
 hex_field (b ∷ octets) p =
     let fits : b < 256 = p.0 in (
       hex_high (slice_index lower_digits (b / 16)) (b / 16) (IsDigits-lower_digits (b / 16) (omega arith)),
-      (hex_high (slice_index lower_digits (b % 16)) (b % 16) (IsDigits-lower_digits (b % 16) (omega arith)), hex_field octets p.1),
+      (
+        hex_high (slice_index lower_digits (b % 16)) (b % 16) (IsDigits-lower_digits (b % 16) (omega arith)),
+        hex_field octets p.1,
+      ),
     )
 
 no_space : (c : ℕ) → 32 < c → (c == 32) ≡ false
@@ -67,11 +71,13 @@ no_space c high = grind (arith, nat_tests)
 pub first_field : (field rest : Octets) → IsField field → fields_of (field ++ 32 ∷ rest) ≡ field ∷ fields_of rest
 first_field [] rest p = refl
 first_field (c ∷ field) rest p =
-    slice_split-cons_no (λ octet. octet == 32) c (field ++ 32 ∷ rest) (no_space c p.0) ∙ ap (onto_first c) (first_field field rest p.1)
+    slice_split-cons_no (λ octet. octet == 32) c (field ++ 32 ∷ rest) (no_space c p.0)
+    ∙ ap (onto_first c) (first_field field rest p.1)
 
 pub last_field : (field : Octets) → IsField field → fields_of field ≡ field ∷ []
 last_field [] p = refl
-last_field (c ∷ field) p = slice_split-cons_no (λ octet. octet == 32) c field (no_space c p.0) ∙ ap (onto_first c) (last_field field p.1)
+last_field (c ∷ field) p = slice_split-cons_no (λ octet. octet == 32) c field (no_space c p.0)
+    ∙ ap (onto_first c) (last_field field p.1)
 
 -- ---- events
 not_skipped : (c : ℕ) (text : Octets) → 47 < c → is_skipped (c ∷ text) ≡ false
@@ -85,20 +91,23 @@ unfolding line_of
 not_skipped_line line kept = rw kept refl
 
 -- a moment is no word
-moment_in : (c : ℕ) (moment : Octets) (fields : List Octets) → c < 58 → line_in ((c ∷ moment) ∷ fields) ≡ event_line (c ∷ moment) fields
+moment_in : (c : ℕ) (moment : Octets) (fields : List Octets) → c < 58
+    → line_in ((c ∷ moment) ∷ fields) ≡ event_line (c ∷ moment) fields
 moment_in c moment fields low =
     let catalog : nat_eq c 99 ≡ false = grind (arith, nat_tests) in
     let group : nat_eq c 103 ≡ false = grind (arith, nat_tests) in
     rw (catalog, group) refl
 
-moment_first : (moment rest : Octets) → AreDigits moment → 0 < length moment → fields_of (moment ++ 32 ∷ rest) ≡ moment ∷ fields_of rest
+moment_first : (moment rest : Octets) → AreDigits moment → 0 < length moment
+    → fields_of (moment ++ 32 ∷ rest) ≡ moment ∷ fields_of rest
     → line_of (moment ++ 32 ∷ rest) ≡ event_line moment (fields_of rest)
 moment_first [] rest digits some fields = absurd (omega arith)
 moment_first (c ∷ moment) rest digits some fields =
     not_skipped_line ((c ∷ moment) ++ 32 ∷ rest) (not_skipped c (moment ++ 32 ∷ rest) digits.0.0)
     ∙ (ap line_in fields ∙ moment_in c moment (fields_of rest) digits.0.1)
 
-pub event_read : (moment rest : Octets) (m : ℕ) (fields : List Octets) (event : Event) → IsNumber m moment → m < 2 ^ 40 → fields_of rest ≡ fields
+pub event_read : (moment rest : Octets) (m : ℕ) (fields : List Octets) (event : Event) → IsNumber m moment → m < 2 ^ 40
+    → fields_of rest ≡ fields
     → event_of fields ≡ Some event → line_of (moment ++ 32 ∷ rest) ≡ Some (lines.Event m event)
 event_read moment rest m fields event is early cut reads =
     moment_first moment rest is.digits is.some (first_field moment rest (number_field m moment is))
@@ -136,12 +145,14 @@ request_back octets is =
 pub job_said : event_of (codes "job" ∷ []) ≡ Some Job
 job_said = refl
 
-pub take_said : (ticket : ℕ) (octets number hex : Octets) → IsNumber ticket number → ticket < 2 ^ 64 → taken_octets hex ≡ Some octets
+pub take_said : (ticket : ℕ) (octets number hex : Octets) → IsNumber ticket number → ticket < 2 ^ 64
+    → taken_octets hex ≡ Some octets
     → event_of (codes "take" ∷ number ∷ hex ∷ []) ≡ Some (Take ticket octets)
 take_said ticket octets number hex is small back =
     let read : ticket_of number ≡ Some ticket = number_read (2 ^ 64 - 1) ticket number is (omega arith) in
     ap (λ t. take_from t (taken_octets hex)) read ∙ ap (take_from (Some ticket)) back
 
 pub ask_said : (octets hex : Octets) → octets_in hex ≡ Some octets
-    → event_of (codes "udp" ∷ codes "198.51.100.1" ∷ hex ∷ []) ≡ Some (Ask Udp (record { address = 198 ∷ 51 ∷ 100 ∷ 1 ∷ []; port = 53 }) octets)
+    → event_of (codes "udp" ∷ codes "198.51.100.1" ∷ hex ∷ [])
+    ≡ Some (Ask Udp (record { address = 198 ∷ 51 ∷ 100 ∷ 1 ∷ []; port = 53 }) octets)
 ask_said octets hex back = ap (ask_from Udp (Some (record { address = 198 ∷ 51 ∷ 100 ∷ 1 ∷ []; port = 53 }))) back

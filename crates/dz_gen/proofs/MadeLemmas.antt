@@ -1,5 +1,6 @@
 -- What the script's names, records and messages are made of passes each check: they can all be made.
-use Rattle.std.proofs.Common.{◌≡◌, ℕ, ◌+◌, ◌<◌, ◌≤◌, ◌^◌, Bool, true, false, List, [], ◌∷◌, ◌++◌, length, refl, sym, ◌∙◌, ap, subst, arith, length-append, Ok, Err, None, Result}
+use Rattle.std.proofs.Common.{◌≡◌, ℕ, ◌+◌, ◌<◌, ◌≤◌, ◌^◌, Bool, true, false, List, [], ◌∷◌, ◌++◌, length, refl, sym}
+use Rattle.std.proofs.Common.{◌∙◌, ap, subst, arith, length-append, Ok, Err, None, Result}
 use Rattle.std.specs.Prelude.{IfOk, codes, flat_map, if◌then◌else◌}
 use Rattle.std.specs.List.{AllByRecursion}
 use Rattle.std.specs.Str.{bytes_eq}
@@ -29,11 +30,14 @@ use Rattle.dz_message.specs.Message.{Content}
 use Rattle.dz_message.specs.Writing.{IsAsking, question_octets, message_octets}
 use Rattle.dz_message.proofs.PieceLemmas.{record_size, question_size}
 use Rattle.dz_gen.specs.Texts.{named, numbered, digits, IsSpelled}
-use Rattle.dz_gen.specs.Records.{hourly, soa, catalog, version_property, zone, node, group, is_strict, member, address, www, mail, first_records, second_records, digest, first_digest, second_digest}
+use Rattle.dz_gen.specs.Records.{hourly, soa, catalog, version_property, zone, node, group, is_strict, member, address}
+use Rattle.dz_gen.specs.Records.{www, mail, first_records, second_records, digest, first_digest, second_digest}
 use Rattle.dz_gen.specs.Messages.{question, message, changes}
 use Rattle.dz_gen.proofs.MessageLemmas.{IsZone, length_header}
 use Rattle.dz_gen.proofs.SentLemmas.{IsSmall, small_append, asked_sizes, sizes}
-use Rattle.dz_gen.proofs.SmallLemmas.{catalog_named, version_named, moved_named, www_named, mail_named, soa_small, server_small, invalid_small, pointer_small, text_small, address_small, zonemd_small}
+use Rattle.dz_gen.proofs.SmallLemmas.{catalog_named, version_named, moved_named, www_named, mail_named, soa_small}
+use Rattle.dz_gen.proofs.SmallLemmas.{server_small, invalid_small, pointer_small, text_small, address_small}
+use Rattle.dz_gen.proofs.SmallLemmas.{zonemd_small}
 use Rattle.dz_gen.proofs.SpelledLemmas.{IsFour, four_digits, zone_is, www_is, mail_is, moved_is}
 use Rattle.dz_gen.proofs.CatalogLemmas.{zone_name, node_small, group_small, member_small}
 use Rattle.dz_gen.proofs.ZoneLemmas.{distinct_plain_one, fault_plain_one, distinct_plain_two, fault_plain_two}
@@ -65,7 +69,8 @@ other_text = (_, refl)
 
 pub other_name : IsName (named (codes "other."))
 unfolding name_of_text items labels_from with_label wire_of
-other_name = record { each = (record { some = omega arith; short = omega arith; lower_case = refl }, tt); short = omega arith }
+other_name =
+    record { each = (record { some = omega arith; short = omega arith; lower_case = refl }, tt); short = omega arith }
 
 -- ---- RDATA
 pub soa_is : (serial : ℕ) → is_rdata 6 (soa [] serial).rdata ≡ true
@@ -83,7 +88,8 @@ version_is = (text_small [] root_is_name 0 (1 ∷ codes "2") (omega arith) (omeg
 pub version_made : {E : Type 0} (result : Result Record E) (owner : Name) → owner ≡ named (codes "version.cat.test.")
     → IfOk result (λ r. record_of owner 16 0 (1 ∷ codes "2") ≡ Ok r) → IfOk result (λ r. r ≡ version_property)
 version_made (Ok r) owner is made =
-    let e : ◌≡◌ {A = Result Record RrFault} (Ok (record { owner = owner; kind = 16; ttl = 0; rdata = 1 ∷ codes "2" })) (Ok r) =
+    let e : ◌≡◌ {A = Result Record RrFault}
+    (Ok (record { owner = owner; kind = 16; ttl = 0; rdata = 1 ∷ codes "2" })) (Ok r) =
     rw version_is at made in
     let p : record { owner = owner; kind = 16; ttl = 0; rdata = 1 ∷ codes "2" } ≡ r = cc in
     sym p ∙ ap (λ (o : Name). record { owner = o; kind = 16; ttl = 0; rdata = 1 ∷ codes "2" }) is
@@ -231,7 +237,8 @@ pub fits : (id flags : ℕ) (qs : List Question) → AllByRecursion IsAsking qs 
 unfolding message_octets
 fits id flags qs asking single rs held few = omega (
   arith,
-  length-append (header_octets (message id flags qs rs).header) (flat_map question_octets qs ++ flat_map record_octets rs),
+  length-append (header_octets (message id flags qs rs).header)
+      (flat_map question_octets qs ++ flat_map record_octets rs),
   length_header id flags (length qs) (length rs) 0 0,
   length-append (flat_map question_octets qs) (flat_map record_octets rs),
   asked_sizes qs asking,
@@ -251,7 +258,8 @@ soa_cat serial = soa_small catalog catalog_named serial
 
 pub begins_fits : length (message_octets (message 1 33792 (question catalog TYPE_AXFR ∷ [])
     (soa catalog 1 ∷ hourly catalog TYPE_NS (wire_of (named (codes "invalid."))) ∷ version_property ∷ []))) ≤ 65535
-begins_fits = fits 1 33792 (question catalog TYPE_AXFR ∷ []) (asks catalog TYPE_AXFR catalog_named (omega arith)) (omega arith)
+begins_fits =
+    fits 1 33792 (question catalog TYPE_AXFR ∷ []) (asks catalog TYPE_AXFR catalog_named (omega arith)) (omega arith)
     (soa catalog 1 ∷ hourly catalog TYPE_NS (wire_of (named (codes "invalid."))) ∷ version_property ∷ []) (
       soa_cat 1,
       (
@@ -278,12 +286,14 @@ moved_small =
     (zone 1) (zone_name 1 (is 1 (omega arith) (omega arith)))
 
 pub reset_fits : (id : ℕ) → length (message_octets (message id 33792 (question catalog TYPE_IXFR ∷ [])
-    (soa catalog 2 ∷ soa catalog 1 ∷ node (codes "m") 1 ∷ group 1 ∷ soa catalog 2 ∷ node (codes "r") 1 ∷ soa catalog 2 ∷ [])))
+    (soa catalog 2 ∷ soa catalog 1 ∷ node (codes "m") 1 ∷ group 1 ∷ soa catalog 2 ∷ node (codes "r") 1
+    ∷ soa catalog 2 ∷ [])))
     ≤ 65535
 reset_fits id =
     let one : IsZone 1 = is 1 (omega arith) (omega arith) in
     fits id 33792 (question catalog TYPE_IXFR ∷ []) (asks catalog TYPE_IXFR catalog_named (omega arith)) (omega arith)
-    (soa catalog 2 ∷ soa catalog 1 ∷ node (codes "m") 1 ∷ group 1 ∷ soa catalog 2 ∷ node (codes "r") 1 ∷ soa catalog 2 ∷ [])
+    (soa catalog 2 ∷ soa catalog 1 ∷ node (codes "m") 1 ∷ group 1 ∷ soa catalog 2 ∷ node (codes "r") 1
+    ∷ soa catalog 2 ∷ [])
     (soa_cat 2, (soa_cat 1, (node_small 1 one, (group_small 1 one, (soa_cat 2, (moved_small, (soa_cat 2, tt)))))))
     (omega arith)
 
@@ -292,13 +302,15 @@ module _ (id k : ℕ) (some : 1 ≤ k) (few : k ≤ 1000) where
   first = first_records k ++ first_digest k
 
   pub part_fits : length (message_octets (message id 33792 (question (zone k) TYPE_AXFR ∷ []) first)) ≤ 65535
-  part_fits = fits id 33792 (question (zone k) TYPE_AXFR ∷ []) (asks (zone k) TYPE_AXFR (zone_name k (is k some few)) (omega arith)) (omega arith) first
+  part_fits = fits id 33792 (question (zone k) TYPE_AXFR ∷ [])
+      (asks (zone k) TYPE_AXFR (zone_name k (is k some few)) (omega arith)) (omega arith) first
       (first_small k some few)
       (omega (arith, length-append (first_records k) (first_digest k), few_first k some few))
 
   pub whole_fits : length (message_octets (message id 33792 (question (zone k) TYPE_AXFR ∷ [])
       (first ++ soa (zone k) 1 ∷ []))) ≤ 65535
-  whole_fits = fits id 33792 (question (zone k) TYPE_AXFR ∷ []) (asks (zone k) TYPE_AXFR (zone_name k (is k some few)) (omega arith)) (omega arith)
+  whole_fits = fits id 33792 (question (zone k) TYPE_AXFR ∷ [])
+      (asks (zone k) TYPE_AXFR (zone_name k (is k some few)) (omega arith)) (omega arith)
       (first ++ soa (zone k) 1 ∷ [])
       (small_append first (soa (zone k) 1 ∷ []) (first_small k some few) (soa_of k some few 1, tt))
       (omega (
@@ -323,7 +335,8 @@ module _ (id k : ℕ) (some : 1 ≤ k) (few : k ≤ 1000) where
   pub changes_fits : length (message_octets (message id 33792 (question (zone k) TYPE_IXFR ∷ []) (changes k))) ≤ 65535
   changes_fits =
       let soa_two = soa_of k some few 2 in
-      fits id 33792 (question (zone k) TYPE_IXFR ∷ []) (asks (zone k) TYPE_IXFR (zone_name k (is k some few)) (omega arith)) (omega arith) all
+      fits id 33792 (question (zone k) TYPE_IXFR ∷ [])
+      (asks (zone k) TYPE_IXFR (zone_name k (is k some few)) (omega arith)) (omega arith) all
       (small_append (left ++ second_digest k) (soa (zone k) 2 ∷ [])
       (small_append left (second_digest k)
       (small_append (opening ++ first_digest k) amid

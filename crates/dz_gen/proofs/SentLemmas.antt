@@ -1,5 +1,6 @@
 -- Messages that are written are read back, and their records decide.
-use Rattle.std.proofs.Common.{◌≡◌, ℕ, zero, suc, ◌+◌, ◌*◌, ◌<◌, ◌≤◌, ◌^◌, true, false, List, [], ◌∷◌, ◌++◌, length, refl, sym, ◌∙◌, ap, arith, append-nil, length-append, Option, None, Some, Ok}
+use Rattle.std.proofs.Common.{◌≡◌, ℕ, zero, suc, ◌+◌, ◌*◌, ◌<◌, ◌≤◌, ◌^◌, true, false, List, [], ◌∷◌, ◌++◌, length}
+use Rattle.std.proofs.Common.{refl, sym, ◌∙◌, ap, arith, append-nil, length-append, Option, None, Some, Ok}
 use Rattle.std.specs.Prelude.{flat_map, ◌==◌, nat_lt}
 use Rattle.std.specs.List.{All, AllByRecursion}
 use Rattle.std.proofs.lemmas.Bool.Decides.{nat_tests}
@@ -21,7 +22,8 @@ use Rattle.dz_message.proofs.SpellingLemmas.{spells_is}
 use Rattle.dz_message.proofs.WrittenLemmas.{message_spells}
 use Rattle.dz_take.specs.Form.{form, or_else}
 use Rattle.std.proofs.lemmas.Grind.{flat_map-append}
-use Rattle.dz_take.specs.Outcome.{answers_in, answers, responds, fits_question, judge, decided_from, outcome, or_incomplete}
+use Rattle.dz_take.specs.Outcome.{answers_in, answers, responds, fits_question, judge, decided_from, outcome}
+use Rattle.dz_take.specs.Outcome.{or_incomplete}
 use Rattle.dz_take.specs.Transfer.{Transfer, Decision, kind_of}
 use Rattle.dz_take.specs.declared.ask.Ask.{Ask}
 use Rattle.dz_take.specs.declared.ask.Ask.TheVariants.{Axfr, Ixfr}
@@ -79,7 +81,8 @@ pub same_number : (n : ℕ) → (n == n) ≡ true
 same_number n = grind (arith, nat_tests)
 
 -- a response with a question or none, and some small records
-module _ (t : Transfer) (small : t.id < 2 ^ 16) (qs : List Question) (asking : AllByRecursion IsAsking qs) (single : length qs ≤ 1)
+module _ (t : Transfer) (small : t.id < 2 ^ 16) (qs : List Question) (asking : AllByRecursion IsAsking qs)
+    (single : length qs ≤ 1)
     (rs : List Record) (held : AllByRecursion IsSmall rs) (few : length rs ≤ 20) where
   abbrev content : Content
   content = message t.id 33792 qs rs
@@ -140,7 +143,8 @@ or_nothing None = refl
 or_nothing (Some x) = refl
 
 -- one response with the question decides by its records
-module _ (t : Transfer) (named : IsName t.apex) (small : t.id < 2 ^ 16) (rs : List Record) (held : AllByRecursion IsSmall rs) (few : length rs ≤ 20) where
+module _ (t : Transfer) (named : IsName t.apex) (small : t.id < 2 ^ 16) (rs : List Record)
+    (held : AllByRecursion IsSmall rs) (few : length rs ≤ 20) where
   abbrev asked : Question
   asked = question t.apex (kind_of t.ask)
 

@@ -1,5 +1,6 @@
 -- The records of the zones are records that a zone may hold, with little RDATA.
-use Rattle.std.proofs.Common.{◌≡◌, ℕ, ◌+◌, ◌-◌, ◌<◌, ◌≤◌, ◌^◌, true, [], ◌∷◌, ◌++◌, length, refl, sym, ◌∙◌, subst, arith, append-nil, append_assoc, length-append, Some}
+use Rattle.std.proofs.Common.{◌≡◌, ℕ, ◌+◌, ◌-◌, ◌<◌, ◌≤◌, ◌^◌, true, [], ◌∷◌, ◌++◌, length, refl, sym, ◌∙◌, subst}
+use Rattle.std.proofs.Common.{arith, append-nil, append_assoc, length-append, Some}
 use Rattle.std.specs.Prelude.{◌==◌, nat_le, codes}
 use Rattle.std.proofs.lemmas.Bool.Decides.{nat_tests}
 use Rattle.sha2.specs.Sha512.{sha384}
@@ -285,7 +286,13 @@ module _ (owner : Name) (is : IsName owner) where
   pub pointer_small : (target : Name) → IsName target → IsSmall (hourly owner 12 (wire_of target))
   unfolding fields_of
   pointer_small target also = record {
-    held = record { owner = is; number = omega arith; kind = refl; ttl = omega arith; rdata = name_rdata 12 target refl also };
+    held = record {
+      owner = is;
+      number = omega arith;
+      kind = refl;
+      ttl = omega arith;
+      rdata = name_rdata 12 target refl also;
+    };
     short = omega (arith, also.short);
   }
 

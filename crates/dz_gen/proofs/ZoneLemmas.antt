@@ -52,7 +52,8 @@ module _ (apex : Name) (records : List Record) (serial : ℕ) (octets : Octets) 
   own_twin : (r : Record) → is_twin r r ≡ true
   own_twin r = grind (arith, nat_tests)
 
-  module _ (only : zonemds apex records ≡ digest ∷ []) (found : is_serial apex records serial ≡ true) (small : serial < 2 ^ 32) (over : digested apex records ≡ octets) where
+  module _ (only : zonemds apex records ≡ digest ∷ []) (found : is_serial apex records serial ≡ true)
+      (small : serial < 2 ^ 32) (over : digested apex records ≡ octets) where
     agrees : is_digest (digested apex records) digest ≡ true
     agrees = rw (by_sha384, digest_is) ((bytes_eq-Decides (sha384 octets) (sha384 (digested apex records))).1
         (ap sha384 (sym over)))
@@ -71,7 +72,8 @@ module _ (apex : Name) (records : List Record) (serial : ℕ) (octets : Octets) 
     good = rw (only, digest_verifies) refl
 
 -- a zone with the label z, and octets that are the same as themselves
-module _ (m : Octets) (same : bytes_eq m m ≡ true) (tie : slice_cmp nat_cmp m m ≡ Equal) (address other name digest again : Octets) (id : ℕ) where
+module _ (m : Octets) (same : bytes_eq m m ≡ true) (tie : slice_cmp nat_cmp m m ≡ Equal)
+    (address other name digest again : Octets) (id : ℕ) where
   abbrev pub apex : Name
   apex = (122 ∷ m) ∷ codes "test" ∷ []
 
@@ -293,7 +295,15 @@ module _ (m : Octets) (same : bytes_eq m m ≡ true) (tie : slice_cmp nat_cmp m 
       ≡ Some (new (record { apex = apex; records = sorted_plain_two }))
   changes_plain = form_incremental (next_of held_plain id) held_plain
       (soa apex 2 ∷ soa apex 1 ∷ soa apex 2 ∷ mail ∷ soa apex 2 ∷ [])
-      (record { first = soa apex 2; second = soa apex 1; rest = soa apex 2 ∷ mail ∷ soa apex 2 ∷ []; are = refl; opens = record { soa = soa_here 2; unsettled = unsettled_plain }; base = refl; kind = old_soa })
+      (record {
+        first = soa apex 2;
+        second = soa apex 1;
+        rest = soa apex 2 ∷ mail ∷ soa apex 2 ∷ [];
+        are = refl;
+        opens = record { soa = soa_here 2; unsettled = unsettled_plain };
+        base = refl;
+        kind = old_soa;
+      })
       ∙ (ap (decision_of apex) read_changes
       ∙ (ap (λ fault. Some (checked apex sorted_plain_two fault)) (ap (fault_of apex) distinct_sorted_plain_two
       ∙ fault_sorted_plain_two)
@@ -304,7 +314,15 @@ module _ (m : Octets) (same : bytes_eq m m ≡ true) (tie : slice_cmp nat_cmp m 
       ≡ Some (new (record { apex = apex; records = sorted_strict_two }))
   changes_strict = form_incremental (next_of held_strict id) held_strict
       (soa apex 2 ∷ soa apex 1 ∷ zonemd ∷ soa apex 2 ∷ mail ∷ zonemd_again ∷ soa apex 2 ∷ [])
-      (record { first = soa apex 2; second = soa apex 1; rest = zonemd ∷ soa apex 2 ∷ mail ∷ zonemd_again ∷ soa apex 2 ∷ []; are = refl; opens = record { soa = soa_here 2; unsettled = unsettled_strict }; base = refl; kind = old_soa })
+      (record {
+        first = soa apex 2;
+        second = soa apex 1;
+        rest = zonemd ∷ soa apex 2 ∷ mail ∷ zonemd_again ∷ soa apex 2 ∷ [];
+        are = refl;
+        opens = record { soa = soa_here 2; unsettled = unsettled_strict };
+        base = refl;
+        kind = old_soa;
+      })
       ∙ (ap (decision_of apex) read_changes_strict
       ∙ (ap (λ fault. Some (checked apex sorted_strict_two fault)) (ap (fault_of apex) distinct_sorted_strict_two
       ∙ fault_sorted_strict_two)

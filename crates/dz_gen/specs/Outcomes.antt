@@ -1,5 +1,6 @@
 -- Judge: what comes of the transfers of the script's zones.
-use Rattle.std.specs.Prelude.{◌≡◌, ℕ, ◌<◌, ◌≤◌, ◌^◌, ◌++◌, true, List, ◌∷◌, flat_map, filter, codes, Bool, not, ◌&&◌, None, Some, if◌then◌else◌}
+use Rattle.std.specs.Prelude.{◌≡◌, ℕ, ◌<◌, ◌≤◌, ◌^◌, ◌++◌, true, List, ◌∷◌, flat_map, filter, codes, Bool, not, ◌&&◌}
+use Rattle.std.specs.Prelude.{None, Some, if◌then◌else◌}
 use Rattle.dz_name.specs.Name.{wire_of}
 use Rattle.dz_name.specs.Words.{Name, Octets}
 use Rattle.dz_name.specs.declared.dns.TheConstants.{TYPE_NS}
@@ -14,8 +15,10 @@ use Rattle.dz_take.specs.Outcome.{outcome}
 use Rattle.dz_take.specs.Transfer.{Transfer, new, refused}
 use Rattle.dz_take.specs.declared.ask.Ask.TheVariants.{Axfr, Ixfr}
 use Rattle.dz_take.specs.declared.outcome.TakeFault.TheVariants.{Incomplete}
-use Rattle.dz_gen.specs.Records.{hourly, soa, catalog, version_property, node, group, member, zone, is_strict, first_records, second_records, first_digest, second_digest}
-use Rattle.dz_gen.specs.Messages.{catalog_begins, catalog_member, catalog_ends, catalog_changes, part_of, whole_of, changes_of}
+use Rattle.dz_gen.specs.Records.{hourly, soa, catalog, version_property, node, group, member, zone, is_strict}
+use Rattle.dz_gen.specs.Records.{first_records, second_records, first_digest, second_digest}
+use Rattle.dz_gen.specs.Messages.{catalog_begins, catalog_member, catalog_ends, catalog_changes, part_of, whole_of}
+use Rattle.dz_gen.specs.Messages.{changes_of}
 use Rattle.dz_gen.specs.Script.{numbers}
 use Rattle.dz_gen.specs.Texts.{named}
 
@@ -44,8 +47,8 @@ pub record Brings (policy : Policy) (transfer : Transfer) (octets : Octets) (ver
   pub comes : outcome transfer octets ≡ new version
   pub accepted : accepts policy (standing version.apex version.records) ≡ true
 
--- what comes of zone k's transfers, as answers to queries with this ID: of the part that it is incomplete, of the whole
--- serial 1, and of the changes, to one that holds serial 1, serial 2
+-- what comes of zone k's transfers, as answers to queries with this ID: of the part that it is incomplete, of the
+-- whole serial 1, and of the changes, to one that holds serial 1, serial 2
 pub record ZoneComes (k id : ℕ) : Type 0 where
   pub part : outcome (first_of (zone k) id) (part_of id k) ≡ refused Incomplete
   pub whole : Brings (policy_of k) (first_of (zone k) id) (whole_of id k) (first_version k)
@@ -58,7 +61,8 @@ ZonesCome = (k id : ℕ) → 0 < k → k ≤ 1000 → id < 2 ^ 16 → ZoneComes 
 -- ---- the catalog
 -- all records of the catalog with serial 1
 abbrev pub catalog_records : ℕ → List Record
-catalog_records n = soa catalog 1 ∷ hourly catalog TYPE_NS (wire_of (named (codes "invalid."))) ∷ version_property ∷ flat_map member (numbers n)
+catalog_records n = soa catalog 1 ∷ hourly catalog TYPE_NS (wire_of (named (codes "invalid."))) ∷ version_property
+    ∷ flat_map member (numbers n)
 
 -- the catalog with serial 1
 abbrev pub catalog_version : ℕ → Zone
@@ -66,7 +70,8 @@ catalog_version n = zone_of catalog (catalog_records n)
 
 -- the catalog's first transfer, of one message for each zone and two more, comes to the catalog of all zones
 abbrev pub CatalogComes : ℕ → Type 0
-CatalogComes n = n ≤ 1000 → Brings Present (first_of catalog 1) ((catalog_begins ++ flat_map catalog_member (numbers n)) ++ catalog_ends) (catalog_version n)
+CatalogComes n = n ≤ 1000 → Brings Present (first_of catalog 1)
+    ((catalog_begins ++ flat_map catalog_member (numbers n)) ++ catalog_ends) (catalog_version n)
 
 -- what the catalog's change leaves: all records but its SOA, and the node and the group of the first zone
 abbrev pub is_left : Record → Bool
@@ -78,4 +83,5 @@ changed_version n = zone_of catalog (soa catalog 2 ∷ node (codes "r") 1 ∷ fi
 
 -- the catalog's change, to one that holds serial 1, comes to serial 2
 abbrev pub CatalogChanges : ℕ → ℕ → Type 0
-CatalogChanges n id = 0 < n → n ≤ 1000 → id < 2 ^ 16 → Brings Present (next_of (catalog_version n) id) (catalog_changes id) (changed_version n)
+CatalogChanges n id = 0 < n → n ≤ 1000 → id < 2 ^ 16
+    → Brings Present (next_of (catalog_version n) id) (catalog_changes id) (changed_version n)

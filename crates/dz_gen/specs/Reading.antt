@@ -1,5 +1,6 @@
 -- Judge: the lines of the script, as a reader of scripts takes them.
-use Rattle.std.specs.Prelude.{◌≡◌, ◌≤◌, ℕ, ◌++◌, List, [], ◌∷◌, Some, None, map, filter, flat_map, codes, if◌then◌else◌}
+use Rattle.std.specs.Prelude.{◌≡◌, ◌≤◌, ℕ, ◌++◌, List, [], ◌∷◌, Some, None, map, filter, flat_map, codes}
+use Rattle.std.specs.Prelude.{if◌then◌else◌}
 use Rattle.std.specs.List.{AllByRecursion}
 use Rattle.dz_script.specs.Lines.{lines_of, content, IsClosedLine}
 use Rattle.dz_io.specs.declared.peer.Peer.{Peer}
@@ -12,8 +13,10 @@ use Rattle.dz_script.specs.declared.line.Line.{Line}
 use Rattle.dz_script.specs.declared.line.Line.TheVariants.{Catalog, Group, Event}
 use Rattle.dz_gen.specs.Texts.{named}
 use Rattle.dz_gen.specs.Records.{www}
-use Rattle.dz_gen.specs.Messages.{query, catalog_begins, catalog_member, catalog_ends, catalog_changes, part_of, whole_of, changes_of}
-use Rattle.dz_gen.specs.Script.{numbers, is_tenth, is_changed, first_ticket, again_ticket, catalog_ticket, reset_ticket, change_ticket, script}
+use Rattle.dz_gen.specs.Messages.{query, catalog_begins, catalog_member, catalog_ends, catalog_changes, part_of}
+use Rattle.dz_gen.specs.Messages.{whole_of, changes_of}
+use Rattle.dz_gen.specs.Script.{numbers, is_tenth, is_changed, first_ticket, again_ticket, catalog_ticket}
+use Rattle.dz_gen.specs.Script.{reset_ticket, change_ticket, script}
 
 -- each line has its newline, and without it is read as the line in its place
 pub record IsReadAs (text : Octets) (lines : List Line) : Type 0 where
@@ -31,7 +34,13 @@ host address = record { address = address; port = 53 }
 -- the catalog, whose policy is `present`, and its group `strict`, whose policy is `require`
 abbrev pub setting_lines : List Line
 setting_lines =
-    Catalog (record { name = cat_test; policy = Present; primaries = host (192 ∷ 0 ∷ 2 ∷ 1 ∷ []) ∷ []; groups = []; key = None })
+    Catalog (record {
+      name = cat_test;
+      policy = Present;
+      primaries = host (192 ∷ 0 ∷ 2 ∷ 1 ∷ []) ∷ [];
+      groups = [];
+      key = None;
+    })
     ∷ Group cat_test (record { word = codes "strict"; policy = Require; primaries = host (192 ∷ 0 ∷ 2 ∷ 2 ∷ []) ∷ [] })
     ∷ []
 
@@ -50,7 +59,8 @@ catalog_lines ks = job_lines 1000 1 ((catalog_begins ++ flat_map catalog_member 
 
 -- a zone's first transfer; each tenth breaks off
 abbrev pub first_lines : ℕ → List Line
-first_lines k = job_lines 1000 (first_ticket k) (if is_tenth k then part_of (first_ticket k) k else whole_of (first_ticket k) k)
+first_lines k =
+    job_lines 1000 (first_ticket k) (if is_tenth k then part_of (first_ticket k) k else whole_of (first_ticket k) k)
 
 -- the transfer of a tenth zone once more, whole
 abbrev pub next_lines : ℕ → ℕ → List Line
@@ -58,7 +68,8 @@ next_lines n k = job_lines 1060 (again_ticket n k) (whole_of (again_ticket n k) 
 
 -- the catalog's change, and the first zone's transfer after its reset
 abbrev pub reset_lines : ℕ → List Line
-reset_lines n = job_lines 1100 (catalog_ticket n) (catalog_changes (catalog_ticket n)) ++ job_lines 1100 (reset_ticket n) (whole_of (reset_ticket n) 1)
+reset_lines n = job_lines 1100 (catalog_ticket n) (catalog_changes (catalog_ticket n))
+    ++ job_lines 1100 (reset_ticket n) (whole_of (reset_ticket n) 1)
 
 -- a zone's change to serial 2
 abbrev pub change_lines : ℕ → ℕ → List Line

@@ -20,7 +20,8 @@ times = ((four 100 ++ four 60) ++ four 600) ++ four 30
 
 -- the SOA of a zone at a serial, with these times (RFC 1035 section 3.3.13)
 abbrev pub soa : Name → ℕ → Record
-soa apex serial = hourly apex TYPE_SOA (((wire_of (named (codes "ns.invalid.")) ++ wire_of (named (codes "host.invalid."))) ++ four serial) ++ times)
+soa apex serial = hourly apex TYPE_SOA
+    (((wire_of (named (codes "ns.invalid.")) ++ wire_of (named (codes "host.invalid."))) ++ four serial) ++ times)
 
 -- ---- the catalog (RFC 9432 section 4)
 -- the apex of the catalog, cat.test.
@@ -29,7 +30,8 @@ catalog = named (codes "cat.test.")
 
 -- the version of the catalog's schema, 2 (RFC 9432 section 4.2.1)
 abbrev pub version_property : Record
-version_property = record { owner = named (codes "version.cat.test."); kind = TYPE_TXT; ttl = 0; rdata = 1 ∷ codes "2" }
+version_property =
+    record { owner = named (codes "version.cat.test."); kind = TYPE_TXT; ttl = 0; rdata = 1 ∷ codes "2" }
 
 -- zone k
 abbrev pub zone : ℕ → Name
@@ -78,7 +80,8 @@ second_records k = soa (zone k) 2 ∷ name_server k ∷ address (www k) 0 k ∷ 
 
 -- the ZONEMD record of the version that records make: scheme SIMPLE, SHA-384 (RFC 8976 section 2.2)
 abbrev pub digest : Name → ℕ → List Record → Record
-digest apex serial records = hourly apex TYPE_ZONEMD (four serial ++ (1 ∷ 1 ∷ sha384 (digested apex (zone_of apex records).records)))
+digest apex serial records =
+    hourly apex TYPE_ZONEMD (four serial ++ (1 ∷ 1 ∷ sha384 (digested apex (zone_of apex records).records)))
 
 -- a record that zones of the group `strict` alone have
 abbrev pub if_strict : ℕ → Record → List Record

@@ -2,12 +2,14 @@
 -- transferred; each tenth breaks off and comes again. Then the catalog names the first under another label, which
 -- resets it, and the others change by differences. All are asked for before and after they expire, and a name of no
 -- zone.
-use Rattle.std.specs.Prelude.{ℕ, ◌+◌, ◌-◌, ◌/◌, ◌%◌, ◌++◌, Bool, ◌==◌, ◌&&◌, nat_lt, not, List, filter, flat_map, codes, if◌then◌else◌}
+use Rattle.std.specs.Prelude.{ℕ, ◌+◌, ◌-◌, ◌/◌, ◌%◌, ◌++◌, Bool, ◌==◌, ◌&&◌, nat_lt, not, List, filter, flat_map}
+use Rattle.std.specs.Prelude.{codes, if◌then◌else◌}
 use Rattle.std.specs.List.{range_with_len}
 use Rattle.dz_name.specs.Words.{Octets}
 use Rattle.dz_gen.specs.Texts.{named, transfer, ask_line}
 use Rattle.dz_gen.specs.Records.{www}
-use Rattle.dz_gen.specs.Messages.{query, catalog_begins, catalog_member, catalog_ends, catalog_changes, part_of, whole_of, changes_of}
+use Rattle.dz_gen.specs.Messages.{query, catalog_begins, catalog_member, catalog_ends, catalog_changes, part_of}
+use Rattle.dz_gen.specs.Messages.{whole_of, changes_of}
 
 -- the zones' numbers
 abbrev pub numbers : ℕ → List ℕ
@@ -53,7 +55,8 @@ catalog_text ks = transfer (codes "1000") 1 ((catalog_begins ++ flat_map catalog
 
 -- a zone's first transfer; each tenth breaks off
 abbrev pub first_transfer : ℕ → Octets
-first_transfer k = transfer (codes "1000") (first_ticket k) (if is_tenth k then part_of (first_ticket k) k else whole_of (first_ticket k) k)
+first_transfer k = transfer (codes "1000") (first_ticket k)
+    (if is_tenth k then part_of (first_ticket k) k else whole_of (first_ticket k) k)
 
 -- the transfer of a tenth zone once more, whole
 abbrev pub next_transfer : ℕ → ℕ → Octets
@@ -61,7 +64,8 @@ next_transfer n k = transfer (codes "1060") (again_ticket n k) (whole_of (again_
 
 -- the first zone's label changes, and it is transferred once more
 abbrev pub reset : ℕ → Octets
-reset n = transfer (codes "1100") (catalog_ticket n) (catalog_changes (catalog_ticket n)) ++ transfer (codes "1100") (reset_ticket n) (whole_of (reset_ticket n) 1)
+reset n = transfer (codes "1100") (catalog_ticket n) (catalog_changes (catalog_ticket n))
+    ++ transfer (codes "1100") (reset_ticket n) (whole_of (reset_ticket n) 1)
 
 -- a zone's change to serial 2
 abbrev pub change_transfer : ℕ → ℕ → Octets

@@ -32,7 +32,8 @@ job_line moment = moment ++ codes " job\n"
 
 -- a job gets octets
 abbrev pub take_line : Octets → ℕ → Octets → Octets
-take_line moment ticket octets = moment ++ (codes " take " ++ (decimal ticket ++ (codes " " ++ (encode_lower octets ++ codes "\n"))))
+take_line moment ticket octets =
+    moment ++ (codes " take " ++ (decimal ticket ++ (codes " " ++ (encode_lower octets ++ codes "\n"))))
 
 -- a job is asked for, and gets octets
 abbrev pub transfer : Octets → ℕ → Octets → Octets

@@ -1,7 +1,8 @@
 //! The messages of transfers, and requests.
 ghost use Rattle.std.specs.Prelude.{◌≡◌, ◌≤◌, ◌++◌, [], ◌∷◌, length, IfOk, codes};
 ghost use Rattle.dz_gen.specs.Records.{member, first_records, first_digest as first_digests};
-ghost use Rattle.dz_gen.specs.Messages.{question, message, response, query, catalog_begins, catalog_member, catalog_ends, catalog_changes, part_of, whole_of, changes, changes_of};
+ghost use Rattle.dz_gen.specs.Messages.{question, message, response, query, catalog_begins, catalog_member};
+ghost use Rattle.dz_gen.specs.Messages.{catalog_ends, catalog_changes, part_of, whole_of, changes, changes_of};
 ghost use Rattle.dz_message.specs.Writing.{message_octets};
 ghost use Rattle.dz_message.specs.Answers.{IsWritten};
 ghost use Rattle.dz_name.specs.Name.{IsName};

@@ -8,7 +8,8 @@ ghost use Rattle.dz_zone.specs.Valid.{fault_of};
 ghost use Rattle.dz_zone.specs.Version.{zone_of};
 ghost use Rattle.dz_zonemd.specs.Digested.{digested};
 ghost use Rattle.dz_gen.specs.Texts.{IsSpelled, numbered as spelled};
-ghost use Rattle.dz_gen.specs.Records.{hourly, times, soa, catalog, version_property, zone, node, group, is_strict, name_server, address, www, mail, first_records, second_records, digest};
+ghost use Rattle.dz_gen.specs.Records.{hourly, times, soa, catalog, version_property, zone, node, group, is_strict};
+ghost use Rattle.dz_gen.specs.Records.{name_server, address, www, mail, first_records, second_records, digest};
 
 use crate::script::ZONES;
 use crate::texts::{named, numbered};

@@ -2,7 +2,8 @@
 ghost use Rattle.std.specs.Prelude.{◌≡◌, ◌≤◌, ◌++◌, IfOk, OnOk, filter, flat_map};
 ghost use Rattle.std.specs.List.{All};
 ghost use Rattle.dz_gen.specs.Messages.{catalog_member};
-ghost use Rattle.dz_gen.specs.Script.{numbers, catalog_text, reset, is_tenth, is_changed, settings, first_transfer, next_transfer, change_transfer, asked, transfers, questions, script};
+ghost use Rattle.dz_gen.specs.Script.{numbers, catalog_text, reset, is_tenth, is_changed, settings, first_transfer};
+ghost use Rattle.dz_gen.specs.Script.{next_transfer, change_transfer, asked, transfers, questions, script};
 
 use crate::messages::{
     catalog_begins, catalog_changes, catalog_ends, catalog_member, changes_of, part_of, query,

@@ -17,7 +17,9 @@ read_back flags =
     let t = bit_or flags.truncated 512 in
     let r = bit_or flags.recursion_desired 256 in
     let number : ℕ = flags_number flags in
-    let is : number ≡ q.0 * 32768 + (flags.opcode % 16 * 2048 + (a.0 * 1024 + (t.0 * 512 + (r.0 * 256 + flags.code % 16)))) = omega (arith, q.2, a.2, t.2, r.2) in
+    let is : number
+    ≡ q.0 * 32768 + (flags.opcode % 16 * 2048 + (a.0 * 1024 + (t.0 * 512 + (r.0 * 256 + flags.code % 16)))) =
+    omega (arith, q.2, a.2, t.2, r.2) in
     let response : number / 32768 % 2 ≡ q.0 = omega (arith, q.1, a.1, t.1, r.1) in
     let authoritative : number / 1024 % 2 ≡ a.0 = omega (arith, q.1, a.1, t.1, r.1) in
     let truncated : number / 512 % 2 ≡ t.0 = omega (arith, q.1, a.1, t.1, r.1) in

@@ -1,10 +1,12 @@
 -- Owners by their shape, one label at a time.
-use Rattle.std.proofs.Common.{◌≡◌, ℕ, ◌+◌, ◌-◌, ◌<◌, ◌≤◌, zero, suc, List, [], ◌∷◌, length, drop, get_or, refl, sym, arith, Some, None, add-one}
+use Rattle.std.proofs.Common.{◌≡◌, ℕ, ◌+◌, ◌-◌, ◌<◌, ◌≤◌, zero, suc, List, [], ◌∷◌, length, drop, get_or, refl, sym}
+use Rattle.std.proofs.Common.{arith, Some, None, add-one}
 use Rattle.std.specs.Prelude.{◌≢◌, ◌==◌, nat_le, nat_lt, true, false}
 use Rattle.std.proofs.lemmas.Bool.Decides.{nat_tests}
 use Rattle.dz_header.specs.Shape.{behind_owner, behind_records, shape_of, ◌>>=◌}
 
-pub passed_over : (n : ℕ) (octets : List ℕ) → n ≤ length octets → behind_owner n octets ≡ behind_owner 0 (drop n octets)
+pub passed_over : (n : ℕ) (octets : List ℕ) → n ≤ length octets
+    → behind_owner n octets ≡ behind_owner 0 (drop n octets)
 unfolding behind_owner
 passed_over zero octets h = refl
 passed_over (suc n) [] h = absurd (omega arith)
@@ -21,12 +23,14 @@ unfolding behind_owner
 owner_none [] h = refl
 owner_none (octet ∷ rest) h = absurd (omega arith)
 
-pub owner_ends : (octets : List ℕ) → 0 < length octets → get_or octets 0 0 ≡ 0 → behind_owner 0 octets ≡ Some (drop 1 octets)
+pub owner_ends : (octets : List ℕ) → 0 < length octets → get_or octets 0 0 ≡ 0
+    → behind_owner 0 octets ≡ Some (drop 1 octets)
 unfolding behind_owner
 owner_ends [] h e = absurd (omega arith)
 owner_ends (octet ∷ rest) h e = let a : (octet == 0) ≡ true = grind (arith, nat_tests) in rw a refl
 
-pub owner_label : (octets : List ℕ) → get_or octets 0 0 ≢ 0 → get_or octets 0 0 < 64 → get_or octets 0 0 < length octets → behind_owner 0 (drop (get_or octets 0 0 + 1) octets) ≡ behind_owner 0 octets
+pub owner_label : (octets : List ℕ) → get_or octets 0 0 ≢ 0 → get_or octets 0 0 < 64
+    → get_or octets 0 0 < length octets → behind_owner 0 (drop (get_or octets 0 0 + 1) octets) ≡ behind_owner 0 octets
 unfolding behind_owner
 owner_label [] ne lt h = absurd (omega arith)
 owner_label (octet ∷ rest) ne lt h =
@@ -34,7 +38,8 @@ owner_label (octet ∷ rest) ne lt h =
     let b : nat_le octet 63 ≡ true = grind (arith, nat_tests) in
     rw (add-one, a, b) (sym (passed_over octet rest (omega arith)))
 
-pub owner_cut : (octets : List ℕ) → 0 < length octets → get_or octets 0 0 ≢ 0 → get_or octets 0 0 < 64 → length octets ≤ get_or octets 0 0 → behind_owner 0 octets ≡ None
+pub owner_cut : (octets : List ℕ) → 0 < length octets → get_or octets 0 0 ≢ 0 → get_or octets 0 0 < 64
+    → length octets ≤ get_or octets 0 0 → behind_owner 0 octets ≡ None
 unfolding behind_owner
 owner_cut [] h ne lt le = absurd (omega arith)
 owner_cut (octet ∷ rest) h ne lt le =
@@ -61,7 +66,8 @@ owner_half (octet ∷ rest) le one =
     let e : (length rest == 0) ≡ true = grind (arith, nat_tests) in
     rw (a, b, d, e) refl
 
-pub owner_points : (octets : List ℕ) → 192 ≤ get_or octets 0 0 → 1 < length octets → behind_owner 0 octets ≡ Some (drop 2 octets)
+pub owner_points : (octets : List ℕ) → 192 ≤ get_or octets 0 0 → 1 < length octets
+    → behind_owner 0 octets ≡ Some (drop 2 octets)
 unfolding behind_owner
 owner_points [] le h = absurd (omega arith)
 owner_points (octet ∷ rest) le h =
@@ -71,7 +77,8 @@ owner_points (octet ∷ rest) le h =
     let e : (length rest == 0) ≡ false = grind (arith, nat_tests) in
     rw (a, b, d, e) refl
 
-pub skipped_step : (count i : ℕ) (octets : List ℕ) → i < count → behind_records (count - i) octets ≡ (shape_of octets >>= λ first. behind_records (count - (i + 1)) first.2)
+pub skipped_step : (count i : ℕ) (octets : List ℕ) → i < count
+    → behind_records (count - i) octets ≡ (shape_of octets >>= λ first. behind_records (count - (i + 1)) first.2)
 unfolding behind_records
 skipped_step count i octets h = let e : count - i ≡ suc (count - (i + 1)) = omega arith in rw e refl
 

@@ -1,5 +1,7 @@
 -- Octets that are written up to a limit.
-use Rattle.std.proofs.Common.{◌≡◌, ℕ, ◌+◌, ◌-◌, ◌<◌, ◌≤◌, List, [], ◌++◌, length, take, drop, refl, sym, ap, append_assoc, arith, length-append, Option, Some, None, length-take-le, length-drop, if◌then◌else◌, inl, inr, ◌∙◌}
+use Rattle.std.proofs.Common.{◌≡◌, ℕ, ◌+◌, ◌-◌, ◌<◌, ◌≤◌, List, [], ◌++◌, length, take, drop, refl, sym, ap}
+use Rattle.std.proofs.Common.{append_assoc, arith, length-append, Option, Some, None, length-take-le, length-drop}
+use Rattle.std.proofs.Common.{if◌then◌else◌, inl, inr, ◌∙◌}
 use Rattle.std.specs.Prelude.{nat_le, true, false, option_map, IsSome, IsNone}
 use Rattle.std.proofs.lemmas.List.{take_at, take_all, append-nil}
 use Rattle.std.proofs.lemmas.Bool.Decides.{nat_tests, leb_tells}
@@ -17,7 +19,8 @@ joined_at limit n before after more end le room is kept =
       | inl w ↦
           let some : end ≡ Some (n + length more) = rw w.0 at is in
           let front : take (n + length more) after ≡ take n before ++ more =
-          rw (kept (rw some refl), ← append_assoc) (take_at (take n before ++ more) (drop (n + length more) before) (n + length more) (omega (arith, length-append (take n before) more))) in
+          rw (kept (rw some refl), ← append_assoc) (take_at (take n before ++ more) (drop (n + length more) before)
+          (n + length more) (omega (arith, length-append (take n before) more))) in
           rw (size, w.0, some) (ap Some front)
       | inr w ↦ let none : end ≡ None = rw w.0 at is in rw (size, w.0, none) refl
     ]
@@ -33,17 +36,28 @@ room_at limit n before after more end le room is kept same =
     elim (leb_tells (length more) (limit - n)) [
       | inl w ↦
           let some : end ≡ Some (n + length more) = rw w.0 at is in
-          let whole : after ≡ (take n before ++ more) ++ drop (n + length more) before = rw append_assoc (kept (rw some refl)) in
-          let count : length (take n before ++ more) ≡ n + length more = omega (arith, length-append (take n before) more) in
+          let whole : after ≡ (take n before ++ more) ++ drop (n + length more) before =
+          rw append_assoc (kept (rw some refl)) in
+          let count : length (take n before ++ more) ≡ n + length more =
+          omega (arith, length-append (take n before) more) in
           let front : take (n + length more) after ≡ take n before ++ more =
-          ap (take (n + length more)) whole ∙ take_at (take n before ++ more) (drop (n + length more) before) (n + length more) (omega (arith, count)) in
-          let all : take (length before) ((take n before ++ more) ++ drop (n + length more) before) ≡ (take n before ++ more) ++ drop (n + length more) before =
-          take_all (length before) ((take n before ++ more) ++ drop (n + length more) before) (omega (arith, count, length-append (take n before ++ more) (drop (n + length more) before), length-drop (n + length more) before)) in
+          ap (take (n + length more)) whole ∙ take_at (take n before ++ more) (drop (n + length more) before)
+          (n + length more) (omega (arith, count)) in
+          let all : take (length before) ((take n before ++ more) ++ drop (n + length more) before)
+          ≡ (take n before ++ more) ++ drop (n + length more) before =
+          take_all (length before) ((take n before ++ more) ++ drop (n + length more) before)
+          (omega (
+            arith,
+            count,
+            length-append (take n before ++ more) (drop (n + length more) before),
+            length-drop (n + length more) before,
+          )) in
           rw (some, front, count) (whole ∙ sym all)
       | inr w ↦ let none : end ≡ None = rw w.0 at is in rw none (same (rw none refl))
     ]
 
-joined_append : (limit : ℕ) (octets : Option (List ℕ)) (a b : List ℕ) → octets_with limit octets (a ++ b) ≡ octets_with limit (octets_with limit octets a) b
+joined_append : (limit : ℕ) (octets : Option (List ℕ)) (a b : List ℕ)
+    → octets_with limit octets (a ++ b) ≡ octets_with limit (octets_with limit octets a) b
 unfolding octets_with
 joined_append limit None a b = refl
 joined_append limit (Some octets) a b =
@@ -73,7 +87,9 @@ also_append w a b = rw (joined_append w.limit w.octets a b) refl
 joined_nil : (limit : ℕ) (octets : Option (List ℕ)) → octets_with limit octets [] ≡ octets
 unfolding octets_with
 joined_nil limit None = refl
-joined_nil limit (Some octets) = let e : nat_le 0 (limit - length octets) ≡ true = grind (arith, nat_tests) in rw (e, append-nil octets) refl
+joined_nil limit (Some octets) =
+    let e : nat_le 0 (limit - length octets) ≡ true = grind (arith, nat_tests) in
+    rw (e, append-nil octets) refl
 
 pub also_nil : (w : Writing) → also w [] ≡ w
 unfolding also

@@ -10,7 +10,8 @@ use Rattle.dz_name.specs.Words.{Octets}
 
 -- what an OPT record says: the payload size in its class, and version and DO in its TTL (RFC 6891 section 6.1.3)
 abbrev pub edns_of : RecordHead → Edns
-edns_of head = record { size = head.class; version = head.ttl / VERSION % VERSIONS; dnssec_ok = head.ttl / DNSSEC_OK % 2 == 1 }
+edns_of head =
+    record { size = head.class; version = head.ttl / VERSION % VERSIONS; dnssec_ok = head.ttl / DNSSEC_OK % 2 == 1 }
 
 -- how many OPT records a reply has: one where the request has one
 abbrev pub opt_count : Option Edns → ℕ
@@ -22,4 +23,5 @@ opt_count (Some edns) = 1
 unfoldable pub opt_octets : ℕ → Option Edns → Octets
 opt_octets code None = []
 opt_octets code (Some edns) =
-    0 ∷ (two TYPE_OPT ++ (two EDNS_OCTETS ++ ((code / CODES) ∷ (0 ∷ (two (if edns.dnssec_ok then DNSSEC_OK else 0) ++ two 0)))))
+    0 ∷ (two TYPE_OPT
+    ++ (two EDNS_OCTETS ++ ((code / CODES) ∷ (0 ∷ (two (if edns.dnssec_ok then DNSSEC_OK else 0) ++ two 0)))))

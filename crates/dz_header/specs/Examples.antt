@@ -1,9 +1,11 @@
 -- Judge: headers, flags, questions, shapes and OPT records, and the numbers in them, computed by the checker.
-use Rattle.std.specs.Prelude.{◌≡◌, refl, [], ◌∷◌, Some, true, false, ℕ, zero, suc, Bool, List, map, take, replicate, Option, None, Ok, Err, ◌++◌, codes}
+use Rattle.std.specs.Prelude.{◌≡◌, refl, [], ◌∷◌, Some, true, false, ℕ, zero, suc, Bool, List, map, take, replicate}
+use Rattle.std.specs.Prelude.{Option, None, Ok, Err, ◌++◌, codes}
 use Rattle.dz_name.specs.Numbers.{two, number_of_two, number_of_four}
 use Rattle.dz_name.specs.Words.{Octets, Kind}
 use Rattle.dz_header.specs.Edns.{edns_of, opt_octets}
-use Rattle.dz_header.specs.Flags.{flags_number, is_truncated, code_of, is_response, opcode_of, is_authoritative, is_recursion_desired}
+use Rattle.dz_header.specs.Flags.{flags_number, is_truncated, code_of, is_response, opcode_of, is_authoritative}
+use Rattle.dz_header.specs.Flags.{is_recursion_desired}
 use Rattle.dz_header.specs.Header.{header_in, header_octets, header_of}
 use Rattle.dz_header.specs.RecordHead.{head_in}
 use Rattle.dz_header.specs.Shape.{behind_owner, behind_head, shape_of}
@@ -12,7 +14,8 @@ use Rattle.dz_name.specs.declared.wire_fault.WireFault.TheVariants.{Short}
 use Rattle.dz_header.specs.Question.{question_at}
 use Rattle.dz_header.specs.declared.header.Header.{Header}
 use Rattle.dz_header.specs.declared.shape.Shape.{Shape}
-use Rattle.dz_header.specs.declared.flags.TheConstants.{RESPONSE, OPCODE, CODES, AUTHORITATIVE, TRUNCATED, RECURSION_DESIRED}
+use Rattle.dz_header.specs.declared.flags.TheConstants.{RESPONSE, OPCODE, CODES, AUTHORITATIVE, TRUNCATED}
+use Rattle.dz_header.specs.declared.flags.TheConstants.{RECURSION_DESIRED}
 use Rattle.dz_header.specs.declared.question.TheConstants.{QUESTION_OCTETS}
 use Rattle.dz_header.specs.declared.record_head.TheConstants.{HEAD_OCTETS}
 use Rattle.dz_header.specs.declared.edns.TheConstants.{VERSION, VERSIONS, DNSSEC_OK}
@@ -20,7 +23,14 @@ use Rattle.dz_header.specs.declared.shape.TheConstants.{POINTER}
 use Rattle.dz_header.specs.declared.writer.TheConstants.{BUFFER_OCTETS}
 
 -- QR, AA and RD of a reply to a query
-pub answer_to_a_query : flags_number (record { response = true; opcode = 0; authoritative = true; truncated = false; recursion_desired = true; code = 0 }) ≡ 0x8500
+pub answer_to_a_query : flags_number (record {
+  response = true;
+  opcode = 0;
+  authoritative = true;
+  truncated = false;
+  recursion_desired = true;
+  code = 0;
+}) ≡ 0x8500
 unfolding flags_number
 answer_to_a_query = refl
 
@@ -31,11 +41,13 @@ truncated = refl
 pub no_name : code_of 0x8203 ≡ 3
 no_name = refl
 
-pub twelve_octets : header_octets (record { id = 16; flags = 0x8500; counts = 1 ∷ 2 ∷ 0 ∷ 256 ∷ [] }) ≡ 0 ∷ 16 ∷ 133 ∷ 0 ∷ 0 ∷ 1 ∷ 0 ∷ 2 ∷ 0 ∷ 0 ∷ 1 ∷ 0 ∷ []
+pub twelve_octets : header_octets (record { id = 16; flags = 0x8500; counts = 1 ∷ 2 ∷ 0 ∷ 256 ∷ [] })
+    ≡ 0 ∷ 16 ∷ 133 ∷ 0 ∷ 0 ∷ 1 ∷ 0 ∷ 2 ∷ 0 ∷ 0 ∷ 1 ∷ 0 ∷ []
 unfolding header_octets two
 twelve_octets = refl
 
-pub read_again : header_in (0 ∷ 16 ∷ 133 ∷ 0 ∷ 0 ∷ 1 ∷ 0 ∷ 2 ∷ 0 ∷ 0 ∷ 1 ∷ 0 ∷ []) ≡ record { id = 16; flags = 0x8500; counts = 1 ∷ 2 ∷ 0 ∷ 256 ∷ [] }
+pub read_again : header_in (0 ∷ 16 ∷ 133 ∷ 0 ∷ 0 ∷ 1 ∷ 0 ∷ 2 ∷ 0 ∷ 0 ∷ 1 ∷ 0 ∷ [])
+    ≡ record { id = 16; flags = 0x8500; counts = 1 ∷ 2 ∷ 0 ∷ 256 ∷ [] }
 unfolding header_in number_of_two
 read_again = refl
 
@@ -43,15 +55,18 @@ read_again = refl
 abbrev opt : Octets
 opt = 0 ∷ 0 ∷ 41 ∷ 16 ∷ 0 ∷ 0 ∷ 0 ∷ 128 ∷ 0 ∷ 0 ∷ 0 ∷ 7 ∷ []
 
-pub shape_of_opt : shape_of opt ≡ Some (record { root = true; head = record { kind = 41; class = 4096; ttl = 32768; size = 0 } }, [], 7 ∷ [])
+pub shape_of_opt : shape_of opt
+    ≡ Some (record { root = true; head = record { kind = 41; class = 4096; ttl = 32768; size = 0 } }, [], 7 ∷ [])
 unfolding shape_of behind_owner behind_head head_in number_of_two number_of_four
 shape_of_opt = refl
 
-pub edns_of_opt : edns_of (record { kind = 41; class = 4096; ttl = 32768; size = 0 }) ≡ record { size = 4096; version = 0; dnssec_ok = true }
+pub edns_of_opt : edns_of (record { kind = 41; class = 4096; ttl = 32768; size = 0 })
+    ≡ record { size = 4096; version = 0; dnssec_ok = true }
 edns_of_opt = refl
 
 -- BADVERS is 16: its upper eight bits are in the OPT record
-pub opt_of_badvers : opt_octets 16 (Some (record { size = 4096; version = 1; dnssec_ok = true })) ≡ 0 ∷ 0 ∷ 41 ∷ 4 ∷ 208 ∷ 1 ∷ 0 ∷ 128 ∷ 0 ∷ 0 ∷ 0 ∷ []
+pub opt_of_badvers : opt_octets 16 (Some (record { size = 4096; version = 1; dnssec_ok = true }))
+    ≡ 0 ∷ 0 ∷ 41 ∷ 4 ∷ 208 ∷ 1 ∷ 0 ∷ 128 ∷ 0 ∷ 0 ∷ 0 ∷ []
 unfolding opt_octets two
 opt_of_badvers = refl
 

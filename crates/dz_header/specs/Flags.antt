@@ -1,7 +1,8 @@
 -- Meaning: the flags of a header, with opcode and response code (RFC 1035 section 4.1.1).
 use Rattle.std.specs.Prelude.{◌≡◌, ◌<◌, ◌^◌, ℕ, ◌+◌, ◌*◌, ◌/◌, ◌%◌, Bool, ◌==◌, if◌then◌else◌}
 use Rattle.dz_header.specs.declared.flags.Flags.{Flags}
-use Rattle.dz_header.specs.declared.flags.TheConstants.{RESPONSE, OPCODE, CODES, AUTHORITATIVE, TRUNCATED, RECURSION_DESIRED}
+use Rattle.dz_header.specs.declared.flags.TheConstants.{RESPONSE, OPCODE, CODES, AUTHORITATIVE, TRUNCATED}
+use Rattle.dz_header.specs.declared.flags.TheConstants.{RECURSION_DESIRED}
 
 -- whether the bit of this value is set in a number
 abbrev pub has_bit : ℕ → ℕ → Bool
@@ -39,7 +40,8 @@ bit is_set value = if is_set then value else 0
 unfoldable pub flags_number : Flags → ℕ
 flags_number flags =
     bit flags.response RESPONSE + (flags.opcode % CODES * OPCODE
-    + (bit flags.authoritative AUTHORITATIVE + (bit flags.truncated TRUNCATED + (bit flags.recursion_desired RECURSION_DESIRED + flags.code % CODES))))
+    + (bit flags.authoritative AUTHORITATIVE
+    + (bit flags.truncated TRUNCATED + (bit flags.recursion_desired RECURSION_DESIRED + flags.code % CODES))))
 
 -- the readers give back what the writer wrote: the lower four bits of opcode and code
 pub record ReadsBack (flags : Flags) (number : ℕ) : Type 0 where

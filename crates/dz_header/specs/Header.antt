@@ -11,7 +11,8 @@ unfoldable pub header_in : Octets → Header
 header_in octets = record {
   id = number_of_two octets;
   flags = number_of_two (drop 2 octets);
-  counts = number_of_two (drop 4 octets) ∷ number_of_two (drop 6 octets) ∷ number_of_two (drop 8 octets) ∷ number_of_two (drop 10 octets) ∷ [];
+  counts = number_of_two (drop 4 octets) ∷ number_of_two (drop 6 octets) ∷ number_of_two (drop 8 octets)
+      ∷ number_of_two (drop 10 octets) ∷ [];
 }
 
 -- the header at the beginning of some octets; none where there are fewer than twelve

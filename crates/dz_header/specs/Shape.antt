@@ -1,6 +1,7 @@
 -- Meaning: records by their shape alone: pointers aren't followed and names aren't judged by their length (RFC 1035
 -- sections 3.2.1 and 4.1.4).
-use Rattle.std.specs.Prelude.{ℕ, zero, suc, Bool, ◌==◌, nat_le, nat_lt, [], ◌∷◌, length, take, drop, slice_index, Option, Some, None, option_and_then, if◌then◌else◌}
+use Rattle.std.specs.Prelude.{ℕ, zero, suc, Bool, ◌==◌, nat_le, nat_lt, [], ◌∷◌, length, take, drop, slice_index}
+use Rattle.std.specs.Prelude.{Option, Some, None, option_and_then, if◌then◌else◌}
 use Rattle.dz_header.specs.RecordHead.{head_of}
 use Rattle.dz_header.specs.declared.record_head.TheConstants.{HEAD_OCTETS}
 use Rattle.dz_header.specs.declared.shape.Shape.{Shape}
@@ -30,7 +31,11 @@ unfoldable pub behind_head : Bool → Octets → Option (Shape × Octets × Octe
 behind_head root octets = do
   head ← head_of octets
   if nat_lt (length (drop HEAD_OCTETS octets)) head.size then None
-      else Some (record { root = root; head = head }, take head.size (drop HEAD_OCTETS octets), drop head.size (drop HEAD_OCTETS octets))
+      else Some (
+        record { root = root; head = head },
+        take head.size (drop HEAD_OCTETS octets),
+        drop head.size (drop HEAD_OCTETS octets),
+      )
 
 -- a record's shape, its RDATA, and what follows it; its owner name is the root where it is the single zero octet
 unfoldable pub shape_of : Octets → Option (Shape × Octets × Octets)

@@ -18,7 +18,8 @@ writing_of limit octets = record { limit = limit; octets = Some octets }
 -- what was written followed by more octets, where there is room for all of them
 unfoldable pub octets_with : ℕ → Option Octets → Octets → Option Octets
 octets_with limit None more = None
-octets_with limit (Some octets) more = if nat_le (length more) (limit - length octets) then Some (octets ++ more) else None
+octets_with limit (Some octets) more =
+    if nat_le (length more) (limit - length octets) then Some (octets ++ more) else None
 
 -- the writing after more octets are written
 unfoldable pub also : Writing → Octets → Writing

@@ -1,7 +1,8 @@
 //! The header of a message.
 
 ghost use Rattle.std.specs.Prelude.{◌≡◌, ◌≤◌, length};
-ghost use Rattle.dz_header.specs.Flags.{is_response, opcode_of, is_authoritative, is_truncated, is_recursion_desired, code_of};
+ghost use Rattle.dz_header.specs.Flags.{is_response, opcode_of, is_authoritative, is_truncated, is_recursion_desired};
+ghost use Rattle.dz_header.specs.Flags.{code_of};
 ghost use Rattle.dz_header.specs.Header.{header_of, header_in, header_octets};
 
 use crate::flags::{AUTHORITATIVE, CODES, OPCODE, RECURSION_DESIRED, RESPONSE, TRUNCATED};

@@ -1,6 +1,7 @@
 //! Octets up to a limit, in memory that is allocated once.
 
-ghost use Rattle.std.specs.Prelude.{◌≡◌, ◌+◌, ◌-◌, ◌≤◌, ◌++◌, take, drop, length, nat_le, List, ℕ, Some, None, IfOk, IsSome, IsNone, is_some, not, option_map, if◌then◌else◌};
+ghost use Rattle.std.specs.Prelude.{◌≡◌, ◌+◌, ◌-◌, ◌≤◌, ◌++◌, take, drop, length, nat_le, List, ℕ, Some, None, IfOk};
+ghost use Rattle.std.specs.Prelude.{IsSome, IsNone, is_some, not, option_map, if◌then◌else◌};
 ghost use Rattle.std.specs.Borrow.{Array, Lends, sem, u8};
 ghost use Rattle.std.specs.Option.{ForSome};
 ghost use Rattle.dz_header.specs.Writing.{also, empty, octets_with, room_with, with_room};

@@ -12,14 +12,16 @@ use Rattle.dz_history.proofs.StateLemmas.{taken_catalog, listed_err, refused_sta
 pub broken : BrokenKeeps
 unfolding counted
 broken s catalog number moment zone reason at e =
-    let is = taken_catalog s catalog moment number _ (sym at) ∙ ap counted (listed_err s number catalog zone reason e) in
+    let is = taken_catalog s catalog moment number _ (sym at)
+    ∙ ap counted (listed_err s number catalog zone reason e) in
     rw is record { fold = refl; table = refl }
 
 pub refusal : RefusedKeeps
 unfolding counted
 refusal s zone moment fault = rw (refused_stays s zone moment fault) record { fold = refl; table = refl }
 
-empty_from : (s : State) (m : MemberOf) (o : Option MemberOf) → option_map (λ before. before.incarnation) o ≢ Some m.incarnation → (slot_from s m o).version ≡ None
+empty_from : (s : State) (m : MemberOf) (o : Option MemberOf)
+    → option_map (λ before. before.incarnation) o ≢ Some m.incarnation → (slot_from s m o).version ≡ None
 empty_from s m None ne = refl
 empty_from s m (Some before) ne = elim (cases_Bool (before.incarnation == m.incarnation)) [
   | inl t ↦ absurd (ne (ap Some (eqb-true before.incarnation m.incarnation t)))

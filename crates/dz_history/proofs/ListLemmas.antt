@@ -12,7 +12,8 @@ use Rattle.dz_history.proofs.StepLemmas.{count_step}
 pub after_more : (es : List Entry) (e : Entry) → after (es ++ e ∷ []) ≡ step (after es) e
 after_more es e = fold-append step nothing es (e ∷ [])
 
-pub legal_from : (s : State) (es : List Entry) (e : Entry) → IsLegalFrom s es → CanFollow (fold step s es) e → IsLegalFrom s (es ++ e ∷ [])
+pub legal_from : (s : State) (es : List Entry) (e : Entry) → IsLegalFrom s es → CanFollow (fold step s es) e
+    → IsLegalFrom s (es ++ e ∷ [])
 unfolding IsLegalFrom
 legal_from s [] e h c = (c, tt)
 legal_from s (x ∷ es) e h c = (h.0, legal_from (step s x) es e h.1 c)
@@ -35,13 +36,15 @@ pub count_is : (es : List Entry) → IsLegal es → (after es).count ≡ length 
 count_is es h = omega (arith, count_from nothing es h)
 
 -- what holds of no entry, and with each entry more, holds of every list that can come about
-module _ (P : List Entry → Type 0) (none : P []) (more : (es : List Entry) (e : Entry) → IsLegal es → CanFollow (after es) e → P es → P (es ++ e ∷ [])) where
+module _ (P : List Entry → Type 0) (none : P [])
+    (more : (es : List Entry) (e : Entry) → IsLegal es → CanFollow (after es) e → P es → P (es ++ e ∷ [])) where
   behind : (front back : List Entry) → IsLegal front → P front → IsLegalFrom (after front) back → P (front ++ back)
   unfolding IsLegalFrom
   behind front [] legal p l = subst P (sym (append-nil front)) p
   behind front (e ∷ back) legal p l =
       subst P (append_assoc front (e ∷ []) back)
-      (behind (front ++ e ∷ []) back (legal_more front e legal l.0) (more front e legal l.0 p) (subst (λ (s : State). IsLegalFrom s back) (sym (after_more front e)) l.1))
+      (behind (front ++ e ∷ []) back (legal_more front e legal l.0) (more front e legal l.0 p)
+      (subst (λ (s : State). IsLegalFrom s back) (sym (after_more front e)) l.1))
 
   pub by_entries : (es : List Entry) → IsLegal es → P es
   unfolding IsLegalFrom

@@ -1,5 +1,6 @@
 -- Meaning: what is assigned and held after a list of taken transfers (RFC 9432 section 5).
-use Rattle.std.specs.Prelude.{ℕ, ◌+◌, ◌==◌, List, map, fold, slice_set, Option, Some, None, Result, Ok, Err, if◌then◌else◌}
+use Rattle.std.specs.Prelude.{ℕ, ◌+◌, ◌==◌, List, map, fold, slice_set, Option, Some, None, Result, Ok, Err}
+use Rattle.std.specs.Prelude.{if◌then◌else◌}
 use Rattle.std.specs.Option.{unwrap_or}
 use Rattle.dz_name.specs.Words.{Name}
 use Rattle.dz_zone.specs.Version.{Zone}
@@ -25,7 +26,8 @@ fresh zone = record { zone = zone; refreshed = 0; version = None }
 
 -- the slot of a member that was one before: unchanged where its incarnation is, and else fresh
 abbrev pub kept_slot : State → MemberOf → MemberOf → SlotOf
-kept_slot s m before = if before.incarnation == m.incarnation then unwrap_or (slot_of m.zone s.table) (fresh m.zone) else fresh m.zone
+kept_slot s m before =
+    if before.incarnation == m.incarnation then unwrap_or (slot_of m.zone s.table) (fresh m.zone) else fresh m.zone
 
 -- the slot of a member, which was this one before or none
 abbrev pub slot_from : State → MemberOf → Option MemberOf → SlotOf
@@ -55,7 +57,8 @@ with_version s number zone = record s { versions = slice_set s.versions number (
 -- after what came of a catalog's transfer: a new version is held, and then its listing is processed
 unfoldable pub catalog_after : State → ℕ → Name → Decision → State
 catalog_after s number catalog up_to_date = s
-catalog_after s number catalog (new zone) = listed (with_version s number zone) catalog (listing_of zone.apex zone.records)
+catalog_after s number catalog (new zone) =
+    listed (with_version s number zone) catalog (listing_of zone.apex zone.records)
 catalog_after s number catalog (refused fault) = s
 
 -- the slots after a member's transfer that found the held version: its zone was refreshed at this moment
@@ -66,7 +69,8 @@ refreshed slots moment None = slots
 -- after what came of a member's transfer at a moment: unchanged it is refreshed, and a new version is held
 unfoldable pub member_after : State → Name → ℕ → Decision → State
 member_after s zone moment up_to_date = record s { table = refreshed s.table moment (slot_of zone s.table) }
-member_after s zone moment (new version) = record s { table = put s.table (record { zone = zone; refreshed = moment; version = Some version }) }
+member_after s zone moment (new version) =
+    record s { table = put s.table (record { zone = zone; refreshed = moment; version = Some version }) }
 member_after s zone moment (refused fault) = s
 
 -- after what came of the transfer of a catalog, which has a number, or of a member

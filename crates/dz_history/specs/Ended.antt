@@ -12,7 +12,8 @@ ends s e zone incarnation = stands s zone incarnation && not (stands (step s e) 
 -- the position of the first of these entries after a state that ended an incarnation
 unfoldable pub ended_from : State → List Entry → Name → ℕ → Option ℕ
 ended_from s [] zone incarnation = None
-ended_from s (e ∷ es) zone incarnation = if ends s e zone incarnation then Some s.count else ended_from (step s e) es zone incarnation
+ended_from s (e ∷ es) zone incarnation =
+    if ends s e zone incarnation then Some s.count else ended_from (step s e) es zone incarnation
 
 -- the position of the entry that ended an incarnation
 abbrev pub ended : List Entry → Name → ℕ → Option ℕ

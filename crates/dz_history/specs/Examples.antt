@@ -24,7 +24,13 @@ zone = codes "example" ∷ []
 
 -- a configuration of that catalog
 abbrev settings : List CatalogSettings
-settings = record { name = one; policy = Off; primaries = record { address = 192 ∷ 0 ∷ 2 ∷ 1 ∷ []; port = 53 } ∷ []; groups = []; key = None } ∷ []
+settings = record {
+  name = one;
+  policy = Off;
+  primaries = record { address = 192 ∷ 0 ∷ 2 ∷ 1 ∷ []; port = 53 } ∷ [];
+  groups = [];
+  key = None;
+} ∷ []
 
 -- the member node of that zone under a label (RFC 9432 section 4.1)
 abbrev node : Octets → Node

@@ -14,7 +14,8 @@ use Rattle.dz_history.specs.After.{after}
 -- address is one of theirs or a stranger's
 abbrev pub heard_from : Peer → Option (List Peer) → Heard
 heard_from peer None = heard.NotOurs
-heard_from peer (Some peers) = if list_any (λ p. bytes_eq p.address peer.address) peers then heard.Taken else heard.Stranger
+heard_from peer (Some peers) =
+    if list_any (λ p. bytes_eq p.address peer.address) peers then heard.Taken else heard.Stranger
 
 -- how a peer is heard of a zone, after a list of entries
 abbrev pub heard_at : List Entry → Peer → Name → Heard

@@ -22,16 +22,19 @@ pub record Keeps (s after : State) : Type 0 where
 
 -- a catalog's version that has no listing changes no membership, and no slot of a member (RFC 9432 section 5.1)
 abbrev pub BrokenKeeps : Type 0
-BrokenKeeps = (s : State) (catalog : Name) (number moment : ℕ) (zone : Zone) (reason : Reason) → catalog_at s catalog ≡ Some number
+BrokenKeeps = (s : State) (catalog : Name) (number moment : ℕ) (zone : Zone) (reason : Reason)
+    → catalog_at s catalog ≡ Some number
     → listing_of zone.apex zone.records ≡ Err reason → Keeps s (taken s catalog moment (new zone))
 
 -- a zone that begins by a listing, for the first time or anew, shows no records that were taken before
 abbrev pub BeginsEmpty : Type 0
-BeginsEmpty = (s : State) (m : MemberOf) → option_map (λ before. before.incarnation) (member_at s m.zone) ≢ Some m.incarnation → (slot_after s m).version ≡ None
+BeginsEmpty = (s : State) (m : MemberOf) → option_map (λ before. before.incarnation) (member_at s m.zone)
+    ≢ Some m.incarnation → (slot_after s m).version ≡ None
 
 -- a transfer that is refused changes nothing but the count of entries
 abbrev pub RefusedKeeps : Type 0
-RefusedKeeps = (s : State) (zone : Name) (moment : ℕ) (fault : TakeFault) → Keeps s (taken s zone moment (refused fault))
+RefusedKeeps = (s : State) (zone : Name) (moment : ℕ) (fault : TakeFault)
+    → Keeps s (taken s zone moment (refused fault))
 
 -- a version came by an entry of this zone and this incarnation, after the one that the incarnation began by
 pub record CameBy (entries : List Entry) (zone : Name) (incarnation : ℕ) (version : Zone) : Type 0 where
@@ -45,5 +48,6 @@ pub record CameBy (entries : List Entry) (zone : Name) (incarnation : ℕ) (vers
 
 -- in every list that can come about, what is held of a member was taken for it, since it began
 abbrev pub RecordsAreOwn : Type 0
-RecordsAreOwn = (entries : List Entry) (m : MemberOf) (version : Zone) → IsLegal entries → member_at (after entries) m.zone ≡ Some m
+RecordsAreOwn = (entries : List Entry) (m : MemberOf) (version : Zone) → IsLegal entries
+    → member_at (after entries) m.zone ≡ Some m
     → held_at (after entries) m.zone ≡ Some version → CameBy entries m.zone m.incarnation version

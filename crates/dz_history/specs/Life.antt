@@ -8,4 +8,5 @@ use Rattle.dz_history.specs.Ended.{ended}
 
 -- no entry of the list ended an incarnation that is current after it
 abbrev pub IsWhole : List Entry → Type 0
-IsWhole entries = (zone : Name) (incarnation : ℕ) → stands (after entries) zone incarnation ≡ true → ended entries zone incarnation ≡ None
+IsWhole entries = (zone : Name) (incarnation : ℕ) → stands (after entries) zone incarnation ≡ true
+    → ended entries zone incarnation ≡ None

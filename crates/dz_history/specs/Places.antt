@@ -30,7 +30,8 @@ seats s = map catalog_seat s.fold.config ++ map member_seat s.fold.members
 -- the place of a catalog, which is its number, or of a member, after the catalogs
 abbrev pub place_from : State → Name → Option ℕ → Option ℕ
 place_from s zone (Some number) = Some number
-place_from s zone None = option_map (λ place. length s.fold.config + place) (position (λ m. same_name m.zone zone) s.fold.members)
+place_from s zone None =
+    option_map (λ place. length s.fold.config + place) (position (λ m. same_name m.zone zone) s.fold.members)
 
 -- the place of a zone, if it is a catalog or a member
 unfoldable pub place_at : State → Name → Option ℕ

@@ -1,5 +1,6 @@
 -- Meaning: what is assigned and held (RFC 9432 sections 4 and 5).
-use Rattle.std.specs.Prelude.{◌≡◌, ℕ, ◌<◌, ◌==◌, Bool, false, List, [], length, map, replicate, slice_index_or, Option, Some, None}
+use Rattle.std.specs.Prelude.{◌≡◌, ℕ, ◌<◌, ◌==◌, Bool, false, List, [], length, map, replicate, slice_index_or, Option}
+use Rattle.std.specs.Prelude.{Some, None}
 use Rattle.std.specs.Option.{option_map, option_map_or, option_and_then, ForSome}
 use Rattle.std.specs.List.{AllByRecursion}
 use Rattle.dz_name.specs.Words.{Name}
@@ -90,7 +91,8 @@ HasBegun count m = (0 < m.incarnation) × (m.incarnation < count)
 pub record IsState (s : State) : Type 0 where
   pub fold : IsFold s.fold
   pub each : length s.versions ≡ length s.fold.config
-  pub own : (number : ℕ) → ForSome (slice_index_or s.versions number None) (λ zone. zone.apex ≡ (settings_at s.fold.config number).name)
+  pub own : (number : ℕ)
+      → ForSome (slice_index_or s.versions number None) (λ zone. zone.apex ≡ (settings_at s.fold.config number).name)
   pub members : map (λ slot. slot.zone) s.table ≡ map (λ m. m.zone) s.fold.members
   pub begun : AllByRecursion (HasBegun s.count) s.fold.members
   pub some : 0 < s.count

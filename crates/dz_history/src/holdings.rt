@@ -7,7 +7,8 @@ ghost use Rattle.dz_take.specs.Taken.{IsOfZone};
 ghost use Rattle.dz_settings.specs.Config.{IsAllowed};
 ghost use Rattle.dz_member.specs.Fold.{IsFold};
 ghost use Rattle.dz_settings.specs.Key.{IsKey};
-ghost use Rattle.dz_history.specs.State.{opened, catalog_at, incarnation_at, held_at, key_at, policy_at, primaries_at, stands, IsState};
+ghost use Rattle.dz_history.specs.State.{opened, catalog_at, incarnation_at, held_at, key_at, policy_at, primaries_at};
+ghost use Rattle.dz_history.specs.State.{stands, IsState};
 
 use crate::held::{Held, nothing_held, share_all};
 use dz_member::Fold;

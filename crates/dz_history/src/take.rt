@@ -10,7 +10,8 @@ ghost use Rattle.dz_take.specs.Taken.{meaning_of};
 ghost use Rattle.dz_table.specs.Table.{put, slot_of};
 ghost use Rattle.dz_history.specs.declared.aftermath.Aftermath.TheVariants.{Changes};
 ghost use Rattle.dz_history.specs.State.{catalog_at, incarnation_at, IsState};
-ghost use Rattle.dz_history.specs.After.{taken, catalog_after, member_after, aftermath_of, catalog_aftermath, counted, with_version, relisted};
+ghost use Rattle.dz_history.specs.After.{taken, catalog_after, member_after, aftermath_of, catalog_aftermath, counted};
+ghost use Rattle.dz_history.specs.After.{with_version, relisted};
 
 use crate::aftermath::Aftermath;
 use crate::held::{share_all, with_version};

@@ -1,5 +1,6 @@
 -- One more owner in an index.
-use Rattle.std.proofs.Common.{◌≡◌, ℕ, ◌+◌, ◌-◌, ◌<◌, ◌≤◌, ◌≢◌, true, false, List, [], ◌∷◌, ◌++◌, length, get_or, set, refl, sym, ◌∙◌, ap, arith, inl, inr, length-append, get_or-set_same, get_or-set_other}
+use Rattle.std.proofs.Common.{◌≡◌, ℕ, ◌+◌, ◌-◌, ◌<◌, ◌≤◌, ◌≢◌, true, false, List, [], ◌∷◌, ◌++◌, length, get_or, set}
+use Rattle.std.proofs.Common.{refl, sym, ◌∙◌, ap, arith, inl, inr, length-append, get_or-set_same, get_or-set_other}
 use Rattle.std.specs.Prelude.{nat_lt, slice_index}
 use Rattle.std.proofs.lemmas.Bool.Decides.{nat_tests}
 use Rattle.std.specs.Ordering.{is_lt, is_le, is_gt, ordering_reverse}
@@ -18,8 +19,9 @@ use Rattle.dz_index.specs.inner.Kept.{IsKept, repeated, added, last_compared}
 use Rattle.dz_index.proofs.KeyLemmas.{key_order}
 use Rattle.dz_index.proofs.OrderLemmas.{IsLast, le_le}
 
--- an element of a list with one more behind it
-old_item : {A : Type 0} (xs : List A) (y : A) (j : ℕ) (d : A) → j < length xs → get_or (xs ++ y ∷ []) j d ≡ get_or xs j d
+-- an element of a list with one more after it
+old_item : {A : Type 0} (xs : List A) (y : A) (j : ℕ) (d : A) → j < length xs
+    → get_or (xs ++ y ∷ []) j d ≡ get_or xs j d
 old_item xs y j d h = get_or_append_left xs (y ∷ []) d j h
 
 new_item : {A : Type 0} (xs : List A) (y : A) (j : ℕ) (d : A) → j ≡ length xs → get_or (xs ++ y ∷ []) j d ≡ y
@@ -42,7 +44,8 @@ itself_lt k = rw (itself k) refl
 pub less_back : (a b : List ℕ) → compared a b ≡ Less → is_lt (compared b a) ≡ false
 less_back a b e = ap is_lt (nat_list_cmp_total.antisymm b a ∙ ap ordering_reverse e)
 
-module _ (owners : List (List (List ℕ))) (r : Rows) (name : List (List ℕ)) (kept : IsKept r) (index : IsIndex owners r) where
+module _ (owners : List (List (List ℕ))) (r : Rows) (name : List (List ℕ)) (kept : IsKept r)
+    (index : IsIndex owners r) where
   module _ (some : 0 < count r) (last_is : key_at r (count r - 1) ≡ key_of name) where
     there : (i : ℕ) → i < count r → slice_index (set r.firsts (count r) (total r + 1)) i ≡ slice_index r.firsts i
     there i h = let ne : i ≢ count r = omega arith in get_or-set_other r.firsts (count r) i (total r + 1) 0 ne
@@ -52,15 +55,20 @@ module _ (owners : List (List (List ℕ))) (r : Rows) (name : List (List ℕ)) (
 
     last_le : (i : ℕ) → i < count r → is_lt (compared (key_of name) (key_at r i)) ≡ false
     last_le i h = elim (cases_lt i (count r - 1)) [
-      | inl lt ↦ rw (← last_is) (less_back (key_at r i) (key_at r (count r - 1)) (index.rise i (count r - 1) lt (omega arith)))
+      | inl lt ↦
+          rw (← last_is)
+          (less_back (key_at r i) (key_at r (count r - 1)) (index.rise i (count r - 1) lt (omega arith)))
       | inr le ↦ let e : i ≡ count r - 1 = omega arith in rw (e, last_is) (itself_lt (key_of name))
     ]
 
-    upto_again : (i j : ℕ) (d : List (List ℕ)) → i < count r → j < slice_index (set r.firsts (count r) (total r + 1)) (i + 1) → is_le (compared (key_of (get_or (owners ++ name ∷ []) j d)) (key_at r i)) ≡ true
+    upto_again : (i j : ℕ) (d : List (List ℕ)) → i < count r
+        → j < slice_index (set r.firsts (count r) (total r + 1)) (i + 1)
+        → is_le (compared (key_of (get_or (owners ++ name ∷ []) j d)) (key_at r i)) ≡ true
     upto_again i j d h k = elim (cases_lt (i + 1) (count r)) [
       | inl lt ↦
           let l : j < slice_index r.firsts (i + 1) = rw (there (i + 1) lt) at k in
-          rw (old_item owners name j d (omega (arith, kept.long, kept.within (i + 1), index.total_is))) (index.upto i j d h l)
+          rw (old_item owners name j d (omega (arith, kept.long, kept.within (i + 1), index.total_is)))
+          (index.upto i j d h l)
       | inr le ↦
           let e : i + 1 ≡ count r = omega arith in
           let l : j < total r + 1 = rw (e, at_end) at k in
@@ -72,7 +80,8 @@ module _ (owners : List (List (List ℕ))) (r : Rows) (name : List (List ℕ)) (
           ]
     ]
 
-    behind_again : (i j : ℕ) (d : List (List ℕ)) → i < count r → slice_index (set r.firsts (count r) (total r + 1)) i ≤ j → j < length (owners ++ name ∷ [])
+    behind_again : (i j : ℕ) (d : List (List ℕ)) → i < count r
+        → slice_index (set r.firsts (count r) (total r + 1)) i ≤ j → j < length (owners ++ name ∷ [])
         → is_lt (compared (key_of (get_or (owners ++ name ∷ []) j d)) (key_at r i)) ≡ false
     behind_again i j d h k l =
         let m : slice_index r.firsts i ≤ j = rw (there i h) at k in
@@ -81,10 +90,13 @@ module _ (owners : List (List (List ℕ))) (r : Rows) (name : List (List ℕ)) (
           | inr new ↦ rw (new_item owners name j d (omega (arith, longer owners name))) (last_le i h)
         ]
 
-    grow_again : (i : ℕ) → i < count r → slice_index (set r.firsts (count r) (total r + 1)) i < slice_index (set r.firsts (count r) (total r + 1)) (i + 1)
+    grow_again : (i : ℕ) → i < count r → slice_index (set r.firsts (count r) (total r + 1)) i
+        < slice_index (set r.firsts (count r) (total r + 1)) (i + 1)
     grow_again i h = elim (cases_lt (i + 1) (count r)) [
       | inl lt ↦ rw (there i h, there (i + 1) lt) (index.grow i h)
-      | inr le ↦ let e : i + 1 ≡ count r = omega arith in let g : slice_index r.firsts i < total r + 1 = omega (arith, kept.long, kept.within i) in rw (there i h, e, at_end) g
+      | inr le ↦ let e : i + 1 ≡ count r = omega arith in
+          let g : slice_index r.firsts i < total r + 1 = omega (arith, kept.long, kept.within i) in
+          rw (there i h, e, at_end) g
     ]
 
     pub index_repeated : IsIndex (owners ++ name ∷ []) (repeated r)
@@ -97,8 +109,9 @@ module _ (owners : List (List (List ℕ))) (r : Rows) (name : List (List ℕ)) (
       behind = λ i j d h k l. behind_again i j d h k l;
     }
 
-  -- a key of its own, behind all others
-  module _ (key : List ℕ) (is : key ≡ key_of name) (last : IsLast name owners) (other : 0 < count r → key_at r (count r - 1) ≢ key) where
+  -- a key of its own, after all others
+  module _ (key : List ℕ) (is : key ≡ key_of name) (last : IsLast name owners)
+      (other : 0 < count r → key_at r (count r - 1) ≢ key) where
     early : (i : ℕ) → i < length r.firsts → slice_index (added r key).firsts i ≡ slice_index r.firsts i
     early i h = old_item r.firsts (total r + 1) i 0 h
 
@@ -114,7 +127,8 @@ module _ (owners : List (List (List ℕ))) (r : Rows) (name : List (List ℕ)) (
     new_key : (i : ℕ) → i ≡ count r → key_at (added r key) i ≡ key
     new_key i e = new_item r.keys key i [] e
 
-    owner_le : (j : ℕ) (d : List (List ℕ)) → j < length owners → is_le (compared (key_of (get_or owners j d)) key) ≡ true
+    owner_le : (j : ℕ) (d : List (List ℕ)) → j < length owners
+        → is_le (compared (key_of (get_or owners j d)) key) ≡ true
     owner_le j d h = rw is (ap is_le (key_order (get_or owners j d) name) ∙ last j d h)
 
     both : (o : Ordering) → is_le o ≡ true → is_lt o ≡ false → o ≡ Equal
@@ -132,19 +146,26 @@ module _ (owners : List (List (List ℕ))) (r : Rows) (name : List (List ℕ)) (
         let i = count r - 1 in
         let e : i + 1 ≡ count r = omega arith in
         let j = slice_index r.firsts i in
-        let in_range : j < length owners = omega (arith, index.total_is, index.grow i (omega arith), kept.within (i + 1) (omega (arith, kept.long))) in
+        let in_range : j < length owners = omega
+        (arith, index.total_is, index.grow i (omega arith), kept.within (i + 1) (omega (arith, kept.long))) in
         let tied : compared (key_of (get_or owners j [])) (key_at r i) ≡ Equal =
-        both (compared (key_of (get_or owners j [])) (key_at r i)) (index.upto i j [] (omega arith) (index.grow i (omega arith))) (index.behind i j [] (omega arith) (omega arith) in_range) in
-        let le : is_le (compared (key_at r i) key) ≡ true = ap is_le (sym (nat_list_cmp_total.congr (key_of (get_or owners j [])) (key_at r i) key tied)) ∙ owner_le j [] in_range in
-        le_not (compared (key_at r i) key) le (λ q. other some (slice_cmp-IsAntisymmetric nat_cmp-IsAntisymmetric (key_at r i) key q))
+        both (compared (key_of (get_or owners j [])) (key_at r i)) (index.upto i j [] (omega arith)
+        (index.grow i (omega arith))) (index.behind i j [] (omega arith) (omega arith) in_range) in
+        let le : is_le (compared (key_at r i) key) ≡ true =
+        ap is_le (sym (nat_list_cmp_total.congr (key_of (get_or owners j [])) (key_at r i) key tied))
+        ∙ owner_le j [] in_range in
+        le_not (compared (key_at r i) key) le
+        (λ q. other some (slice_cmp-IsAntisymmetric nat_cmp-IsAntisymmetric (key_at r i) key q))
 
     top : (i : ℕ) → i < count r → compared (key_at r i) key ≡ Less
     top i h = elim (cases_lt i (count r - 1)) [
-      | inl lt ↦ nat_list_cmp_total.trans (key_at r i) (key_at r (count r - 1)) key (index.rise i (count r - 1) lt (omega arith)) (last_less (omega arith))
+      | inl lt ↦ nat_list_cmp_total.trans (key_at r i) (key_at r (count r - 1)) key
+          (index.rise i (count r - 1) lt (omega arith)) (last_less (omega arith))
       | inr le ↦ let e : i ≡ count r - 1 = omega arith in rw e (last_less (omega arith))
     ]
 
-    grow_more : (i : ℕ) → i < count r + 1 → slice_index (added r key).firsts i < slice_index (added r key).firsts (i + 1)
+    grow_more : (i : ℕ) → i < count r + 1
+        → slice_index (added r key).firsts i < slice_index (added r key).firsts (i + 1)
     grow_more i h = elim (cases_lt i (count r)) [
       | inl lt ↦ rw (early i (omega (arith, kept.long)), early (i + 1) (omega (arith, kept.long))) (index.grow i lt)
       | inr le ↦
@@ -160,33 +181,39 @@ module _ (owners : List (List (List ℕ))) (r : Rows) (name : List (List ℕ)) (
       | inr le ↦ rw (old_key i (omega arith), new_key j (omega arith)) (top i (omega arith))
     ]
 
-    upto_more : (i j : ℕ) (d : List (List ℕ)) → i < count r + 1 → j < slice_index (added r key).firsts (i + 1) → is_le (compared (key_of (get_or (owners ++ name ∷ []) j d)) (key_at (added r key) i)) ≡ true
+    upto_more : (i j : ℕ) (d : List (List ℕ)) → i < count r + 1 → j < slice_index (added r key).firsts (i + 1)
+        → is_le (compared (key_of (get_or (owners ++ name ∷ []) j d)) (key_at (added r key) i)) ≡ true
     upto_more i j d h k = elim (cases_lt i (count r)) [
       | inl lt ↦
           let l : j < slice_index r.firsts (i + 1) = rw (early (i + 1) (omega (arith, kept.long))) at k in
-          rw (old_key i lt, old_item owners name j d (omega (arith, kept.long, kept.within (i + 1), index.total_is))) (index.upto i j d lt l)
+          rw (old_key i lt, old_item owners name j d (omega (arith, kept.long, kept.within (i + 1), index.total_is)))
+          (index.upto i j d lt l)
       | inr le ↦
           let s : i + 1 ≡ length r.firsts = omega (arith, kept.long) in
           let l : j < total r + 1 = rw (s, late) at k in
           elim (cases_lt j (length owners)) [
             | inl old ↦ rw (new_key i (omega arith), old_item owners name j d old) (owner_le j d old)
-            | inr new ↦ rw (new_key i (omega arith), new_item owners name j d (omega (arith, index.total_is)), is) (itself_le (key_of name))
+            | inr new ↦ rw (new_key i (omega arith), new_item owners name j d (omega (arith, index.total_is)), is)
+                (itself_le (key_of name))
           ]
     ]
 
-    behind_more : (i j : ℕ) (d : List (List ℕ)) → i < count r + 1 → slice_index (added r key).firsts i ≤ j → j < length (owners ++ name ∷ [])
+    behind_more : (i j : ℕ) (d : List (List ℕ)) → i < count r + 1 → slice_index (added r key).firsts i ≤ j
+        → j < length (owners ++ name ∷ [])
         → is_lt (compared (key_of (get_or (owners ++ name ∷ []) j d)) (key_at (added r key) i)) ≡ false
     behind_more i j d h k l =
         let m : slice_index r.firsts i ≤ j = rw (early i (omega (arith, kept.long))) at k in
         elim (cases_lt i (count r)) [
           | inl lt ↦ elim (cases_lt j (length owners)) [
             | inl old ↦ rw (old_key i lt, old_item owners name j d old) (index.behind i j d lt m old)
-            | inr new ↦ rw (old_key i lt, new_item owners name j d (omega (arith, longer owners name)), ← is) (less_back (key_at r i) key (top i lt))
+            | inr new ↦ rw (old_key i lt, new_item owners name j d (omega (arith, longer owners name)), ← is)
+                (less_back (key_at r i) key (top i lt))
           ]
           | inr le ↦
               let e : i ≡ count r = omega arith in
               let n : total r ≤ j = rw e at m in
-              rw (new_key i e, new_item owners name j d (omega (arith, index.total_is, longer owners name)), is) (itself_lt (key_of name))
+              rw (new_key i e, new_item owners name j d (omega (arith, index.total_is, longer owners name)), is)
+              (itself_lt (key_of name))
         ]
 
     pub index_added : IsIndex (owners ++ name ∷ []) (added r key)
@@ -247,7 +274,8 @@ module _ (owners : List (List (List ℕ))) (r : Rows) (kept : IsKept r) (index :
       let e : i + 1 ≡ count r = omega arith in
       let up : j < slice_index r.firsts (i + 1) = rw e (omega (arith, index.total_is)) in
       let low : slice_index r.firsts i ≤ j = omega (arith, rw e at (index.grow i (omega arith)), index.total_is) in
-      let tied = same_le (compared (key_of (get_or owners j [])) (key_at r i)) (index.upto i j [] (omega arith) up) (index.behind i j [] (omega arith) low (omega arith)) in
+      let tied = same_le (compared (key_of (get_or owners j [])) (key_at r i)) (index.upto i j [] (omega arith) up)
+      (index.behind i j [] (omega arith) low (omega arith)) in
       sym (slice_cmp-IsAntisymmetric nat_cmp-IsAntisymmetric (key_of (get_or owners j [])) (key_at r i) tied)
 
   pub order_is : (name : List (List ℕ)) → last_compared r (key_of name) ≡ order_behind owners name
@@ -261,29 +289,38 @@ module _ (owners : List (List (List ℕ))) (r : Rows) (kept : IsKept r) (index :
         rw (no_keys z, z) refl
   ]
 
-  -- a name that the last owner doesn't come behind is behind all
+  -- a name that the last owner doesn't come after is after all
   pub last_of : (name : List (List ℕ)) → is_gt (order_behind owners name) ≡ false → IsLast name owners
   last_of name h j d within =
       let some : 0 < length owners = omega arith in
       let l : nat_lt 0 (length owners) ≡ true = lt_true (length owners) some in
       let i = count r - 1 in
       let e : i + 1 ≡ count r = omega (arith, some_keys some) in
-      let up : is_le (compared (key_of (get_or owners j d)) (key_at r i)) ≡ true = index.upto i j d (omega (arith, some_keys some)) (rw e (omega (arith, index.total_is))) in
+      let up : is_le (compared (key_of (get_or owners j d)) (key_at r i)) ≡ true =
+      index.upto i j d (omega (arith, some_keys some)) (rw e (omega (arith, index.total_is))) in
       let first : is_le (canonical_order (get_or owners j d) (get_or owners (length owners - 1) [])) ≡ true =
-      ap is_le (sym (key_order (get_or owners j d) (get_or owners (length owners - 1) []))) ∙ rw (last_key some) at up in
-      le_le (get_or owners j d) (get_or owners (length owners - 1) []) name first (le_not_gt (canonical_order (get_or owners (length owners - 1) []) name) (rw l at h))
+      ap is_le (sym (key_order (get_or owners j d) (get_or owners (length owners - 1) [])))
+      ∙ rw (last_key some) at up in
+      le_le (get_or owners j d) (get_or owners (length owners - 1) []) name first
+      (le_not_gt (canonical_order (get_or owners (length owners - 1) []) name) (rw l at h))
 
 pub compared_none : (r : Rows) (key : List ℕ) (n : ℕ) → n ≡ count r → n ≡ 0 → Less ≡ last_compared r key
 compared_none r key n is none = let z : count r ≡ 0 = omega arith in rw z refl
 
-pub compared_some : (r : Rows) (key : List ℕ) (n : ℕ) {o : Ordering} → n ≡ count r → n ≢ 0 → o ≡ compared (key_at r (count r - 1)) key → o ≡ last_compared r key
+pub compared_some : (r : Rows) (key : List ℕ) (n : ℕ) {o : Ordering} → n ≡ count r → n ≢ 0
+    → o ≡ compared (key_at r (count r - 1)) key → o ≡ last_compared r key
 compared_some r key n {o} is some e = let t : nat_lt 0 (count r) ≡ true = lt_true (count r) (omega arith) in rw t e
 
 pub other_less : (r : Rows) (key : List ℕ) → Less ≡ last_compared r key → 0 < count r → key_at r (count r - 1) ≢ key
 other_less r key h some e = let g : Less ≡ Equal = rw (lt_true (count r) some, e, itself key) at h in cc
 
-pub equal_some : (r : Rows) (key : List ℕ) → Equal ≡ last_compared r key → (0 < count r) × (key_at r (count r - 1) ≡ key)
+pub equal_some : (r : Rows) (key : List ℕ) → Equal ≡ last_compared r key
+    → (0 < count r) × (key_at r (count r - 1) ≡ key)
 equal_some r key h = elim (cases_lt 0 (count r)) [
-  | inl some ↦ (some, slice_cmp-IsAntisymmetric nat_cmp-IsAntisymmetric (key_at r (count r - 1)) key (sym (rw (lt_true (count r) some) at h)))
+  | inl some ↦ (
+    some,
+    slice_cmp-IsAntisymmetric nat_cmp-IsAntisymmetric (key_at r (count r - 1)) key
+        (sym (rw (lt_true (count r) some) at h)),
+  )
   | inr le ↦ let z : count r ≡ 0 = omega arith in absurd (let g : Equal ≡ Less = rw z at h in cc)
 ]

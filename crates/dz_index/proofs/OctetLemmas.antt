@@ -1,5 +1,6 @@
 -- Octets are compared eight at once, each eight as one number, of which the first octet is the greatest.
-use Rattle.std.proofs.Common.{◌≡◌, ◌≢◌, ℕ, zero, suc, ◌+◌, ◌*◌, ◌<◌, ◌≤◌, List, [], ◌∷◌, length, take, drop, get_or, refl, sym, ◌∙◌, ap, arith, inl, inr}
+use Rattle.std.proofs.Common.{◌≡◌, ◌≢◌, ℕ, zero, suc, ◌+◌, ◌*◌, ◌<◌, ◌≤◌, List, [], ◌∷◌, length, take, drop, get_or}
+use Rattle.std.proofs.Common.{refl, sym, ◌∙◌, ap, arith, inl, inr}
 use Rattle.std.specs.Cmp.{nat_cmp_is}
 use Rattle.std.specs.Cmp.Lexicographic.{slice_cmp}
 use Rattle.std.specs.Int.{w64, from_be_bytes}
@@ -12,7 +13,7 @@ use Rattle.dz_index.proofs.KeyLemmas.{then_then}
 abbrev AreOctets : List ℕ → Type 0
 AreOctets xs = (i : ℕ) → get_or xs i 0 < 256
 
--- the number that octets spell behind another one
+-- the number that octets spell after another one
 abbrev number : ℕ → List ℕ → ℕ
 number n [] = n
 number n (x ∷ xs) = number (n * 256 + x) xs
@@ -25,13 +26,15 @@ rises a b (x ∷ xs) (y ∷ ys) e h l =
     let small : x < 256 = h 0 in
     rises (a * 256 + x) (b * 256 + y) xs ys (omega (arith, e)) (λ i. h (suc i)) (omega (arith, small, l))
 
-in_order : (a : ℕ) (xs ys : List ℕ) → length xs ≡ length ys → AreOctets xs → AreOctets ys → nat_cmp (number a xs) (number a ys) ≡ slice_cmp nat_cmp xs ys
+in_order : (a : ℕ) (xs ys : List ℕ) → length xs ≡ length ys → AreOctets xs → AreOctets ys
+    → nat_cmp (number a xs) (number a ys) ≡ slice_cmp nat_cmp xs ys
 in_order a [] [] e g h = sym (nat_cmp_is a a Equal refl)
 in_order a [] (y ∷ ys) e g h = absurd (omega (arith, e))
 in_order a (x ∷ xs) [] e g h = absurd (omega (arith, e))
 in_order a (x ∷ xs) (y ∷ ys) e g h = elim (cases_order x y) [
   | inl same ↦
-      rw same (rw (← nat_cmp_is y y Equal refl) (in_order (a * 256 + y) xs ys (omega (arith, e)) (λ i. g (suc i)) (λ i. h (suc i))))
+      rw same (rw (← nat_cmp_is y y Equal refl)
+      (in_order (a * 256 + y) xs ys (omega (arith, e)) (λ i. g (suc i)) (λ i. h (suc i))))
   | inr apart ↦ elim apart [
     | inl below ↦
         let low = rises (a * 256 + x) (a * 256 + y) xs ys (omega (arith, e)) (λ i. g (suc i)) (omega (arith, below)) in
@@ -61,23 +64,28 @@ groups_in_order xs ys m n g h = rw (spelt xs m, spelt ys n) (in_order 0 xs ys (m
 
 -- as many first octets of either side, and then those after them
 in_two : (n : ℕ) (xs ys : List ℕ) → n ≤ length xs → n ≤ length ys
-    → slice_cmp nat_cmp xs ys ≡ ordering_then (slice_cmp nat_cmp (take n xs) (take n ys)) (slice_cmp nat_cmp (drop n xs) (drop n ys))
+    → slice_cmp nat_cmp xs ys
+    ≡ ordering_then (slice_cmp nat_cmp (take n xs) (take n ys)) (slice_cmp nat_cmp (drop n xs) (drop n ys))
 in_two zero xs ys g h = refl
 in_two (suc n) [] ys g h = absurd (omega arith)
 in_two (suc n) (x ∷ xs) [] g h = absurd (omega arith)
 in_two (suc n) (x ∷ xs) (y ∷ ys) g h =
     ap (ordering_then (nat_cmp x y)) (in_two n xs ys (omega arith) (omega arith))
-    ∙ sym (then_then (nat_cmp x y) (slice_cmp nat_cmp (take n xs) (take n ys)) (slice_cmp nat_cmp (drop n xs) (drop n ys)))
+    ∙ sym
+    (then_then (nat_cmp x y) (slice_cmp nat_cmp (take n xs) (take n ys)) (slice_cmp nat_cmp (drop n xs) (drop n ys)))
 
 first_decides : (o p : Ordering) → o ≢ Equal → o ≡ ordering_then o p
 first_decides Less p h = refl
 first_decides Equal p h = absurd (h refl)
 first_decides Greater p h = refl
 
-pub group_decides : (xs ys : List ℕ) (o : Ordering) → 8 ≤ length xs → 8 ≤ length ys → o ≡ slice_cmp nat_cmp (take 8 xs) (take 8 ys) → o ≢ Equal → o ≡ slice_cmp nat_cmp xs ys
+pub group_decides : (xs ys : List ℕ) (o : Ordering) → 8 ≤ length xs → 8 ≤ length ys
+    → o ≡ slice_cmp nat_cmp (take 8 xs) (take 8 ys) → o ≢ Equal → o ≡ slice_cmp nat_cmp xs ys
 group_decides xs ys o g h is apart =
     first_decides o (slice_cmp nat_cmp (drop 8 xs) (drop 8 ys)) apart
     ∙ (ap (λ p. ordering_then p (slice_cmp nat_cmp (drop 8 xs) (drop 8 ys))) is ∙ sym (in_two 8 xs ys g h))
 
-pub group_ties : (xs ys : List ℕ) → 8 ≤ length xs → 8 ≤ length ys → slice_cmp nat_cmp (take 8 xs) (take 8 ys) ≡ Equal → slice_cmp nat_cmp (drop 8 xs) (drop 8 ys) ≡ slice_cmp nat_cmp xs ys
-group_ties xs ys g h tie = sym (in_two 8 xs ys g h ∙ ap (λ p. ordering_then p (slice_cmp nat_cmp (drop 8 xs) (drop 8 ys))) tie)
+pub group_ties : (xs ys : List ℕ) → 8 ≤ length xs → 8 ≤ length ys → slice_cmp nat_cmp (take 8 xs) (take 8 ys) ≡ Equal
+    → slice_cmp nat_cmp (drop 8 xs) (drop 8 ys) ≡ slice_cmp nat_cmp xs ys
+group_ties xs ys g h tie =
+    sym (in_two 8 xs ys g h ∙ ap (λ p. ordering_then p (slice_cmp nat_cmp (drop 8 xs) (drop 8 ys))) tie)

@@ -1,5 +1,6 @@
 -- A search by halves: its steps, and what it leaves on either side.
-use Rattle.std.proofs.Common.{◌≡◌, ℕ, zero, suc, ◌+◌, ◌*◌, ◌<◌, ◌≤◌, Bool, true, false, List, length, get_or, refl, sym, ◌∙◌, ap, arith, inl, inr}
+use Rattle.std.proofs.Common.{◌≡◌, ℕ, zero, suc, ◌+◌, ◌*◌, ◌<◌, ◌≤◌, Bool, true, false, List, length, get_or, refl}
+use Rattle.std.proofs.Common.{sym, ◌∙◌, ap, arith, inl, inr}
 use Rattle.std.specs.Prelude.{◌^◌, slice_index, nat_lt, ◌&&◌}
 use Rattle.std.specs.Cmp.{first_so, second_so, tied_itself, Equal-is}
 use Rattle.std.proofs.lemmas.Bool.Decides.{nat_tests}
@@ -45,8 +46,9 @@ lt_above a b k l m = elim (cases_Bool (is_lt (compared b k))) [
   | inl y ↦ absurd (false≢true (sym m ∙ lt_below a b k l y))
 ]
 
--- the test of one key, carried to those before it or behind it
-pub before_more : (r : Rows) (key : List ℕ) (middle : ℕ) → AreRising r → middle < count r → is_lt (compared (key_at r middle) key) ≡ true
+-- the test of one key, carried to those before it or after it
+pub before_more : (r : Rows) (key : List ℕ) (middle : ℕ) → AreRising r → middle < count r
+    → is_lt (compared (key_at r middle) key) ≡ true
     → (i : ℕ) → i < middle + 1 → is_lt (compared (key_at r i) key) ≡ true
 before_more r key middle rise within lower i h = elim (cases_lt i middle) [
   | inl lt ↦ lt_below (key_at r i) (key_at r middle) key (rise i middle lt within) lower
@@ -71,7 +73,8 @@ le_lt a b k h m = go (compared a b) refl h
     go Equal e h = ap is_lt (nat_list_cmp_total.congr a b k e) ∙ m
     go Greater e h = absurd (false≢true h)
 
-pub ge_ge : (a b k : List ℕ) → is_lt (compared a b) ≡ false → is_lt (compared b k) ≡ false → is_lt (compared a k) ≡ false
+pub ge_ge : (a b k : List ℕ) → is_lt (compared a b) ≡ false → is_lt (compared b k) ≡ false
+    → is_lt (compared a k) ≡ false
 ge_ge a b k h m = go (compared a b) refl h
   where
     go : (o : Ordering) → compared a b ≡ o → is_lt o ≡ false → is_lt (compared a k) ≡ false
@@ -80,28 +83,39 @@ ge_ge a b k h m = go (compared a b) refl h
     go Greater e h = lt_above b a k (nat_list_cmp_total.antisymm b a ∙ ap ordering_reverse e) m
 
 -- the place of the first owner, by the number of keys_of before
-below : (owners : List (List (List ℕ))) (r : Rows) (key : List ℕ) (found : ℕ) → IsIndex owners r → IsPlaceAmong key r found → found ≤ count r
-    → (j : ℕ) (d : List (List ℕ)) → j < slice_index r.firsts found → is_lt (compared (key_of (get_or owners j d)) key) ≡ true
+below : (owners : List (List (List ℕ))) (r : Rows) (key : List ℕ) (found : ℕ) → IsIndex owners r
+    → IsPlaceAmong key r found → found ≤ count r
+    → (j : ℕ) (d : List (List ℕ)) → j < slice_index r.firsts found
+    → is_lt (compared (key_of (get_or owners j d)) key) ≡ true
 below owners r key zero index among within j d h = absurd (omega (arith, index.first))
 below owners r key (suc q) index among within j d h =
     let e : suc q ≡ q + 1 = omega arith in
-    le_lt (key_of (get_or owners j d)) (key_at r q) key (index.upto q j d (omega arith) (rw e at h)) (among.before q (omega arith))
+    le_lt (key_of (get_or owners j d)) (key_at r q) key (index.upto q j d (omega arith) (rw e at h))
+    (among.before q (omega arith))
 
-above : (owners : List (List (List ℕ))) (r : Rows) (key : List ℕ) (found : ℕ) → IsIndex owners r → IsPlaceAmong key r found → found ≤ count r
-    → (j : ℕ) (d : List (List ℕ)) → slice_index r.firsts found ≤ j → j < length owners → is_lt (compared (key_of (get_or owners j d)) key) ≡ false
+above : (owners : List (List (List ℕ))) (r : Rows) (key : List ℕ) (found : ℕ) → IsIndex owners r
+    → IsPlaceAmong key r found → found ≤ count r
+    → (j : ℕ) (d : List (List ℕ)) → slice_index r.firsts found ≤ j → j < length owners
+    → is_lt (compared (key_of (get_or owners j d)) key) ≡ false
 above owners r key found index among within j d h k = elim (cases_lt found (count r)) [
-  | inl lt ↦ ge_ge (key_of (get_or owners j d)) (key_at r found) key (index.behind found j d lt h k) (among.behind found (omega arith) lt)
-  | inr le ↦ let e : found ≡ count r = omega arith in let f : slice_index r.firsts (count r) ≤ j = rw e at h in absurd (omega (arith, index.total_is))
+  | inl lt ↦ ge_ge (key_of (get_or owners j d)) (key_at r found) key (index.behind found j d lt h k)
+      (among.behind found (omega arith) lt)
+  | inr le ↦ let e : found ≡ count r = omega arith in
+      let f : slice_index r.firsts (count r) ≤ j = rw e at h in
+      absurd (omega (arith, index.total_is))
 ]
 
-pub first_place : (name : List (List ℕ)) (owners : List (List (List ℕ))) (r : Rows) (key : List ℕ) (found place : ℕ) → key ≡ key_of name → IsIndex owners r
+pub first_place : (name : List (List ℕ)) (owners : List (List (List ℕ))) (r : Rows) (key : List ℕ) (found place : ℕ)
+    → key ≡ key_of name → IsIndex owners r
     → IsPlaceAmong key r found → found ≤ count r → place ≡ slice_index r.firsts found → IsFirstOf name owners place
 first_place name owners r key found place is index among within e = (
-  λ j d low lt. ap is_lt (sym (key_order (get_or owners j d) name)) ∙ rw (← is) (below owners r key found index among within j d (omega arith)),
-  λ j d low high. ap is_lt (sym (key_order (get_or owners j d) name)) ∙ rw (← is) (above owners r key found index among within j d (omega arith) high),
+  λ j d low lt. ap is_lt (sym (key_order (get_or owners j d) name))
+      ∙ rw (← is) (below owners r key found index among within j d (omega arith)),
+  λ j d low high. ap is_lt (sym (key_order (get_or owners j d) name))
+      ∙ rw (← is) (above owners r key found index among within j d (omega arith) high),
 )
 
--- where an owner with the key stands, its records end before those of the next
+-- where there is an owner with the key, its records end before those of the next
 lt_le : (o : Ordering) → is_lt o ≡ true → is_le o ≡ true
 lt_le Less h = refl
 lt_le Equal h = absurd (false≢true h)
@@ -115,7 +129,7 @@ more_not_le a b k l m = go (compared a k) refl
     go Equal e = absurd (false≢true (sym m ∙ ap is_lt (nat_list_cmp_total.congr a k b e ∙ l)))
     go Greater e = refl
 
--- a key that isn't before another and isn't it comes behind it
+-- a key that isn't before another and isn't it comes after it
 behind_key : (a k : List ℕ) → is_lt (compared a k) ≡ false → (a ≡ k → ⊥) → compared k a ≡ Less
 behind_key a k low other = go (compared a k) refl low
   where
@@ -124,19 +138,28 @@ behind_key a k low other = go (compared a k) refl low
     go Equal e h = absurd (other (slice_cmp-IsAntisymmetric nat_cmp-IsAntisymmetric a k e))
     go Greater e h = nat_list_cmp_total.antisymm k a ∙ ap ordering_reverse e
 
-module _ (name : List (List ℕ)) (owners : List (List (List ℕ))) (r : Rows) (key : List ℕ) (found : ℕ) (is : key ≡ key_of name) (index : IsIndex owners r) where
-  by_key : (j : ℕ) (d : List (List ℕ)) (v : Bool) → is_le (compared (key_of (get_or owners j d)) key) ≡ v → is_le (canonical_order (get_or owners j d) name) ≡ v
+module _ (name : List (List ℕ)) (owners : List (List (List ℕ))) (r : Rows) (key : List ℕ) (found : ℕ)
+    (is : key ≡ key_of name) (index : IsIndex owners r) where
+  by_key : (j : ℕ) (d : List (List ℕ)) (v : Bool) → is_le (compared (key_of (get_or owners j d)) key) ≡ v
+      → is_le (canonical_order (get_or owners j d) name) ≡ v
   by_key j d v h = ap is_le (sym (key_order (get_or owners j d) name)) ∙ rw is at h
 
-  end_upto : key_at r found ≡ key → found < count r → (j : ℕ) (d : List (List ℕ)) → j < slice_index r.firsts (found + 1) → is_le (canonical_order (get_or owners j d) name) ≡ true
+  end_upto : key_at r found ≡ key → found < count r → (j : ℕ) (d : List (List ℕ))
+      → j < slice_index r.firsts (found + 1) → is_le (canonical_order (get_or owners j d) name) ≡ true
   end_upto same within j d k = by_key j d true (rw (← same) (index.upto found j d within k))
 
-  end_behind : key_at r found ≡ key → found < count r → (j : ℕ) (d : List (List ℕ)) → slice_index r.firsts (found + 1) ≤ j → j < length owners → is_le (canonical_order (get_or owners j d) name) ≡ false
+  end_behind : key_at r found ≡ key → found < count r → (j : ℕ) (d : List (List ℕ)) → slice_index r.firsts (found + 1)
+      ≤ j → j < length owners → is_le (canonical_order (get_or owners j d) name) ≡ false
   end_behind same within j d h k = elim (cases_lt (found + 1) (count r)) [
     | inl more ↦
-        let next : compared key (key_at r (found + 1)) ≡ Less = rw (← same) (index.rise found (found + 1) (omega arith) more) in
-        by_key j d false (more_not_le (key_of (get_or owners j d)) (key_at r (found + 1)) key next (index.behind (found + 1) j d more h k))
-    | inr none ↦ let e : found + 1 ≡ count r = omega arith in let f : slice_index r.firsts (count r) ≤ j = rw e at h in absurd (omega (arith, index.total_is))
+        let next : compared key (key_at r (found + 1)) ≡ Less =
+        rw (← same) (index.rise found (found + 1) (omega arith) more) in
+        by_key j d false (more_not_le (key_of (get_or owners j d)) (key_at r (found + 1)) key next
+        (index.behind (found + 1) j d more h k))
+    | inr none ↦
+        let e : found + 1 ≡ count r = omega arith in
+        let f : slice_index r.firsts (count r) ≤ j = rw e at h in
+        absurd (omega (arith, index.total_is))
   ]
 
   pub end_of_owner : key_at r found ≡ key → found < count r → IsEndOf name owners (slice_index r.firsts (found + 1))
@@ -145,14 +168,19 @@ module _ (name : List (List ℕ)) (owners : List (List (List ℕ))) (r : Rows) (
     λ j d h k. end_behind same within j d h k,
   )
 
-  -- where none stands, they would end where they begin
-  pub end_of_none : IsPlaceAmong key r found → found ≤ count r → (found < count r → key_at r found ≡ key → ⊥) → IsEndOf name owners (slice_index r.firsts found)
+  -- where there is none, they would end where they begin
+  pub end_of_none : IsPlaceAmong key r found → found ≤ count r → (found < count r → key_at r found ≡ key → ⊥)
+      → IsEndOf name owners (slice_index r.firsts found)
   end_of_none among within other = (
-    λ j d h k. by_key j d true (lt_le (compared (key_of (get_or owners j d)) key) (below owners r key found index among within j d k)),
+    λ j d h k. by_key j d true
+        (lt_le (compared (key_of (get_or owners j d)) key) (below owners r key found index among within j d k)),
     λ j d h k. elim (cases_lt found (count r)) [
       | inl lt ↦
-          by_key j d false (more_not_le (key_of (get_or owners j d)) (key_at r found) key (behind_key (key_at r found) key (among.behind found (omega arith) lt) (other lt)) (index.behind found j d lt h k))
-      | inr le ↦ let e : found ≡ count r = omega arith in let f : slice_index r.firsts (count r) ≤ j = rw e at h in absurd (omega (arith, index.total_is))
+          by_key j d false (more_not_le (key_of (get_or owners j d)) (key_at r found) key (behind_key
+          (key_at r found) key (among.behind found (omega arith) lt) (other lt)) (index.behind found j d lt h k))
+      | inr le ↦ let e : found ≡ count r = omega arith in
+          let f : slice_index r.firsts (count r) ≤ j = rw e at h in
+          absurd (omega (arith, index.total_is))
     ],
   )
 
@@ -162,13 +190,16 @@ equal_is Less h m = absurd (false≢true (sym m))
 equal_is Equal h m = refl
 equal_is Greater h m = absurd (false≢true h)
 
-module _ (owners : List (List (List ℕ))) (r : Rows) (number : ℕ) (index : IsIndex owners r) (within : number < count r) (ends : slice_index r.firsts (number + 1) ≤ length owners) where
+module _ (owners : List (List (List ℕ))) (r : Rows) (number : ℕ) (index : IsIndex owners r) (within : number < count r)
+    (ends : slice_index r.firsts (number + 1) ≤ length owners) where
   own_key : (d : List (List ℕ)) → key_at r number ≡ key_of (get_or owners (slice_index r.firsts number) d)
   own_key d =
       let j = slice_index r.firsts number in
       let k = key_of (get_or owners j d) in
       let grow = index.grow number within in
-      sym (slice_cmp-IsAntisymmetric nat_cmp-IsAntisymmetric k (key_at r number) (equal_is (compared k (key_at r number)) (index.upto number j d within grow) (index.behind number j d within (omega arith) (omega (arith, grow, ends)))))
+      sym (slice_cmp-IsAntisymmetric nat_cmp-IsAntisymmetric k (key_at r number)
+      (equal_is (compared k (key_at r number)) (index.upto number j d within grow)
+      (index.behind number j d within (omega arith) (omega (arith, grow, ends)))))
 
   own_place : (d : List (List ℕ)) → IsPlaceAmong (key_of (get_or owners (slice_index r.firsts number) d)) r number
   own_place d =
@@ -176,15 +207,19 @@ module _ (owners : List (List (List ℕ))) (r : Rows) (number : ℕ) (index : Is
       let same : key_at r number ≡ key = own_key d in
       record {
         before = λ i lt. ap is_lt (rw same at (index.rise i number lt within));
-        behind = λ i le lt. behind_more r key number index.rise (rw same (ap is_lt (tied_itself nat_list_cmp_total key))) i le lt;
+        behind = λ i le lt. behind_more r key number index.rise
+            (rw same (ap is_lt (tied_itself nat_list_cmp_total key))) i le lt;
       }
 
   pub run_is : IsRun owners (slice_index r.firsts number) (slice_index r.firsts (number + 1))
   run_is = record {
     some = index.grow number within;
     within = ends;
-    first = λ d. first_place (get_or owners (slice_index r.firsts number) d) owners r (key_of (get_or owners (slice_index r.firsts number) d)) number (slice_index r.firsts number) refl index (own_place d) (omega (arith, within)) refl;
-    last = λ d. end_of_owner (get_or owners (slice_index r.firsts number) d) owners r (key_of (get_or owners (slice_index r.firsts number) d)) number refl index (own_key d) within;
+    first = λ d. first_place (get_or owners (slice_index r.firsts number) d) owners r
+        (key_of (get_or owners (slice_index r.firsts number) d)) number (slice_index r.firsts number) refl index
+        (own_place d) (omega (arith, within)) refl;
+    last = λ d. end_of_owner (get_or owners (slice_index r.firsts number) d) owners r
+        (key_of (get_or owners (slice_index r.firsts number) d)) number refl index (own_key d) within;
   }
 
 -- a search and one comparison more
@@ -211,7 +246,8 @@ none_less n m old new le one none = elim (cases_lt n m) [
 pub has_it : (n m : ℕ) (a b : List ℕ) → nat_lt n m && is_eq (compared a b) ≡ true → (n < m) × (a ≡ b)
 has_it n m a b h = (
   (let t = first_so (nat_lt n m) (is_eq (compared a b)) h in grind (arith, nat_tests)),
-  slice_cmp-IsAntisymmetric nat_cmp-IsAntisymmetric a b ((Equal-is (compared a b)).0 (second_so (nat_lt n m) (is_eq (compared a b)) h)),
+  slice_cmp-IsAntisymmetric nat_cmp-IsAntisymmetric a b
+      ((Equal-is (compared a b)).0 (second_so (nat_lt n m) (is_eq (compared a b)) h)),
 )
 
 pub has_other : (n m : ℕ) (a b : List ℕ) → nat_lt n m && is_eq (compared a b) ≡ false → n < m → a ≡ b → ⊥

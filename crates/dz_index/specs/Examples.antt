@@ -29,7 +29,8 @@ pub shorter_label_first : slice_cmp nat_cmp (key_of (codes "a" ∷ [])) (key_of 
 unfolding keys_of label_before octet_before
 shorter_label_first = refl
 
-pub below_before_longer_label : slice_cmp nat_cmp (key_of (codes "z" ∷ codes "a" ∷ [])) (key_of ((97 ∷ 0 ∷ []) ∷ [])) ≡ Less
+pub below_before_longer_label : slice_cmp nat_cmp (key_of (codes "z" ∷ codes "a" ∷ [])) (key_of ((97 ∷ 0 ∷ []) ∷ []))
+    ≡ Less
 unfolding keys_of label_before octet_before
 below_before_longer_label = refl
 

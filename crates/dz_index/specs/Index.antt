@@ -12,12 +12,14 @@ use Rattle.dz_name.specs.Words.{Name}
 -- so many owners come before the name, and no other does
 abbrev pub IsFirstOf : Name → List Name → ℕ → Type 0
 IsFirstOf name owners place =
-    IsPartitionPoint (λ owner. is_lt (canonical_order owner name) ≡ true) (λ owner. is_lt (canonical_order owner name) ≡ false) owners place
+    IsPartitionPoint (λ owner. is_lt (canonical_order owner name) ≡ true)
+    (λ owner. is_lt (canonical_order owner name) ≡ false) owners place
 
 -- so many owners come before the name or are it, and no other is
 abbrev pub IsEndOf : Name → List Name → ℕ → Type 0
 IsEndOf name owners place =
-    IsPartitionPoint (λ owner. is_le (canonical_order owner name) ≡ true) (λ owner. is_le (canonical_order owner name) ≡ false) owners place
+    IsPartitionPoint (λ owner. is_le (canonical_order owner name) ≡ true)
+    (λ owner. is_le (canonical_order owner name) ≡ false) owners place
 
 -- from one place up to another there is one owner, which is nowhere else
 pub record IsRun (owners : List Name) (begin end : ℕ) : Type 0 where
@@ -28,11 +30,13 @@ pub record IsRun (owners : List Name) (begin end : ℕ) : Type 0 where
 
 -- how the last owner compares with a name: before it where there is none
 abbrev pub order_behind : List Name → Name → Ordering
-order_behind owners name = if nat_lt 0 (length owners) then canonical_order (slice_index_or owners (length owners - 1) []) name else Less
+order_behind owners name =
+    if nat_lt 0 (length owners) then canonical_order (slice_index_or owners (length owners - 1) []) name else Less
 
 -- owners in canonical order, each of which may come more than once
 abbrev pub InOrder : List Name → Type 0
-InOrder owners = (at : ℕ) (d : Name) → at + 1 < length owners → is_le (canonical_order (slice_index_or owners at d) (slice_index_or owners (at + 1) d)) ≡ true
+InOrder owners = (at : ℕ) (d : Name) → at + 1 < length owners
+    → is_le (canonical_order (slice_index_or owners at d) (slice_index_or owners (at + 1) d)) ≡ true
 
 -- so many comparisons a search among so many names takes at most: one more than the binary logarithm of twice as many
 abbrev pub IsSearch : ℕ → ℕ → Type 0

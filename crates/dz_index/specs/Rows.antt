@@ -1,5 +1,5 @@
--- Meaning: an index of owners as contracts see it, and of which owners it is the index: the sort keys of the distinct ones,
--- and where the records of each begin among those of all.
+-- Meaning: an index of owners as contracts see it, and of which owners it is the index: the sort keys of the distinct
+-- ones, and where the records of each begin among those of all.
 use Rattle.std.specs.Prelude.{◌≡◌, ℕ, ◌+◌, ◌<◌, ◌≤◌, List, [], length, slice_index, slice_index_or, true, false}
 use Rattle.std.specs.Ordering.{nat_cmp, is_lt, is_le}
 use Rattle.std.specs.Cmp.Lexicographic.{slice_cmp}
@@ -40,5 +40,7 @@ pub record IsIndex (owners : List Name) (r : Rows) : Type 0 where
   pub first : slice_index r.firsts 0 ≡ 0
   pub grow : (i : ℕ) → i < count r → slice_index r.firsts i < slice_index r.firsts (i + 1)
   pub rise : AreRising r
-  pub upto : (i j : ℕ) (d : Name) → i < count r → j < slice_index r.firsts (i + 1) → is_le (compared (key_of (slice_index_or owners j d)) (key_at r i)) ≡ true
-  pub behind : (i j : ℕ) (d : Name) → i < count r → slice_index r.firsts i ≤ j → j < length owners → is_lt (compared (key_of (slice_index_or owners j d)) (key_at r i)) ≡ false
+  pub upto : (i j : ℕ) (d : Name) → i < count r → j < slice_index r.firsts (i + 1)
+      → is_le (compared (key_of (slice_index_or owners j d)) (key_at r i)) ≡ true
+  pub behind : (i j : ℕ) (d : Name) → i < count r → slice_index r.firsts i ≤ j → j < length owners
+      → is_lt (compared (key_of (slice_index_or owners j d)) (key_at r i)) ≡ false

@@ -1,6 +1,8 @@
 //! An index of owners.
 
-ghost use Rattle.std.specs.Prelude.{◌≡◌, ◌↔◌, ℕ, ◌+◌, ◌-◌, ◌^◌, ◌<◌, ◌≤◌, List, [], ◌∷◌, ◌++◌, length, None, IfOk, IfSome, slice_index, slice_index_or, slice_range, nat_lt, ◌&&◌, false, true, OnOk, OnErr};
+ghost use Rattle.std.specs.Prelude.{◌≡◌, ◌↔◌, ℕ, ◌+◌, ◌-◌, ◌^◌, ◌<◌, ◌≤◌, List, [], ◌∷◌, ◌++◌, length, None, IfOk};
+ghost use Rattle.std.specs.Prelude.{IfSome, slice_index, slice_index_or, slice_range, nat_lt, ◌&&◌, false, true, OnOk};
+ghost use Rattle.std.specs.Prelude.{OnErr};
 ghost use Rattle.std.specs.Ordering.{is_eq, is_gt};
 ghost use Rattle.dz_name.specs.Words.{Name};
 ghost use Rattle.dz_index.specs.Index.{IsFirstOf, IsEndOf, IsRun, InOrder, order_behind, IsSearch, TakesAtMost};

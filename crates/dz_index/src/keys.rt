@@ -1,6 +1,7 @@
 //! The keys of an index, which a counted comparison alone reads.
 
-ghost use Rattle.std.specs.Prelude.{◌≡◌, ◌+◌, ◌-◌, ◌^◌, ◌<◌, ◌≤◌, [], ◌∷◌, ◌++◌, length, slice_index, slice_index_or, slice_range, map, drop, IfOk, OnOk, OnErr};
+ghost use Rattle.std.specs.Prelude.{◌≡◌, ◌+◌, ◌-◌, ◌^◌, ◌<◌, ◌≤◌, [], ◌∷◌, ◌++◌, length, slice_index, slice_index_or};
+ghost use Rattle.std.specs.Prelude.{slice_range, map, drop, IfOk, OnOk, OnErr};
 ghost use Rattle.dz_index.specs.Rows.{compared};
 ghost use Rattle.dz_index.specs.inner.Parts.{AreBounds, AreWithin, last_of};
 ghost use Rattle.dz_index.specs.inner.Portion.{moved};

@@ -9,8 +9,8 @@ HasRisen before now = (before < now) ⊎ (2 ^ 64 - 1 ≤ now)
 abbrev pub HasRisenBy : ℕ → ℕ → ℕ → Type 0
 HasRisenBy n before now = (before + n ≤ now) ⊎ (2 ^ 64 - 1 ≤ now)
 
--- something came back with a count of faults, and this count covers it: it doesn't fall, it is the same where the other
--- is 0, and it rises otherwise
+-- something came back with a count of faults, and this count covers it: it doesn't fall, it is the same where the
+-- other is 0, and it rises otherwise
 pub record Covers (brought before now : ℕ) : Type 0 where
   pub later : before ≤ now
   pub kept : brought ≡ 0 → now ≡ before
@@ -18,7 +18,8 @@ pub record Covers (brought before now : ℕ) : Type 0 where
 
 -- a count that rose by one number and then by another rose by their sum
 abbrev pub RisesAddUp : Type 0
-RisesAddUp = (n more before middle now : ℕ) → HasRisenBy n before middle → HasRisenBy more middle now → HasRisenBy (n + more) before now
+RisesAddUp = (n more before middle now : ℕ) → HasRisenBy n before middle → HasRisenBy more middle now
+    → HasRisenBy (n + more) before now
 
 -- a count that rose has still risen later, where it doesn't fall
 abbrev pub RisesLast : Type 0

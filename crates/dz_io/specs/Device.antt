@@ -1,6 +1,7 @@
 -- Meaning: what a call does to what a device reports, its octets or its packets and links, and how its count of faults
 -- shows a failed call. A device that doesn't report them has None.
-use Rattle.std.specs.Prelude.{◌≡◌, ◌≤◌, ℕ, List, [], ◌++◌, length, take, Option, option_map, IfSome, Result, OnOk, IsErr, IsErrOf}
+use Rattle.std.specs.Prelude.{◌≡◌, ◌≤◌, ℕ, List, [], ◌++◌, length, take, Option, option_map, IfSome, Result, OnOk}
+use Rattle.std.specs.Prelude.{IsErr, IsErrOf}
 use Rattle.dz_io.specs.Counts.{HasRisen}
 
 -- these octets were taken from the beginning of what was left

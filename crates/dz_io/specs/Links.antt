@@ -1,4 +1,5 @@
--- Meaning: the links that a dialer or an acceptor gives out one at a time, and what it reports of those that came back.
+-- Meaning: the links that a dialer or an acceptor gives out one at a time, and what it reports of those that came
+-- back.
 use Rattle.std.specs.Prelude.{◌≡◌, ℕ, Bool, true, List, [], Option}
 use Rattle.dz_io.specs.Device.{Tells}
 use Rattle.dz_io.specs.declared.peer.Peer.{Peer}
@@ -16,7 +17,8 @@ pub record Dialled : Type 0 where
 
 -- such a link with these parts
 abbrev pub dialled : Peer → Option (List ℕ) → Option (List ℕ) → Option (List ℕ) → ℕ → Dialled
-dialled peer read left written faults = record { peer = peer; read = read; left = left; written = written; faults = faults }
+dialled peer read left written faults =
+    record { peer = peer; read = read; left = left; written = written; faults = faults }
 
 -- nothing was read from the link or written to it, and it has no fault
 pub record IsFreshLink (read written : Option (List ℕ)) (faults : ℕ) : Type 0 where

@@ -42,7 +42,11 @@ is_to_fail call failing = (call == 2 ^ 64 - 1) || list_any (λ listed. listed ==
 
 -- the calls after one more call, which failed or not
 abbrev pub after_call : CallsOf → Bool → CallsOf
-after_call calls failed = record { count = one_more calls.count; failing = calls.failing; faults = (if failed then one_more calls.faults else calls.faults) }
+after_call calls failed = record {
+  count = one_more calls.count;
+  failing = calls.failing;
+  faults = (if failed then one_more calls.faults else calls.faults);
+}
 
 -- the calls before the first call
 abbrev pub no_calls : List ℕ → CallsOf

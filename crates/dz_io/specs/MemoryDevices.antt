@@ -1,5 +1,6 @@
 -- Meaning: datagram devices, acceptors, dialers, ports and clocks in memory, as their contracts see them.
-use Rattle.std.specs.Prelude.{◌≡◌, ◌==◌, ◌||◌, ◌+◌, ◌-◌, ◌^◌, ℕ, Bool, false, List, [], ◌∷◌, ◌++◌, Option, Some, None, map, min, unwrap_or, if◌then◌else◌}
+use Rattle.std.specs.Prelude.{◌≡◌, ◌==◌, ◌||◌, ◌+◌, ◌-◌, ◌^◌, ℕ, Bool, false, List, [], ◌∷◌, ◌++◌, Option, Some, None}
+use Rattle.std.specs.Prelude.{map, min, unwrap_or, if◌then◌else◌}
 use Rattle.std.specs.List.{slice_get, list_any, range_with_len}
 use Rattle.dz_io.specs.Memory.{CallsOf, LinkOf, no_calls}
 use Rattle.dz_io.specs.Packets.{Packet}
@@ -25,7 +26,8 @@ pub record CallerOf : Type 0 where
 
 -- the link that gives these octets, from which nothing was read
 abbrev pub fresh_link : StreamOf → LinkOf
-fresh_link stream = record { tape = record { given = []; left = stream.octets }; written = []; calls = no_calls stream.failing }
+fresh_link stream =
+    record { tape = record { given = []; left = stream.octets }; written = []; calls = no_calls stream.failing }
 
 -- what is reported of a link that came back
 abbrev pub told_link : Peer → LinkOf → Dialled
@@ -41,7 +43,8 @@ pub record DatagramsOf : Type 0 where
 
 -- a datagram device with this input that has received and sent nothing
 abbrev pub fresh_datagrams : SetupOf Packet → DatagramsOf
-fresh_datagrams setup = record { received = []; coming = setup.coming; sent = []; is_closed = false; calls = no_calls setup.failing }
+fresh_datagrams setup =
+    record { received = []; coming = setup.coming; sent = []; is_closed = false; calls = no_calls setup.failing }
 
 -- an acceptor: the peers that are still to connect, and the links that came back
 pub record AcceptorOf : Type 0 where
@@ -53,7 +56,8 @@ pub record AcceptorOf : Type 0 where
 
 -- an acceptor with this input that has given no link
 abbrev pub fresh_acceptor : SetupOf CallerOf → AcceptorOf
-fresh_acceptor setup = record { coming = setup.coming; back = []; out = None; is_closed = false; calls = no_calls setup.failing }
+fresh_acceptor setup =
+    record { coming = setup.coming; back = []; out = None; is_closed = false; calls = no_calls setup.failing }
 
 -- a dialer: what the next links give, and the links that came back
 pub record DialerOf : Type 0 where
@@ -84,7 +88,8 @@ fresh_shelf ready = record { ready = ready; opened = []; out = 0; back = [] }
 
 -- the next device is opened, at this place
 abbrev pub Opens : {P S D : Type 0} → P → SetupOf S → ShelfOf P S D → ShelfOf P S D → Type 0
-Opens place setup before after = (before.ready ≡ setup ∷ after.ready) × (after ≡ record before { ready = after.ready; opened = before.opened ++ place ∷ []; out = before.out + 1 })
+Opens place setup before after = (before.ready ≡ setup ∷ after.ready)
+    × (after ≡ record before { ready = after.ready; opened = before.opened ++ place ∷ []; out = before.out + 1 })
 
 -- the devices after one came back
 abbrev pub put_back : {P S D : Type 0} → D → ShelfOf P S D → ShelfOf P S D
@@ -126,7 +131,8 @@ moment_at clock n = unwrap_or (slice_get clock.moments n) clock.last
 
 -- the moments that were given, in order, until the counter is at its maximum
 abbrev pub moments_given : ClockOf → Option (List ℕ)
-moments_given clock = if clock.count == 2 ^ 64 - 1 then None else Some (map (moment_at clock) (range_with_len 0 clock.count))
+moments_given clock =
+    if clock.count == 2 ^ 64 - 1 then None else Some (map (moment_at clock) (range_with_len 0 clock.count))
 
 -- whether the clock may give this moment
 abbrev pub has_moment : ClockOf → ℕ → Bool

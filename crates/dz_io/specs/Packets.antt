@@ -16,7 +16,8 @@ packet octets peer = record { octets = octets; peer = peer }
 
 -- a packet was received, and is at the beginning of the buffer; or none was
 abbrev pub Receives : Received → List ℕ → Option (List Packet) → Option (List Packet) → Type 0
-Receives (received.Packet n peer) buffer before after = (n ≤ length buffer) × Gains (packet (take n buffer) peer ∷ []) before after
+Receives (received.Packet n peer) buffer before after =
+    (n ≤ length buffer) × Gains (packet (take n buffer) peer ∷ []) before after
 Receives received.Closed buffer before after = after ≡ before
 
 -- a device is marked as closed once it has returned Closed

@@ -14,11 +14,13 @@ pub record Row (P T : Type 0) : Type 0 where
 
 -- the row after one more was opened, at this place
 abbrev pub opening : {P T : Type 0} → P → Row P T → Row P T
-opening place row = record { opened = option_map (λ places. places ++ place ∷ []) row.opened; out = row.out + 1; back = row.back }
+opening place row =
+    record { opened = option_map (λ places. places ++ place ∷ []) row.opened; out = row.out + 1; back = row.back }
 
 -- the row after one came back, which reports this
 abbrev pub closing : {P T : Type 0} → T → Row P T → Row P T
-closing told row = record { opened = row.opened; out = row.out - 1; back = option_map (λ devices. devices ++ told ∷ []) row.back }
+closing told row =
+    record { opened = row.opened; out = row.out - 1; back = option_map (λ devices. devices ++ told ∷ []) row.back }
 
 -- the address and port that a device listens on, and the worker that it is for
 abbrev pub place : Peer → ℕ → Place
@@ -33,7 +35,8 @@ pub record Exchange : Type 0 where
 
 -- a datagram device that reports this
 abbrev pub exchange : Option (List Packet) → Option (List Packet) → Bool → ℕ → Exchange
-exchange received sent is_closed faults = record { received = received; sent = sent; is_closed = is_closed; faults = faults }
+exchange received sent is_closed faults =
+    record { received = received; sent = sent; is_closed = is_closed; faults = faults }
 
 -- it has received and sent nothing, is not closed and has no fault
 pub record IsFreshExchange (device : Exchange) : Type 0 where

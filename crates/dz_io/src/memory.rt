@@ -1,5 +1,6 @@
 //! A source, a sink and a link in memory, with a list of the calls that fail.
-ghost use Rattle.std.specs.Prelude.{◌≡◌, ◌≤◌, ◌<◌, [], Some, None, length, take, min, is_err, IsErr, IsTrue, IfOk, OnOk, OnErr};
+ghost use Rattle.std.specs.Prelude.{◌≡◌, ◌≤◌, ◌<◌, [], Some, None, length, take, min, is_err, IsErr, IsTrue, IfOk};
+ghost use Rattle.std.specs.Prelude.{OnOk, OnErr};
 ghost use Rattle.dz_io.specs.Device.{Gives, Gains, GainsPrefix, IsAtEnd, HasCause};
 ghost use Rattle.dz_io.specs.Memory.{is_to_fail, after_call, no_calls};
 

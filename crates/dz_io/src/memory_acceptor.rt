@@ -1,5 +1,6 @@
 //! An acceptor in memory, with a list of the calls that fail.
-ghost use Rattle.std.specs.Prelude.{◌≡◌, ◌++◌, [], ◌∷◌, None, Some, is_err, IsErr, IsSome, IsTrue, IfSome, IfOk, OnErr};
+ghost use Rattle.std.specs.Prelude.{◌≡◌, ◌++◌, [], ◌∷◌, None, Some, is_err, IsErr, IsSome, IsTrue, IfSome, IfOk};
+ghost use Rattle.std.specs.Prelude.{OnErr};
 ghost use Rattle.dz_io.specs.Device.{HasCause};
 ghost use Rattle.dz_io.specs.Links.{IsAccepted, ClosesTo};
 ghost use Rattle.dz_io.specs.Memory.{is_to_fail, after_call};

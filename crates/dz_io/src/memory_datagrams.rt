@@ -1,5 +1,6 @@
 //! A datagram device in memory, with a list of the calls that fail.
-ghost use Rattle.std.specs.Prelude.{◌≡◌, ◌≤◌, ◌<◌, ◌++◌, [], ◌∷◌, Some, length, take, is_err, IsErr, IsTrue, IfOk, OnOk, OnErr};
+ghost use Rattle.std.specs.Prelude.{◌≡◌, ◌≤◌, ◌<◌, ◌++◌, [], ◌∷◌, Some, length, take, is_err, IsErr, IsTrue, IfOk};
+ghost use Rattle.std.specs.Prelude.{OnOk, OnErr};
 ghost use Rattle.dz_io.specs.Device.{Gains, HasCause};
 ghost use Rattle.dz_io.specs.Memory.{is_to_fail, after_call};
 ghost use Rattle.dz_io.specs.MemoryDevices.{fresh_datagrams};

@@ -1,5 +1,6 @@
 //! A dialer in memory, with a list of the calls that fail.
-ghost use Rattle.std.specs.Prelude.{◌≡◌, ◌++◌, [], ◌∷◌, None, Some, is_err, IsErr, IsSome, IsTrue, IfSome, IfOk, OnOk, OnErr};
+ghost use Rattle.std.specs.Prelude.{◌≡◌, ◌++◌, [], ◌∷◌, None, Some, is_err, IsErr, IsSome, IsTrue, IfSome, IfOk, OnOk};
+ghost use Rattle.std.specs.Prelude.{OnErr};
 ghost use Rattle.dz_io.specs.Counts.{Covers};
 ghost use Rattle.dz_io.specs.Device.{HasCause};
 ghost use Rattle.dz_io.specs.Memory.{is_to_fail, after_call};

@@ -3,7 +3,8 @@ ghost use Rattle.std.specs.Prelude.{◌≡◌, ◌<◌, is_err, IsErr, IsTrue, I
 ghost use Rattle.dz_io.specs.Counts.{Covers};
 ghost use Rattle.dz_io.specs.Device.{HasCause};
 ghost use Rattle.dz_io.specs.Memory.{is_to_fail, after_call, no_calls};
-ghost use Rattle.dz_io.specs.MemoryDevices.{SetupOf, StreamOf, CallerOf, Opens, put_back, covering, fresh_shelf, fresh_datagrams, fresh_acceptor, fresh_dialer};
+ghost use Rattle.dz_io.specs.MemoryDevices.{SetupOf, StreamOf, CallerOf, Opens, put_back, covering, fresh_shelf};
+ghost use Rattle.dz_io.specs.MemoryDevices.{fresh_datagrams, fresh_acceptor, fresh_dialer};
 ghost use Rattle.dz_io.specs.Packets.{Packet};
 ghost use Rattle.dz_io.specs.Ports.{place};
 

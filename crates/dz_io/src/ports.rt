@@ -2,7 +2,8 @@
 ghost use Rattle.std.specs.Prelude.{◌≡◌, ◌<◌, IfOk, OnOk, OnErr};
 ghost use Rattle.dz_io.specs.Counts.{Covers};
 ghost use Rattle.dz_io.specs.Device.{HasCause};
-ghost use Rattle.dz_io.specs.Ports.{opening, closing, place, exchange, accepts, dials, IsFreshExchange, IsFreshAccepts, IsFreshDials};
+ghost use Rattle.dz_io.specs.Ports.{opening, closing, place, exchange, accepts, dials, IsFreshExchange};
+ghost use Rattle.dz_io.specs.Ports.{IsFreshAccepts, IsFreshDials};
 
 use crate::{Acceptor, Datagrams, Dialer, Failed, Peer};
 

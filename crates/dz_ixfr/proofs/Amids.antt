@@ -1,5 +1,6 @@
 -- Places amid a form of differences: some records lead on to an end, and what a record that doesn't fit is blamed for.
-use Rattle.std.proofs.Common.{◌≡◌, ℕ, Bool, true, false, List, [], ◌∷◌, refl, sym, ◌∙◌, ap, inl, inr, Some, None, Option}
+use Rattle.std.proofs.Common.{◌≡◌, ℕ, Bool, true, false, List, [], ◌∷◌, refl, sym, ◌∙◌, ap, inl, inr, Some, None}
+use Rattle.std.proofs.Common.{Option}
 use Rattle.std.proofs.lemmas.Bool.{cases_Bool, eqb-true}
 use Rattle.std.specs.Prelude.{◌==◌}
 use Rattle.std.specs.List.{find, fold}
@@ -73,16 +74,19 @@ module _ (apex : Name) where
         | inl t ↦
             elim (cases_Bool (serial_of r == serial)) [
               | inr f ↦ let k = rw (t, f) at e in absurd (cc)
-              | inl b ↦ let k = amid_same (rw (t, b) at e) in rw (← k) (record { good = g.0; even = rw t refl; past = λ p. tt })
+              | inl b ↦ let k = amid_same (rw (t, b) at e) in
+                  rw (← k) (record { good = g.0; even = rw t refl; past = λ p. tt })
             ]
       ]
   next (deleting first zone) r y g e =
       elim (cases_Bool (is_apex_soa apex r)) [
-        | inl t ↦ let k = amid_same (rw t at e) in rw (← k) (record { good = (g, (r, t, refl)); even = rw t refl; past = λ p. tt })
+        | inl t ↦ let k = amid_same (rw t at e) in
+            rw (← k) (record { good = (g, (r, t, refl)); even = rw t refl; past = λ p. tt })
         | inr f ↦
             elim (cases_Bool (is_there r zone)) [
               | inr n ↦ let k = rw (f, n) at e in absurd (cc)
-              | inl t ↦ let k = amid_same (rw (f, t) at e) in rw (← k) (record { good = g; even = rw f refl; past = λ p. tt })
+              | inl t ↦ let k = amid_same (rw (f, t) at e) in
+                  rw (← k) (record { good = g; even = rw f refl; past = λ p. tt })
             ]
       ]
   next (adding first serial zone) r y g e =
@@ -90,7 +94,8 @@ module _ (apex : Name) where
         | inr f ↦
             elim (cases_Bool (is_there r zone)) [
               | inl t ↦ let k = rw (f, t) at e in absurd (cc)
-              | inr n ↦ let k = amid_same (rw (f, n) at e) in rw (← k) (record { good = g; even = rw f refl; past = λ p. tt })
+              | inr n ↦ let k = amid_same (rw (f, n) at e) in
+                  rw (← k) (record { good = g; even = rw f refl; past = λ p. tt })
             ]
         | inl t ↦
             elim (cases_Bool (serial == serial_of first)) [
@@ -102,7 +107,8 @@ module _ (apex : Name) where
               | inr s ↦
                   elim (cases_Bool (serial_of r == serial)) [
                     | inr b ↦ let k = rw (t, s, b) at e in absurd (cc)
-                    | inl b ↦ let k = amid_same (rw (t, s, b) at e) in rw (← k) (record { good = g.0; even = rw t refl; past = λ p. tt })
+                    | inl b ↦ let k = amid_same (rw (t, s, b) at e) in
+                        rw (← k) (record { good = g.0; even = rw t refl; past = λ p. tt })
                   ]
             ]
       ]
@@ -122,10 +128,15 @@ module _ (apex : Name) where
         | amid z ↦ λ q f.
             let n = next x r z g q in
             let w = onward z rest y n.good f in
-            record { good = w.good; even = ap (λ b. fold (turned apex) b rest) n.even ∙ w.even; past = λ p. w.past (n.past p) }
+            record {
+              good = w.good;
+              even = ap (λ b. fold (turned apex) b rest) n.even ∙ w.even;
+              past = λ p. w.past (n.past p);
+            }
       ]) refl e
 
-  blame_past : (front : List Record) (first second : Record) (x : Amid) (r : Record) (fault : ShapeFault) → IsPast x → is_even apex (first ∷ second ∷ front) ≡ parity x → one apex x r ≡ failed fault
+  blame_past : (front : List Record) (first second : Record) (x : Amid) (r : Record) (fault : ShapeFault) → IsPast x
+      → is_even apex (first ∷ second ∷ front) ≡ parity x → one apex x r ≡ failed fault
       → fault ≡ blamed apex (first ∷ second ∷ front) r
   blame_past front first second (nothing serial zone) r fault p h e = absurd p
   blame_past front first second (begun own serial zone) r fault p h e = absurd p
@@ -160,7 +171,8 @@ module _ (apex : Name) where
             ]
       ]
 
-  blame_begun : (first r : Record) (serial : ℕ) (zone : List Record) (fault : ShapeFault) → one apex (begun first serial zone) r ≡ failed fault → fault ≡ SerialGap
+  blame_begun : (first r : Record) (serial : ℕ) (zone : List Record) (fault : ShapeFault)
+      → one apex (begun first serial zone) r ≡ failed fault → fault ≡ SerialGap
   blame_begun first r serial zone fault e =
       elim (cases_Bool (is_apex_soa apex r)) [
         | inr f ↦ let k = rw f at e in failed_same (sym k)
@@ -171,22 +183,27 @@ module _ (apex : Name) where
             ]
       ]
 
-  blame_none : (r : Record) (serial : ℕ) (zone : List Record) (fault : ShapeFault) → one apex (nothing serial zone) r ≡ failed fault → fault ≡ NotSoaFirst
+  blame_none : (r : Record) (serial : ℕ) (zone : List Record) (fault : ShapeFault)
+      → one apex (nothing serial zone) r ≡ failed fault → fault ≡ NotSoaFirst
   blame_none r serial zone fault e =
       elim (cases_Bool (is_apex_soa apex r)) [
         | inr f ↦ let k = rw f at e in failed_same (sym k)
         | inl t ↦ let k = rw t at e in absurd (cc)
       ]
 
-  begun_read : (first : Record) (serial : ℕ) (zone : List Record) (x : Amid) → go apex (amid (nothing serial zone)) (first ∷ []) ≡ amid x → (is_apex_soa apex first ≡ true) × (begun first serial zone ≡ x)
+  begun_read : (first : Record) (serial : ℕ) (zone : List Record) (x : Amid)
+      → go apex (amid (nothing serial zone)) (first ∷ []) ≡ amid x
+      → (is_apex_soa apex first ≡ true) × (begun first serial zone ≡ x)
   begun_read first serial zone x e =
       elim (cases_Bool (is_apex_soa apex first)) [
         | inr f ↦ let k = rw f at e in absurd (cc)
         | inl t ↦ (t, amid_same (rw t at e))
       ]
 
-  two_read : (first second : Record) (serial : ℕ) (zone rest : List Record) (x : Amid) → go apex (amid (nothing serial zone)) (first ∷ second ∷ rest) ≡ amid x
-      → (is_apex_soa apex first ≡ true) × (is_apex_soa apex second ≡ true) × (go apex (amid (deleting first zone)) rest ≡ amid x)
+  two_read : (first second : Record) (serial : ℕ) (zone rest : List Record) (x : Amid)
+      → go apex (amid (nothing serial zone)) (first ∷ second ∷ rest) ≡ amid x
+      → (is_apex_soa apex first ≡ true) × (is_apex_soa apex second ≡ true)
+      × (go apex (amid (deleting first zone)) rest ≡ amid x)
   two_read first second serial zone rest x e =
       elim (cases_Bool (is_apex_soa apex first)) [
         | inr f ↦ absurd (failed_not_amid (one apex) NotSoaFirst (second ∷ rest) x (rw f at e))
@@ -201,36 +218,52 @@ module _ (apex : Name) where
             ]
       ]
 
-  blame : (serial : ℕ) (zone records : List Record) (x : Amid) (r : Record) (fault : ShapeFault) → go apex (amid (nothing serial zone)) records ≡ amid x → one apex x r ≡ failed fault → Blames apex records r fault
+  blame : (serial : ℕ) (zone records : List Record) (x : Amid) (r : Record) (fault : ShapeFault)
+      → go apex (amid (nothing serial zone)) records ≡ amid x → one apex x r ≡ failed fault
+      → Blames apex records r fault
   blame serial zone [] x r fault e q = blame_none r serial zone fault (ap (λ y. one apex y r) (amid_same e) ∙ q)
-  blame serial zone (first ∷ []) x r fault e q = let w = begun_read first serial zone x e in blame_begun first r serial zone fault (ap (λ y. one apex y r) w.1 ∙ q)
+  blame serial zone (first ∷ []) x r fault e q =
+      let w = begun_read first serial zone x e in
+      blame_begun first r serial zone fault (ap (λ y. one apex y r) w.1 ∙ q)
   blame serial zone (first ∷ second ∷ rest) x r fault e q =
       let w = two_read first second serial zone rest x e in
       let k = onward (deleting first zone) rest x w.0 w.2 in
       let even : is_even apex (first ∷ second ∷ rest) ≡ parity x = rw (w.0, w.1) k.even in
       blame_past rest first second x r fault (k.past tt) even q
 
-  ends_deleting : (first : Record) (zone : List Record) → is_apex_soa apex first ≡ true → go apex (amid (deleting first zone)) (first ∷ first ∷ []) ≡ ended (insertion first zone)
-  ends_deleting first zone g = ap (λ p. go apex p (first ∷ [])) (step_new apex first first zone g) ∙ step_end apex first first (serial_of first) zone g refl refl
+  ends_deleting : (first : Record) (zone : List Record) → is_apex_soa apex first ≡ true
+      → go apex (amid (deleting first zone)) (first ∷ first ∷ []) ≡ ended (insertion first zone)
+  ends_deleting first zone g = ap (λ p. go apex p (first ∷ [])) (step_new apex first first zone g)
+      ∙ step_end apex first first (serial_of first) zone g refl refl
 
-  ends_begun : (first new : Record) (serial : ℕ) (zone : List Record) → is_apex_soa apex first ≡ true → is_apex_soa apex new ≡ true → serial_of new ≡ serial → go apex (amid (begun first serial zone)) (new ∷ first ∷ first ∷ []) ≡ ended (insertion first zone)
-  ends_begun first new serial zone g t e = ap (λ p. go apex p (first ∷ first ∷ [])) (step_held apex first new serial zone t e) ∙ ends_deleting first zone g
+  ends_begun : (first new : Record) (serial : ℕ) (zone : List Record)
+      → is_apex_soa apex first ≡ true → is_apex_soa apex new ≡ true → serial_of new ≡ serial
+      → go apex (amid (begun first serial zone)) (new ∷ first ∷ first ∷ []) ≡ ended (insertion first zone)
+  ends_begun first new serial zone g t e =
+      ap (λ p. go apex p (first ∷ first ∷ [])) (step_held apex first new serial zone t e) ∙ ends_deleting first zone g
 
   completes : (x : Amid) → Good x → (rest : List Record) × (zone : List Record) × (go apex (amid x) rest ≡ ended zone)
   completes (deleting first zone) g = (first ∷ first ∷ [], insertion first zone, ends_deleting first zone g)
-  completes (begun first serial zone) g = (g.1.0 ∷ first ∷ first ∷ [], insertion first zone, ends_begun first g.1.0 serial zone g.0 g.1.1 g.1.2)
+  completes (begun first serial zone) g =
+      (g.1.0 ∷ first ∷ first ∷ [], insertion first zone, ends_begun first g.1.0 serial zone g.0 g.1.1 g.1.2)
   completes (nothing serial zone) g = (
     g.0 ∷ g.0 ∷ g.0 ∷ g.0 ∷ [],
     insertion g.0 zone,
-    ap (λ p. go apex p (g.0 ∷ g.0 ∷ g.0 ∷ [])) (step_first apex g.0 serial zone g.1) ∙ ends_begun g.0 g.0 serial zone g.1 g.1 g.2,
+    ap (λ p. go apex p (g.0 ∷ g.0 ∷ g.0 ∷ [])) (step_first apex g.0 serial zone g.1)
+        ∙ ends_begun g.0 g.0 serial zone g.1 g.1 g.2,
   )
   completes (adding first serial zone) g =
       elim (cases_Bool (serial == serial_of first)) [
-        | inl s ↦ (first ∷ [], insertion first zone, step_end apex first first serial zone g.0 (eqb-true serial (serial_of first) s) refl)
+        | inl s ↦ (
+          first ∷ [],
+          insertion first zone,
+          step_end apex first first serial zone g.0 (eqb-true serial (serial_of first) s) refl,
+        )
         | inr s ↦ (
           g.1.0 ∷ first ∷ first ∷ [],
           insertion first zone,
-          ap (λ p. go apex p (first ∷ first ∷ [])) (step_old apex first g.1.0 serial zone g.1.1 (apart serial (serial_of first) s) g.1.2) ∙ ends_deleting first zone g.0,
+          ap (λ p. go apex p (first ∷ first ∷ [])) (step_old apex first g.1.0 serial zone g.1.1
+              (apart serial (serial_of first) s) g.1.2) ∙ ends_deleting first zone g.0,
         )
       ]
 
@@ -247,17 +280,21 @@ unfolding an_soa number_of_four
 an_soa_serial apex = refl
 
 -- some SOA of the apex has the held serial
-brings_found : (held : Zone) (found : Option Record) → found ≡ find (is_apex_soa held.apex) held.records → Brings held.apex (option_map_or serial_of found 0)
+brings_found : (held : Zone) (found : Option Record) → found ≡ find (is_apex_soa held.apex) held.records
+    → Brings held.apex (option_map_or serial_of found 0)
 brings_found held None e = (an_soa held.apex, an_soa_is held.apex, an_soa_serial held.apex)
 brings_found held (Some soa) e = (soa, found_passes (is_apex_soa held.apex) held.records soa e, refl)
 
 brings_held : (held : Zone) → Brings held.apex (held_serial held)
 brings_held held = brings_found held (find (is_apex_soa held.apex) held.records) refl
 
-leads_to_end : (held : Zone) (records : List Record) (x : Amid) → place_of held records ≡ amid x → (rest : List Record) × (zone : List Record) × (read (one held.apex) (amid x) rest ≡ ended zone)
-leads_to_end held records x e = completes held.apex x (onward held.apex (start held) records x (brings_held held) e).good
+leads_to_end : (held : Zone) (records : List Record) (x : Amid) → place_of held records ≡ amid x
+    → (rest : List Record) × (zone : List Record) × (read (one held.apex) (amid x) rest ≡ ended zone)
+leads_to_end held records x e =
+    completes held.apex x (onward held.apex (start held) records x (brings_held held) e).good
 
-one_fault : (apex : Name) (front : List Record) (r : Record) (a b : ShapeFault) → Blames apex front r a → Blames apex front r b → a ≡ b
+one_fault : (apex : Name) (front : List Record) (r : Record) (a b : ShapeFault) → Blames apex front r a
+    → Blames apex front r b → a ≡ b
 one_fault apex front r a b e f = e ∙ sym f
 
 pub agrees : (held : Zone) → Agrees (one held.apex) (start held) (IsIncremental held) (Blames held.apex)
@@ -269,8 +306,12 @@ agrees held = record {
   one_fault = one_fault held.apex;
 }
 
-pub form_stands : (held : Zone) (records : List Record) → Stands (IsIncremental held) (Blames held.apex) records (reading_of held records)
-form_stands held records = reading_stands (one held.apex) (start held) (IsIncremental held) (Blames held.apex) (agrees held) records
+pub form_stands : (held : Zone) (records : List Record)
+    → Stands (IsIncremental held) (Blames held.apex) records (reading_of held records)
+form_stands held records =
+    reading_stands (one held.apex) (start held) (IsIncremental held) (Blames held.apex) (agrees held) records
 
-pub form_stands_once : (held : Zone) (records : List Record) (reading : Reading) → Stands (IsIncremental held) (Blames held.apex) records reading → reading ≡ reading_of held records
-form_stands_once held records reading s = stands_once (one held.apex) (start held) (IsIncremental held) (Blames held.apex) (agrees held) records reading s
+pub form_stands_once : (held : Zone) (records : List Record) (reading : Reading)
+    → Stands (IsIncremental held) (Blames held.apex) records reading → reading ≡ reading_of held records
+form_stands_once held records reading s =
+    stands_once (one held.apex) (start held) (IsIncremental held) (Blames held.apex) (agrees held) records reading s

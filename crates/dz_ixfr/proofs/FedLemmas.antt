@@ -1,5 +1,6 @@
 -- What an assembler says of all records that it was fed.
-use Rattle.std.proofs.Common.{◌≡◌, ℕ, true, List, [], ◌∷◌, ◌++◌, append_assoc, refl, sym, ◌∙◌, ap, subst, Result, Ok, Err}
+use Rattle.std.proofs.Common.{◌≡◌, ℕ, true, List, [], ◌∷◌, ◌++◌, append_assoc, refl, sym, ◌∙◌, ap, subst, Result, Ok}
+use Rattle.std.proofs.Common.{Err}
 use Rattle.std.proofs.lemmas.List.{append-nil}
 use Rattle.dz_name.specs.Words.{Name}
 use Rattle.dz_record.specs.Record.{Record}
@@ -36,28 +37,37 @@ said_failed (ended zone) fault e = absurd (cc)
 said_failed (failed other) fault e = cc
 
 -- a record that doesn't fit, and whatever follows it
-pub fails : (held : Zone) (error : FeedError) (fed rest all : List Record) (r : Record) → Reads held (Err error) (fed ++ r ∷ []) → fed ++ r ∷ rest ≡ all → Reads held (Err error) all
+pub fails : (held : Zone) (error : FeedError) (fed rest all : List Record) (r : Record)
+    → Reads held (Err error) (fed ++ r ∷ []) → fed ++ r ∷ rest ≡ all → Reads held (Err error) all
 fails held OutOfMemory fed rest all r s e = tt
 fails held (Shape fault) fed rest all r s e =
     let p = said_failed (place_of held (fed ++ r ∷ [])) fault s in
     sym (ap (reading_of held) (sym e ∙ sym (append_assoc fed (r ∷ []) rest))
-    ∙ ap said (read_pieces (one held.apex) (amid (start held)) (fed ++ r ∷ []) rest ∙ (ap (λ q. read (one held.apex) q rest) p ∙ stays_failed (one held.apex) fault rest)))
+    ∙ ap said (read_pieces (one held.apex) (amid (start held)) (fed ++ r ∷ []) rest
+    ∙ (ap (λ q. read (one held.apex) q rest) p ∙ stays_failed (one held.apex) fault rest)))
 
 -- what the reading says holds
-pub says_stands : (held : Zone) (result : Result Progress FeedError) (all : List Record) → Reads held result all → Says result (Stands (IsIncremental held) (Blames held.apex) all)
-says_stands held (Ok More) all e = subst (Stands (IsIncremental held) (Blames held.apex) all) (sym e) (form_stands held all)
-says_stands held (Ok IsEnded) all e = (e.0, subst (Stands (IsIncremental held) (Blames held.apex) all) (sym e.1) (form_stands held all))
-says_stands held (Err (Shape fault)) all e = subst (Stands (IsIncremental held) (Blames held.apex) all) (sym e) (form_stands held all)
+pub says_stands : (held : Zone) (result : Result Progress FeedError) (all : List Record) → Reads held result all
+    → Says result (Stands (IsIncremental held) (Blames held.apex) all)
+says_stands held (Ok More) all e =
+    subst (Stands (IsIncremental held) (Blames held.apex) all) (sym e) (form_stands held all)
+says_stands held (Ok IsEnded) all e =
+    (e.0, subst (Stands (IsIncremental held) (Blames held.apex) all) (sym e.1) (form_stands held all))
+says_stands held (Err (Shape fault)) all e =
+    subst (Stands (IsIncremental held) (Blames held.apex) all) (sym e) (form_stands held all)
 says_stands held (Err OutOfMemory) all e = tt
 
-pub open_reads : (held : Zone) (fed : List Record) → IsOpen (IsIncremental held) (Blames held.apex) fed → more ≡ reading_of held fed
+pub open_reads : (held : Zone) (fed : List Record) → IsOpen (IsIncremental held) (Blames held.apex) fed
+    → more ≡ reading_of held fed
 open_reads held fed o = form_stands_once held fed more o
 
-pub reads_at : (now held : Zone) (result : Result Progress FeedError) (fed : List Record) → now ≡ held → Reads now result fed → Reads held result fed
+pub reads_at : (now held : Zone) (result : Result Progress FeedError) (fed : List Record) → now ≡ held
+    → Reads now result fed → Reads held result fed
 reads_at now held result fed e h = subst (λ z. Reads z result fed) e h
 
 -- a record is taken from those that are left
-pub one_on : (fed rest left all : List Record) (r : Record) → left ≡ r ∷ rest → fed ++ left ≡ all → fed ++ r ∷ rest ≡ all
+pub one_on : (fed rest left all : List Record) (r : Record) → left ≡ r ∷ rest → fed ++ left ≡ all
+    → fed ++ r ∷ rest ≡ all
 one_on fed rest left all r i e = ap (λ l. fed ++ l) (sym i) ∙ e
 
 -- where no record is left
@@ -65,23 +75,29 @@ pub none_left : (fed rest all : List Record) → rest ≡ [] → fed ++ rest ≡
 none_left fed rest all n e = sym (append-nil fed) ∙ (ap (λ l. fed ++ l) (sym n) ∙ e)
 
 -- the records at the end
-zone_is : (s : Stage) (first : Record) (records end : List Record) → place_in s first records ≡ ended end → place_in s first records ≡ ended records
+zone_is : (s : Stage) (first : Record) (records end : List Record) → place_in s first records ≡ ended end
+    → place_in s first records ≡ ended records
 zone_is (Begun n) first records end e = absurd (cc)
 zone_is Deleting first records end e = absurd (cc)
 zone_is (Adding n) first records end e = absurd (cc)
 zone_is Ended first records end e = refl
 
-pub finished : {held : Zone} {fed : List Record} {apex : Name} {goal : ℕ} {first : Record} {stage : Stage} {records : List Record} → IsKept held fed apex goal first stage records
-    → (seen : Assembly) → record { held = held; fed = fed } ≡ seen → IsComplete (IsIncremental seen.held) seen.fed → IsIncremental seen.held seen.fed records
+pub finished : {held : Zone} {fed : List Record} {apex : Name} {goal : ℕ} {first : Record} {stage : Stage}
+    {records : List Record} → IsKept held fed apex goal first stage records
+    → (seen : Assembly) → record { held = held; fed = fed } ≡ seen → IsComplete (IsIncremental seen.held) seen.fed
+    → IsIncremental seen.held seen.fed records
 finished {held = held} {fed = fed} {first = first} {stage = stage} {records = records} k seen v =
     subst (λ (s : Assembly). IsComplete (IsIncremental s.held) s.fed → IsIncremental s.held s.fed records) v
-    (λ w. from_end held fed records (k.place ∙ zone_is stage first records w.0 (sym k.place ∙ to_end held fed w.0 w.1)))
+    (λ w. from_end held fed records
+    (k.place ∙ zone_is stage first records w.0 (sym k.place ∙ to_end held fed w.0 w.1)))
 
 -- after the first SOA
-pub started_place : (held : Zone) (first : Record) → is_apex_soa held.apex first ≡ true → place_of held (first ∷ []) ≡ amid (begun first (held_serial held) (others held))
+pub started_place : (held : Zone) (first : Record) → is_apex_soa held.apex first ≡ true
+    → place_of held (first ∷ []) ≡ amid (begun first (held_serial held) (others held))
 started_place held first t = step_first held.apex first (held_serial held) (others held) t
 
-pub started_kept : (held : Zone) (fed : List Record) (apex : Name) (goal serial : ℕ) (first : Record) → fed ≡ first ∷ [] → apex ≡ held.apex → goal ≡ serial_of first → serial ≡ held_serial held
+pub started_kept : (held : Zone) (fed : List Record) (apex : Name) (goal serial : ℕ) (first : Record)
+    → fed ≡ first ∷ [] → apex ≡ held.apex → goal ≡ serial_of first → serial ≡ held_serial held
     → is_apex_soa held.apex first ≡ true → IsKept held fed apex goal first (Begun serial) (others held)
 started_kept held fed apex goal serial first f a g n t = rw (f, n) record {
   apex_is = a;
@@ -91,14 +107,20 @@ started_kept held fed apex goal serial first f a g n t = rw (f, n) record {
   place = started_place held first t;
 }
 
-pub started_open : (held : Zone) (first : Record) → is_apex_soa held.apex first ≡ true → IsOpen (IsIncremental held) (Blames held.apex) (first ∷ [])
-started_open held first t = subst (Stands (IsIncremental held) (Blames held.apex) (first ∷ [])) (ap said (started_place held first t)) (form_stands held (first ∷ []))
+pub started_open : (held : Zone) (first : Record) → is_apex_soa held.apex first ≡ true
+    → IsOpen (IsIncremental held) (Blames held.apex) (first ∷ [])
+started_open held first t = subst (Stands (IsIncremental held) (Blames held.apex) (first ∷ []))
+    (ap said (started_place held first t)) (form_stands held (first ∷ []))
 
-whole_of : (held : Zone) (all zone : List Record) → Stands (IsIncremental held) (Blames held.apex) all (complete zone) → IsIncremental held all zone
+whole_of : (held : Zone) (all zone : List Record) → Stands (IsIncremental held) (Blames held.apex) all (complete zone)
+    → IsIncremental held all zone
 whole_of held all zone (is_complete f) = f
 
 -- at the end the records that were fed are a whole form, so there is a zone
-pub ended_whole : (now held : Zone) (progress : Progress) (fed all : List Record) → now ≡ held → fed ≡ all → progress ≡ IsEnded → Says (Ok progress) (Stands (IsIncremental held) (Blames held.apex) all) → IsComplete (IsIncremental now) fed
+pub ended_whole : (now held : Zone) (progress : Progress) (fed all : List Record) → now ≡ held → fed ≡ all
+    → progress ≡ IsEnded → Says (Ok progress) (Stands (IsIncremental held) (Blames held.apex) all)
+    → IsComplete (IsIncremental now) fed
 ended_whole now held progress fed all h f e s =
-    let w : Says (Ok IsEnded) (Stands (IsIncremental held) (Blames held.apex) all) = subst (λ p. Says (Ok p) (Stands (IsIncremental held) (Blames held.apex) all)) e s in
+    let w : Says (Ok IsEnded) (Stands (IsIncremental held) (Blames held.apex) all) =
+    subst (λ p. Says (Ok p) (Stands (IsIncremental held) (Blames held.apex) all)) e s in
     rw (h, f) (w.0, whole_of held all w.0 w.1)

@@ -21,18 +21,21 @@ same_soa apex a b t =
     let kind = eqb-true a.kind b.kind (and_parts (a.kind == b.kind) (bytes_eq a.rdata b.rdata) parts.1).0 in
     ap (λ k. k == TYPE_SOA && same_name a.owner apex) kind ∙ ap (λ n. b.kind == TYPE_SOA && same_name n apex) owner
 
-pub soa_apart : (apex : Name) (a b : Record) → is_apex_soa apex a ≡ true → is_apex_soa apex b ≡ false → same_record a b ≡ false
+pub soa_apart : (apex : Name) (a b : Record) → is_apex_soa apex a ≡ true → is_apex_soa apex b ≡ false
+    → same_record a b ≡ false
 soa_apart apex a b t f =
     elim (cases_Bool (same_record a b)) [
       | inl u ↦ absurd (both_ways (is_apex_soa apex b) f (sym (same_soa apex a b u) ∙ t))
       | inr g ↦ g
     ]
 
-pub soa_absent : (apex : Name) (soa : Record) (zone : List Record) → is_apex_soa apex soa ≡ true → HasNoSoa apex zone → is_there soa zone ≡ false
+pub soa_absent : (apex : Name) (soa : Record) (zone : List Record) → is_apex_soa apex soa ≡ true → HasNoSoa apex zone
+    → is_there soa zone ≡ false
 soa_absent apex soa [] t h = refl
 soa_absent apex soa (s ∷ zone) t h = rw (soa_apart apex soa s t h.0) (soa_absent apex soa zone t h.1)
 
-no_soa_filter : (apex : Name) (p : Record → Bool) (zone : List Record) → HasNoSoa apex zone → HasNoSoa apex (filter p zone)
+no_soa_filter : (apex : Name) (p : Record → Bool) (zone : List Record) → HasNoSoa apex zone
+    → HasNoSoa apex (filter p zone)
 no_soa_filter apex p [] h = tt
 no_soa_filter apex p (s ∷ zone) h =
     elim (cases_Bool (p s)) [
@@ -40,10 +43,12 @@ no_soa_filter apex p (s ∷ zone) h =
       | inr f ↦ rw f (no_soa_filter apex p zone h.1)
     ]
 
-pub no_soa_without : (apex : Name) (r : Record) (zone : List Record) → HasNoSoa apex zone → HasNoSoa apex (without r zone)
+pub no_soa_without : (apex : Name) (r : Record) (zone : List Record) → HasNoSoa apex zone
+    → HasNoSoa apex (without r zone)
 no_soa_without apex r zone h = no_soa_filter apex (λ s. not (same_record r s)) zone h
 
-pub no_soa_insertion : (apex : Name) (r : Record) (zone : List Record) → is_apex_soa apex r ≡ false → HasNoSoa apex zone → HasNoSoa apex (insertion r zone)
+pub no_soa_insertion : (apex : Name) (r : Record) (zone : List Record) → is_apex_soa apex r ≡ false
+    → HasNoSoa apex zone → HasNoSoa apex (insertion r zone)
 unfolding insertion
 no_soa_insertion apex r [] f h = (f, tt)
 no_soa_insertion apex r (s ∷ zone) f h =

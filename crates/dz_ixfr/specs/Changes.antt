@@ -33,13 +33,17 @@ IsNotAdded r (addition s) = same_record r s ≡ false
 abbrev pub IsNotNamed : Record → Change → Type 0
 IsNotNamed r change = IsNotDeleted r change × IsNotAdded r change
 
--- each added record that isn't deleted again is there, each deleted one that isn't added again is gone, and every other
--- record but the SOA remains as it was
+-- each added record that isn't deleted again is there, each deleted one that isn't added again is gone, and every
+-- other record but the SOA remains as it was
 pub record Changes (held : Zone) (differences : List Difference) (zone : List Record) : Type 0 where
-  pub added : (r : Record) (before behind : List Change) → changes_of differences ≡ before ++ addition r ∷ behind → AllByRecursion (IsNotDeleted r) behind → Contains zone r
-  pub deleted : (r : Record) (before behind : List Change) → changes_of differences ≡ before ++ deletion r ∷ behind → AllByRecursion (IsNotAdded r) behind → is_there r zone ≡ false
-  pub other : (r : Record) → is_apex_soa held.apex r ≡ false → AllByRecursion (IsNotNamed r) (changes_of differences) → Contains zone r ↔ Contains held.records r
+  pub added : (r : Record) (before behind : List Change) → changes_of differences ≡ before ++ addition r ∷ behind
+      → AllByRecursion (IsNotDeleted r) behind → Contains zone r
+  pub deleted : (r : Record) (before behind : List Change) → changes_of differences ≡ before ++ deletion r ∷ behind
+      → AllByRecursion (IsNotAdded r) behind → is_there r zone ≡ false
+  pub other : (r : Record) → is_apex_soa held.apex r ≡ false → AllByRecursion (IsNotNamed r) (changes_of differences)
+      → Contains zone r ↔ Contains held.records r
 
 -- the changes of every whole form are as `Changes` says
 abbrev pub ChangesAll : Type 0
-ChangesAll = (held : Zone) (records zone : List Record) (form : IsIncremental held records zone) → Changes held form.differences zone
+ChangesAll = (held : Zone) (records zone : List Record) (form : IsIncremental held records zone)
+    → Changes held form.differences zone

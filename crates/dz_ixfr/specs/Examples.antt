@@ -7,7 +7,8 @@ use Rattle.dz_record.specs.Record.{Record}
 use Rattle.dz_record.specs.Records.{insertion}
 use Rattle.dz_zone.specs.Version.{Zone}
 use Rattle.dz_xfr.specs.Stands.{more, complete, misfit}
-use Rattle.dz_xfr.specs.declared.fault.ShapeFault.TheVariants.{NotSoaFirst, AfterEnd, SerialGap, DeleteMissing, AddPresent}
+use Rattle.dz_xfr.specs.declared.fault.ShapeFault.TheVariants.{NotSoaFirst, AfterEnd, SerialGap, DeleteMissing}
+use Rattle.dz_xfr.specs.declared.fault.ShapeFault.TheVariants.{AddPresent}
 use Rattle.dz_ixfr.specs.Reading.{reading_of}
 
 -- the apex zone.
@@ -20,7 +21,8 @@ record_of kind owner rdata = record { owner = owner; kind = kind; ttl = 3600; rd
 
 -- an SOA of this serial, below 256, whose last number is `minimum`
 abbrev soa_with : ℕ → ℕ → Record
-soa_with serial minimum = record_of TYPE_SOA apex (0 ∷ 0 ∷ 0 ∷ 0 ∷ serial ∷ 0 ∷ 0 ∷ 0 ∷ 0 ∷ 0 ∷ 0 ∷ 0 ∷ 0 ∷ 0 ∷ 0 ∷ 0 ∷ 0 ∷ 0 ∷ 0 ∷ 0 ∷ 0 ∷ minimum ∷ [])
+soa_with serial minimum = record_of TYPE_SOA apex
+    (0 ∷ 0 ∷ 0 ∷ 0 ∷ serial ∷ 0 ∷ 0 ∷ 0 ∷ 0 ∷ 0 ∷ 0 ∷ 0 ∷ 0 ∷ 0 ∷ 0 ∷ 0 ∷ 0 ∷ 0 ∷ 0 ∷ 0 ∷ 0 ∷ minimum ∷ [])
 
 -- an SOA of this serial, below 256
 abbrev soa : ℕ → Record
@@ -47,7 +49,8 @@ nothing_came = refl
 
 -- the TTL of a deleted record isn't looked at, an added one brings its own, and the added records are in canonical
 -- order
-pub two_differences : reading_of held (soa 7 ∷ soa 5 ∷ record www { ttl = 1 } ∷ soa 6 ∷ record www { ttl = 60 } ∷ soa 6 ∷ soa 7 ∷ mail ∷ soa 7 ∷ []) ≡ complete (ns ∷ soa 7 ∷ mail ∷ record www { ttl = 60 } ∷ [])
+pub two_differences : reading_of held (soa 7 ∷ soa 5 ∷ record www { ttl = 1 } ∷ soa 6 ∷ record www { ttl = 60 } ∷ soa 6
+    ∷ soa 7 ∷ mail ∷ soa 7 ∷ []) ≡ complete (ns ∷ soa 7 ∷ mail ∷ record www { ttl = 60 } ∷ [])
 unfolding number_of_four insertion
 two_differences = refl
 

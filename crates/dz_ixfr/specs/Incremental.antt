@@ -36,7 +36,8 @@ abbrev pub spelled : Difference → List Record
 spelled d = d.old ∷ (d.deleted ++ d.new ∷ d.added)
 
 -- a difference that begins at this serial leads from one zone to another
-pub record IsDifference (apex : Name) (serial : ℕ) (zone : List Record) (d : Difference) (after : List Record) : Type 0 where
+pub record IsDifference (apex : Name) (serial : ℕ) (zone : List Record) (d : Difference)
+    (after : List Record) : Type 0 where
   pub old : is_apex_soa apex d.old ≡ true
   pub old_serial : serial_of d.old ≡ serial
   pub deleted : HasNoSoa apex d.deleted
@@ -49,16 +50,18 @@ pub record IsDifference (apex : Name) (serial : ℕ) (zone : List Record) (d : D
 -- one or more differences lead from a serial and a zone to the serial `goal`, to which the last alone comes; each
 -- begins at the serial of the one before it
 pub data Leads (apex : Name) (goal : ℕ) : ℕ → List Record → List Difference → List Record → Type 0 where
-  leads_last : {serial : ℕ} {zone after : List Record} {d : Difference} → IsDifference apex serial zone d after → serial_of d.new ≡ goal → Leads apex goal serial zone (d ∷ []) after
-  leads_on : {serial : ℕ} {zone after : List Record} {d : Difference} {ds : List Difference} (next : List Record) → IsDifference apex serial zone d next → serial_of d.new ≢ goal
+  leads_last : {serial : ℕ} {zone after : List Record} {d : Difference} → IsDifference apex serial zone d after
+      → serial_of d.new ≡ goal → Leads apex goal serial zone (d ∷ []) after
+  leads_on : {serial : ℕ} {zone after : List Record} {d : Difference} {ds : List Difference} (next : List Record)
+      → IsDifference apex serial zone d next → serial_of d.new ≢ goal
       → Leads apex goal (serial_of d.new) next ds after → Leads apex goal serial zone (d ∷ ds) after
 
 -- the held records without the SOA
 abbrev pub others : Zone → List Record
 others held = filter (λ r. not (is_apex_soa held.apex r)) held.records
 
--- an SOA of the apex, differences from the held zone to its serial, and an SOA of the apex with its RDATA; the zone has
--- the first SOA and what is then left
+-- an SOA of the apex, differences from the held zone to its serial, and an SOA of the apex with its RDATA; the zone
+-- has the first SOA and what is then left
 pub record IsIncremental (held : Zone) (records zone : List Record) : Type 0 where
   pub first : Record
   pub differences : List Difference

@@ -8,8 +8,10 @@ use Rattle.dz_ixfr.specs.Reading.{reading_of}
 
 -- what the reading says of a list holds of it
 abbrev pub ReadingStands : Type 0
-ReadingStands = (held : Zone) (records : List Record) → Stands (IsIncremental held) (Blames held.apex) records (reading_of held records)
+ReadingStands = (held : Zone) (records : List Record)
+    → Stands (IsIncremental held) (Blames held.apex) records (reading_of held records)
 
 -- what holds of a list is what the reading says
 abbrev pub NothingElse : Type 0
-NothingElse = (held : Zone) (records : List Record) (reading : Reading) → Stands (IsIncremental held) (Blames held.apex) records reading → reading ≡ reading_of held records
+NothingElse = (held : Zone) (records : List Record) (reading : Reading)
+    → Stands (IsIncremental held) (Blames held.apex) records reading → reading ≡ reading_of held records

@@ -12,8 +12,8 @@ use Rattle.dz_xfr.specs.Place.{Place, amid, ended, failed, read, said}
 use Rattle.dz_xfr.specs.Stands.{Reading}
 use Rattle.dz_ixfr.specs.Incremental.{is_there, without, others}
 
--- amid the form, with what is left of the zone: nothing was read, and the zone has this serial; the first SOA was read;
--- among deleted records; among those added after an SOA of this serial
+-- amid the form, with what is left of the zone: nothing was read, and the zone has this serial; the first SOA was
+-- read; among deleted records; among those added after an SOA of this serial
 pub data Amid : Type 0 where
   nothing : ℕ → List Record → Amid
   begun : Record → ℕ → List Record → Amid
@@ -24,7 +24,8 @@ pub data Amid : Type 0 where
 abbrev pub one : Name → Amid → Record → Place Amid
 one apex (nothing serial zone) r = if is_apex_soa apex r then amid (begun r serial zone) else failed NotSoaFirst
 one apex (begun first serial zone) r =
-    if is_apex_soa apex r then (if serial_of r == serial then amid (deleting first zone) else failed SerialGap) else failed SerialGap
+    if is_apex_soa apex r then (if serial_of r == serial then amid (deleting first zone) else failed SerialGap)
+    else failed SerialGap
 one apex (deleting first zone) r =
     if is_apex_soa apex r then amid (adding first (serial_of r) zone)
     else if is_there r zone then amid (deleting first (without r zone))

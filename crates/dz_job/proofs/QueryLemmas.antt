@@ -1,6 +1,7 @@
 -- The query of a job: how long it is, that its additional section is empty, and that it sends an SOA record beside its
 -- question.
-use Rattle.std.proofs.Common.{◌≡◌, subst, Bool, cond, ℕ, ◌+◌, ◌-◌, ◌^◌, ◌<◌, ◌≤◌, true, false, List, [], ◌∷◌, ◌++◌, length, drop, refl, ap, arith, length-append, Option, None, Some, inl, inr}
+use Rattle.std.proofs.Common.{◌≡◌, subst, Bool, cond, ℕ, ◌+◌, ◌-◌, ◌^◌, ◌<◌, ◌≤◌, true, false, List, [], ◌∷◌, ◌++◌}
+use Rattle.std.proofs.Common.{length, drop, refl, ap, arith, length-append, Option, None, Some, inl, inr}
 use Rattle.std.specs.Prelude.{slice_index, ◌==◌, ◌&&◌}
 use Rattle.std.specs.List.{find}
 use Rattle.std.specs.Option.{option_map_or, option_and_then}
@@ -36,10 +37,12 @@ record BehindName (fields : List Field) (rdata : Octets) (at : ℕ) : Type 0 whe
   near : end ≤ at + 255
   rest : fits fields rdata end ≡ true
 
-behind_name : (fields : List Field) (rdata : Octets) (at : ℕ) → fits (DomainName ∷ fields) rdata at ≡ true → BehindName fields rdata at
+behind_name : (fields : List Field) (rdata : Octets) (at : ℕ) → fits (DomainName ∷ fields) rdata at ≡ true
+    → BehindName fields rdata at
 unfolding fits field_end
 behind_name fields rdata at h =
-    elim (canonical_end rdata at) as (λ e. canonical_end rdata at ≡ e → option_map_or (λ end. fits fields rdata end) e false ≡ true → BehindName fields rdata at) [
+    elim (canonical_end rdata at) as (λ e. canonical_end rdata at ≡ e
+    → option_map_or (λ end. fits fields rdata end) e false ≡ true → BehindName fields rdata at) [
       | None ↦ λ p q. absurd (cc)
       | Some end ↦ λ p q.
           let found = canonical_end_found rdata at end p in
@@ -63,11 +66,13 @@ soa_short rdata h =
     omega (arith, first.near, second.near, ends_there 20 rdata second.end second.rest)
 
 -- ---- the query
-header_long : (id flags a b c d : ℕ) → length (header_octets (record { id = id; flags = flags; counts = a ∷ b ∷ c ∷ d ∷ [] })) ≡ 12
+header_long : (id flags a b c d : ℕ)
+    → length (header_octets (record { id = id; flags = flags; counts = a ∷ b ∷ c ∷ d ∷ [] })) ≡ 12
 unfolding header_octets
 header_long id flags a b c d = simp (length-append, length_two)
 
-question_long : (name : List (List ℕ)) (kind class : ℕ) → length (question_octets (record { name = name; kind = kind; class = class })) ≡ length (wire_of name) + 4
+question_long : (name : List (List ℕ)) (kind class : ℕ)
+    → length (question_octets (record { name = name; kind = kind; class = class })) ≡ length (wire_of name) + 4
 unfolding question_octets
 question_long name kind class = simp (length-append, length_two) (omega arith)
 
@@ -81,7 +86,8 @@ head_long : (id : ℕ) (held : Option Record) → length (header_octets (query_h
 head_long id None = header_long id 0 1 0 0 0
 head_long id (Some r) = header_long id 0 1 0 1 0
 
-pub query_short : (id : ℕ) (zone : List (List ℕ)) (held : Option Record) → IsName zone → IsHeld held → IsHeldSoa held → length (query_octets id zone held) ≤ 1066
+pub query_short : (id : ℕ) (zone : List (List ℕ)) (held : Option Record) → IsName zone → IsHeld held → IsHeldSoa held
+    → length (query_octets id zone held) ≤ 1066
 unfolding query_octets
 query_short id zone held name is kind =
     omega (
@@ -90,22 +96,31 @@ query_short id zone held name is kind =
       question_long zone (query_kind held) 1,
       name.short,
       held_short held is kind,
-      length-append (header_octets (query_header id held)) (question_octets (query_question zone held) ++ option_map_or record_octets held []),
+      length-append (header_octets (query_header id held))
+          (question_octets (query_question zone held) ++ option_map_or record_octets held []),
       length-append (question_octets (query_question zone held)) (option_map_or record_octets held []),
     )
 
 pub query_long : (id : ℕ) (zone : List (List ℕ)) (held : Option Record) → 12 ≤ length (query_octets id zone held)
 unfolding query_octets
-query_long id zone held = omega (arith, head_long id held, length-append (header_octets (query_header id held)) (question_octets (query_question zone held) ++ option_map_or record_octets held []))
+query_long id zone held = omega (
+  arith,
+  head_long id held,
+  length-append (header_octets (query_header id held))
+      (question_octets (query_question zone held) ++ option_map_or record_octets held []),
+)
 
 -- its additional section is empty
-pub query_none : (id : ℕ) (zone : List (List ℕ)) (held : Option Record) → id < 2 ^ 16 → number_of_two (drop 10 (query_octets id zone held)) ≡ 0
+pub query_none : (id : ℕ) (zone : List (List ℕ)) (held : Option Record) → id < 2 ^ 16
+    → number_of_two (drop 10 (query_octets id zone held)) ≡ 0
 unfolding query_octets header_in
 query_none id zone None small =
-    let t = header_there (query_octets id zone None) id 0 1 0 0 0 (question_octets (query_question zone None) ++ []) small (omega arith) (omega arith) (omega arith) (omega arith) (omega arith) refl in
+    let t = header_there (query_octets id zone None) id 0 1 0 0 0 (question_octets (query_question zone None) ++ [])
+    small (omega arith) (omega arith) (omega arith) (omega arith) (omega arith) refl in
     ap (λ (h : Header). slice_index h.counts 3) t.header_is
 query_none id zone (Some r) small =
-    let t = header_there (query_octets id zone (Some r)) id 0 1 0 1 0 (question_octets (query_question zone (Some r)) ++ record_octets r) small (omega arith) (omega arith) (omega arith) (omega arith) (omega arith) refl in
+    let t = header_there (query_octets id zone (Some r)) id 0 1 0 1 0 (question_octets (query_question zone (Some r))
+    ++ record_octets r) small (omega arith) (omega arith) (omega arith) (omega arith) (omega arith) refl in
     ap (λ (h : Header). slice_index h.counts 3) t.header_is
 
 -- ---- the held record
@@ -122,7 +137,8 @@ first_true true t h = refl
 first_true false t h = absurd (cc)
 
 soa_kind : (zone : Zone) (r : Record) → apex_soa zone ≡ Some r → r.kind ≡ 6
-soa_kind zone r is = eqb-true r.kind 6 (first_true (r.kind == 6) (same_name r.owner zone.apex) (found_passes (at_apex 6 zone.apex) zone.records r is))
+soa_kind zone r is = eqb-true r.kind 6
+    (first_true (r.kind == 6) (same_name r.owner zone.apex) (found_passes (at_apex 6 zone.apex) zone.records r is))
 
 soa_found : (zone : Zone) (found : Option Record) → apex_soa zone ≡ found → IsHeldSoa found
 soa_found zone None is = tt

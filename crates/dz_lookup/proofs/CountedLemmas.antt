@@ -13,8 +13,10 @@ pub searches_none : (searches records taken : ℕ) → taken ≡ 0 → TakesSear
 searches_none searches records taken none bits h = omega arith
 
 -- one lot of searches after another
-pub searches_add : (a b records s t u : ℕ) → TakesSearches a records s → TakesSearches b records t → u ≤ s + t → TakesSearches (a + b) records u
-searches_add a b records s t u first second le bits h = rw (add-mul a b (bits + 1)) (omega (arith, first bits h, second bits h))
+pub searches_add : (a b records s t u : ℕ) → TakesSearches a records s → TakesSearches b records t → u ≤ s + t
+    → TakesSearches (a + b) records u
+searches_add a b records s t u first second le bits h =
+    rw (add-mul a b (bits + 1)) (omega (arith, first bits h, second bits h))
 
 -- fewer searches are within more
 pub searches_more : (a b records t : ℕ) → a ≤ b → TakesSearches a records t → TakesSearches b records t

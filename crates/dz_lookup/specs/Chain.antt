@@ -1,6 +1,7 @@
 -- Meaning: CNAME and DNAME records are followed from name to name (RFC 1034 sections 3.6.2 and 4.3.2, RFC 6672 section
 -- 3.2).
-use Rattle.std.specs.Prelude.{ℕ, zero, suc, ◌-◌, Bool, ◌==◌, ◌&&◌, ◌||◌, not, List, [], ◌∷◌, ◌++◌, length, take, Option, Some, None, if◌then◌else◌}
+use Rattle.std.specs.Prelude.{ℕ, zero, suc, ◌-◌, Bool, ◌==◌, ◌&&◌, ◌||◌, not, List, [], ◌∷◌, ◌++◌, length, take}
+use Rattle.std.specs.Prelude.{Option, Some, None, if◌then◌else◌}
 use Rattle.std.specs.List.{list_any}
 use Rattle.dz_name.specs.Words.{Name, Kind}
 use Rattle.dz_name.specs.Name.{same_name, is_within, fitting}
@@ -61,7 +62,8 @@ onward next trail (Some name) = next trail name
 abbrev pub from_renamed : (Trail → Name → Chased) → Name → Kind → Trail → Name → Record → Option Name → Chased
 from_renamed next apex kind trail name r None = record { trail = trail; ending = too_long r }
 from_renamed next apex kind trail name r (Some new) =
-    onward next (trail ++ (name, r) ∷ []) (if is_answered kind then None else next_name apex (trail ++ (name, r) ∷ []) (Some new))
+    onward next (trail ++ (name, r) ∷ [])
+    (if is_answered kind then None else next_name apex (trail ++ (name, r) ∷ []) (Some new))
 
 -- the chain after what is found for a name: a CNAME or a DNAME joins the others and leads on, and all else ends it
 abbrev pub continuation : (Trail → Name → Chased) → Name → Kind → Trail → Name → Found → Chased

@@ -2,7 +2,8 @@
 use Rattle.std.specs.Prelude.{◌≡◌, refl, List, [], ◌∷◌, codes}
 use Rattle.dz_name.specs.Words.{Name, Kind, Octets}
 use Rattle.dz_name.specs.Name.{upward, wire_of, labels_in}
-use Rattle.dz_name.specs.declared.dns.TheConstants.{TYPE_A, TYPE_ANY, TYPE_CNAME, TYPE_DNAME, TYPE_DS, TYPE_MX, TYPE_NS, TYPE_SOA, TYPE_SRV, TYPE_TXT}
+use Rattle.dz_name.specs.declared.dns.TheConstants.{TYPE_A, TYPE_ANY, TYPE_CNAME, TYPE_DNAME, TYPE_DS, TYPE_MX}
+use Rattle.dz_name.specs.declared.dns.TheConstants.{TYPE_NS, TYPE_SOA, TYPE_SRV, TYPE_TXT}
 use Rattle.dz_record.specs.Record.{Record}
 use Rattle.dz_record.specs.Records.{insertion, in_order}
 use Rattle.dz_lookup.specs.Found.{here, no_data, no_name, referral, rename, found, topmost}
@@ -47,7 +48,8 @@ pub host3_a : found example zone (below (codes "host3")) TYPE_A ≡ no_data
 unfolding found upward topmost in_order insertion
 host3_a = refl
 
-pub foo_bar_txt : found example zone (codes "foo" ∷ below (codes "bar")) TYPE_TXT ≡ here (record_of TYPE_TXT (below (codes "*")) ∷ [])
+pub foo_bar_txt : found example zone (codes "foo" ∷ below (codes "bar")) TYPE_TXT
+    ≡ here (record_of TYPE_TXT (below (codes "*")) ∷ [])
 unfolding found upward topmost in_order insertion
 foo_bar_txt = refl
 
@@ -65,7 +67,8 @@ pub telnet_srv : found example zone (codes "_telnet" ∷ codes "_tcp" ∷ below 
 unfolding found upward topmost in_order insertion
 telnet_srv = refl
 
-pub host_subdel_a : found example zone (codes "host" ∷ below (codes "subdel")) TYPE_A ≡ referral (record_of TYPE_NS (below (codes "subdel")) ∷ [])
+pub host_subdel_a : found example zone (codes "host" ∷ below (codes "subdel")) TYPE_A
+    ≡ referral (record_of TYPE_NS (below (codes "subdel")) ∷ [])
 unfolding found upward topmost in_order insertion
 host_subdel_a = refl
 
@@ -73,7 +76,8 @@ pub subdel_ds : found example zone (below (codes "subdel")) TYPE_DS ≡ no_data
 unfolding found upward topmost in_order insertion
 subdel_ds = refl
 
-pub host_subdel_ds : found example zone (codes "host" ∷ below (codes "subdel")) TYPE_DS ≡ referral (record_of TYPE_NS (below (codes "subdel")) ∷ [])
+pub host_subdel_ds : found example zone (codes "host" ∷ below (codes "subdel")) TYPE_DS
+    ≡ referral (record_of TYPE_NS (below (codes "subdel")) ∷ [])
 unfolding found upward topmost in_order insertion
 host_subdel_ds = refl
 
@@ -87,7 +91,8 @@ unfolding found upward topmost in_order insertion
 host2_any = refl
 
 -- ANY at a name gives its records by ascending type
-pub wildcard_any : found example zone (below (codes "host3")) TYPE_ANY ≡ here (record_of TYPE_MX (below (codes "*")) ∷ record_of TYPE_TXT (below (codes "*")) ∷ [])
+pub wildcard_any : found example zone (below (codes "host3")) TYPE_ANY
+    ≡ here (record_of TYPE_MX (below (codes "*")) ∷ record_of TYPE_TXT (below (codes "*")) ∷ [])
 unfolding found upward topmost in_order insertion
 wildcard_any = refl
 
@@ -100,7 +105,8 @@ cuts =
     ∷ record_of TYPE_A (codes "ns" ∷ codes "b" ∷ below (codes "a"))
     ∷ []
 
-pub nearest_cut : found example cuts (codes "ns" ∷ codes "b" ∷ below (codes "a")) TYPE_A ≡ referral (record_of TYPE_NS (below (codes "a")) ∷ [])
+pub nearest_cut : found example cuts (codes "ns" ∷ codes "b" ∷ below (codes "a")) TYPE_A
+    ≡ referral (record_of TYPE_NS (below (codes "a")) ∷ [])
 unfolding found upward topmost in_order insertion
 nearest_cut = refl
 
@@ -115,13 +121,21 @@ aliases =
     ∷ []
 
 pub wildcard_alias : chain_of example aliases (codes "q" ∷ below (codes "w")) TYPE_A
-    ≡ record { trail = (codes "q" ∷ below (codes "w"), cname (codes "*" ∷ below (codes "w")) (below (codes "nope"))) ∷ []; ending = ended no_name (below (codes "nope")) }
+    ≡ record {
+      trail = (codes "q" ∷ below (codes "w"), cname (codes "*" ∷ below (codes "w")) (below (codes "nope")))
+          ∷ [];
+      ending = ended no_name (below (codes "nope"));
+    }
 unfolding chain_of chain_from found upward topmost in_order insertion wire_of labels_in
 wildcard_alias = refl
 
 -- a chain stops at a name that was looked up, and at one outside the zone
 pub circle : chain_of example aliases (below (codes "a")) TYPE_A
-    ≡ record { trail = (below (codes "a"), cname (below (codes "a")) (below (codes "b"))) ∷ (below (codes "b"), cname (below (codes "b")) (below (codes "a"))) ∷ []; ending = stopped }
+    ≡ record {
+      trail = (below (codes "a"), cname (below (codes "a")) (below (codes "b")))
+          ∷ (below (codes "b"), cname (below (codes "b")) (below (codes "a"))) ∷ [];
+      ending = stopped;
+    }
 unfolding chain_of chain_from found upward topmost in_order insertion wire_of labels_in
 circle = refl
 
@@ -134,8 +148,8 @@ leads_out = refl
 abbrev dname : Name → Name → Record
 dname owner target = record { owner = owner; kind = TYPE_DNAME; ttl = 3600; rdata = wire_of target }
 
--- a zone with DNAMEs: each gives the names below it other names, but not its owner, and of two the one nearest the apex
--- counts
+-- a zone with DNAMEs: each gives the names below it other names, but not its owner, and of two the one nearest the
+-- apex counts
 abbrev renamers : List Record
 renamers =
     record_of TYPE_SOA example
@@ -147,7 +161,8 @@ renamers =
     ∷ dname (codes "f" ∷ below (codes "u")) example
     ∷ []
 
-pub renamed_below : found example renamers (codes "w" ∷ below (codes "d")) TYPE_A ≡ rename (dname (below (codes "d")) (below (codes "t")))
+pub renamed_below : found example renamers (codes "w" ∷ below (codes "d")) TYPE_A
+    ≡ rename (dname (below (codes "d")) (below (codes "t")))
 unfolding found upward topmost in_order insertion wire_of
 renamed_below = refl
 
@@ -155,15 +170,18 @@ pub renamer_itself : found example renamers (below (codes "d")) TYPE_A ≡ no_da
 unfolding found upward topmost in_order insertion wire_of
 renamer_itself = refl
 
-pub nearest_renamer : found example renamers (codes "x" ∷ codes "e" ∷ below (codes "d")) TYPE_A ≡ rename (dname (below (codes "d")) (below (codes "t")))
+pub nearest_renamer : found example renamers (codes "x" ∷ codes "e" ∷ below (codes "d")) TYPE_A
+    ≡ rename (dname (below (codes "d")) (below (codes "t")))
 unfolding found upward topmost in_order insertion wire_of
 nearest_renamer = refl
 
-pub cut_below_renamer : found example renamers (codes "c" ∷ below (codes "d")) TYPE_A ≡ rename (dname (below (codes "d")) (below (codes "t")))
+pub cut_below_renamer : found example renamers (codes "c" ∷ below (codes "d")) TYPE_A
+    ≡ rename (dname (below (codes "d")) (below (codes "t")))
 unfolding found upward topmost in_order insertion wire_of
 cut_below_renamer = refl
 
-pub renamer_below_cut : found example renamers (codes "x" ∷ codes "f" ∷ below (codes "u")) TYPE_A ≡ referral (record_of TYPE_NS (below (codes "u")) ∷ [])
+pub renamer_below_cut : found example renamers (codes "x" ∷ codes "f" ∷ below (codes "u")) TYPE_A
+    ≡ referral (record_of TYPE_NS (below (codes "u")) ∷ [])
 unfolding found upward topmost in_order insertion wire_of
 renamer_below_cut = refl
 
@@ -177,12 +195,18 @@ unfolding chain_of chain_from found upward topmost in_order insertion wire_of la
 renamed_chain = refl
 
 pub answered_by_renaming : chain_of example renamers (codes "w" ∷ below (codes "d")) TYPE_CNAME
-    ≡ record { trail = (codes "w" ∷ below (codes "d"), dname (below (codes "d")) (below (codes "t"))) ∷ []; ending = stopped }
+    ≡ record {
+      trail = (codes "w" ∷ below (codes "d"), dname (below (codes "d")) (below (codes "t"))) ∷ [];
+      ending = stopped;
+    }
 unfolding chain_of chain_from found upward topmost in_order insertion wire_of labels_in
 answered_by_renaming = refl
 
 pub renamed_for_all_types : chain_of example renamers (codes "w" ∷ below (codes "d")) TYPE_ANY
-    ≡ record { trail = (codes "w" ∷ below (codes "d"), dname (below (codes "d")) (below (codes "t"))) ∷ []; ending = stopped }
+    ≡ record {
+      trail = (codes "w" ∷ below (codes "d"), dname (below (codes "d")) (below (codes "t"))) ∷ [];
+      ending = stopped;
+    }
 unfolding chain_of chain_from found upward topmost in_order insertion wire_of labels_in
 renamed_for_all_types = refl
 
@@ -201,12 +225,16 @@ unfolding chain_of chain_from found upward topmost in_order insertion wire_of la
 renamed_to_the_root = refl
 
 pub renamed_to_itself : chain_of example leaving (codes "w" ∷ below (codes "e")) TYPE_A
-    ≡ record { trail = (codes "w" ∷ below (codes "e"), dname (below (codes "e")) (below (codes "e"))) ∷ []; ending = stopped }
+    ≡ record {
+      trail = (codes "w" ∷ below (codes "e"), dname (below (codes "e")) (below (codes "e"))) ∷ [];
+      ending = stopped;
+    }
 unfolding chain_of chain_from found upward topmost in_order insertion wire_of labels_in
 renamed_to_itself = refl
 
 -- a DNAME of the apex renames all names below it
-pub renamed_by_the_apex : found example (record_of TYPE_SOA example ∷ dname example (codes "org" ∷ []) ∷ []) (below (codes "w")) TYPE_A ≡ rename (dname example (codes "org" ∷ []))
+pub renamed_by_the_apex : found example (record_of TYPE_SOA example ∷ dname example (codes "org" ∷ []) ∷ [])
+    (below (codes "w")) TYPE_A ≡ rename (dname example (codes "org" ∷ []))
 unfolding found upward topmost in_order insertion wire_of
 renamed_by_the_apex = refl
 
@@ -218,6 +246,7 @@ long = codes "aaaaaaaaaaaaaaaaaaaaaaaaaaaaaaaaaaaaaaaaaaaaaaaaaaaaaaaaaaaaaaa"
 abbrev far : Record
 far = dname (below (codes "d")) (long ∷ long ∷ long ∷ example)
 
-pub name_too_long : chain_of example (far ∷ []) (long ∷ below (codes "d")) TYPE_A ≡ record { trail = []; ending = too_long far }
+pub name_too_long : chain_of example (far ∷ []) (long ∷ below (codes "d")) TYPE_A
+    ≡ record { trail = []; ending = too_long far }
 unfolding chain_of chain_from found upward topmost in_order insertion wire_of labels_in
 name_too_long = refl

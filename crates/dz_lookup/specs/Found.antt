@@ -1,6 +1,7 @@
 -- Meaning: what a zone says of a name and a type (RFC 1034 section 4.3.2, RFC 4592 sections 2.2 and 3.3, RFC 6672). A
 -- zone is a list of records in any order.
-use Rattle.std.specs.Prelude.{◌<◌, Bool, ◌==◌, ◌&&◌, not, nat_lt, List, [], ◌∷◌, find, Option, Some, None, if◌then◌else◌, length, ⊤}
+use Rattle.std.specs.Prelude.{◌<◌, Bool, ◌==◌, ◌&&◌, not, nat_lt, List, [], ◌∷◌, find, Option, Some, None}
+use Rattle.std.specs.Prelude.{if◌then◌else◌, length, ⊤}
 use Rattle.std.specs.Option.{option_or}
 use Rattle.dz_name.specs.Words.{Name, Kind}
 use Rattle.dz_name.specs.Name.{same_name, upward, wildcard_of}
@@ -41,7 +42,8 @@ cut apex zone name = topmost (is_cut apex zone) name
 -- count for it (RFC 4035 section 3.1.4.1)
 abbrev pub cut_for : Name → List Record → Kind → Name → Option Name
 cut_for apex zone kind [] = cut apex zone []
-cut_for apex zone kind (label ∷ labels) = if kind == TYPE_DS then cut apex zone labels else cut apex zone (label ∷ labels)
+cut_for apex zone kind (label ∷ labels) =
+    if kind == TYPE_DS then cut apex zone labels else cut apex zone (label ∷ labels)
 
 -- of the names above a name, the topmost one that owns a DNAME (RFC 6672 sections 2.2 and 3.2)
 abbrev pub dname : List Record → Name → Option Name
@@ -95,7 +97,8 @@ behind_barrier zone name kind (Some f) = f
 -- what is found for a name within the apex and a type (RFC 1034 section 4.3.2, RFC 4592 section 3.3, RFC 6672 section
 -- 3.2)
 unfoldable pub found : Name → List Record → Name → Kind → Found
-found apex zone name kind = behind_barrier zone name kind (barrier zone (cut_for apex zone kind name) (dname zone name))
+found apex zone name kind =
+    behind_barrier zone name kind (barrier zone (cut_for apex zone kind name) (dname zone name))
 
 -- an answer and a referral have at least one record
 abbrev pub HasRecords : Found → Type 0

@@ -1,4 +1,5 @@
--- Judge: how many comparisons a lookup takes in a zone of 1,022 records, as an SOA, an NS and 1,020 names of one address make.
+-- Judge: how many comparisons a lookup takes in a zone of 1,022 records, as an SOA, an NS and 1,020 names of one
+-- address make.
 use Rattle.std.specs.Prelude.{ℕ, ◌≤◌}
 use Rattle.dz_lookup.specs.Counted.{IsLookup}
 

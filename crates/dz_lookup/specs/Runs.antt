@@ -27,4 +27,5 @@ exists zone name = list_any (λ r. is_within r.owner name) zone
 -- in a zone kept in canonical order this many records precede those of a name: they come before it, and no other does
 abbrev pub IsPlaceOf : Name → List Record → ℕ → Type 0
 IsPlaceOf name zone place =
-    IsPartitionPoint (λ r. is_lt (canonical_order r.owner name) ≡ true) (λ r. is_lt (canonical_order r.owner name) ≡ false) zone place
+    IsPartitionPoint (λ r. is_lt (canonical_order r.owner name) ≡ true)
+    (λ r. is_lt (canonical_order r.owner name) ≡ false) zone place

@@ -1,6 +1,7 @@
 //! Chains of aliases and of renamed names.
 
-ghost use Rattle.std.specs.Prelude.{◌≡◌, ◌==◌, ◌&&◌, ◌+◌, ◌<◌, ◌≤◌, [], ◌∷◌, ◌++◌, length, take, true, slice_index_or, Some, None, if◌then◌else◌};
+ghost use Rattle.std.specs.Prelude.{◌≡◌, ◌==◌, ◌&&◌, ◌+◌, ◌<◌, ◌≤◌, [], ◌∷◌, ◌++◌, length, take, true, slice_index_or};
+ghost use Rattle.std.specs.Prelude.{Some, None, if◌then◌else◌};
 ghost use Rattle.dz_name.specs.Name.{same_name, is_within};
 ghost use Rattle.dz_name.specs.Words.{Name};
 ghost use Rattle.std.specs.List.{AllByRecursion, list_any};

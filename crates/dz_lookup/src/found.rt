@@ -7,7 +7,8 @@ ghost use Rattle.dz_record.specs.Record.{Record, record_order};
 ghost use Rattle.dz_zone.specs.Version.{IsValid, has_cuts, has_dnames};
 ghost use Rattle.dz_lookup.specs.Counted.{TakesSearches, IsLookup};
 ghost use Rattle.dz_lookup.specs.Runs.{exists, records_of, IsPlaceOf};
-ghost use Rattle.dz_lookup.specs.Found.{encloser, cut_for, dname, source, at_node, at_source, barrier, found, meaning, leading, referral, rename, HasRecords};
+ghost use Rattle.dz_lookup.specs.Found.{encloser, cut_for, dname, source, at_node, at_source, barrier, found, meaning};
+ghost use Rattle.dz_lookup.specs.Found.{leading, referral, rename, HasRecords};
 ghost use Rattle.dz_lookup.specs.inner.Places.{IsNodeOf, IsMissing, if_exists, renamer_at};
 
 use crate::beside::{counted_missing, missing_labels};

@@ -1,5 +1,6 @@
 -- A listing that is processed twice.
-use Rattle.std.proofs.Common.{◌≡◌, ◌≢◌, ℕ, true, false, List, [], ◌∷◌, map, refl, sym, ◌∙◌, ap, subst, inl, inr, Less, get_or}
+use Rattle.std.proofs.Common.{◌≡◌, ◌≢◌, ℕ, true, false, List, [], ◌∷◌, map, refl, sym, ◌∙◌, ap, subst, inl, inr, Less}
+use Rattle.std.proofs.Common.{get_or}
 use Rattle.std.specs.Prelude.{Option, Some, None, IsSome, slice_set, if◌then◌else◌}
 use Rattle.std.specs.Option.{option_map_or, option_eq}
 use Rattle.std.specs.Str.{bytes_eq}
@@ -18,7 +19,9 @@ use Rattle.dz_member.specs.declared.change.What.TheVariants.{Clash}
 use Rattle.dz_member.specs.Listing.{IsListing}
 use Rattle.dz_member.specs.Membership.{MemberOf, settings_at}
 use Rattle.dz_member.specs.Fold.{FoldOf, IsFold, member_of, number_of, listing_of, with_listing}
-use Rattle.dz_member.specs.Process.{Judgement, judged, judged_at, choice_in, consents, coo_names, held_here, held_elsewhere, unlisted, listed, is_catalog, node_of, process, entered, in_zone_order}
+use Rattle.dz_member.specs.Process.{Judgement, judged, judged_at, choice_in, consents, coo_names, held_here}
+use Rattle.dz_member.specs.Process.{held_elsewhere, unlisted, listed, is_catalog, node_of, process, entered}
+use Rattle.dz_member.specs.Process.{in_zone_order}
 use Rattle.dz_member.specs.Laws.{ChangesOnce, Again, told_again}
 use Rattle.dz_member.proofs.WalkLemmas.{here, nothing, below_all}
 use Rattle.dz_member.proofs.EachLemmas.{by_order}
@@ -36,44 +39,57 @@ Rise ms = IsStrictlySortedBy canonical_order (map zone_of ms)
 some_none : (m : MemberOf) → Some m ≡ None → ⊥
 some_none m e = cc
 
-absent : (z : Name) (ms : List MemberOf) → AllByRecursion (λ k. canonical_order z k ≡ Less) (map zone_of ms) → member_of z ms ≡ None
+absent : (z : Name) (ms : List MemberOf) → AllByRecursion (λ k. canonical_order z k ≡ Less) (map zone_of ms)
+    → member_of z ms ≡ None
 absent z ms a = nothing canonical_order canonical_total same_name same_decides zone_of z ms a
 
 present : (m : MemberOf) (ms : List MemberOf) → member_of m.zone (m ∷ ms) ≡ Some m
 present m ms = here canonical_order canonical_total same_name same_decides zone_of m ms
 
-above : (z : Name) (m : MemberOf) (ms : List MemberOf) → Rise (m ∷ ms) → canonical_order z m.zone ≡ Less → AllByRecursion (λ k. canonical_order z k ≡ Less) (map zone_of (m ∷ ms))
-above z m ms up l = below_all canonical_order canonical_total same_name same_decides zone_of zone_of (λ z m n. z) zone_of z m ms up l
+above : (z : Name) (m : MemberOf) (ms : List MemberOf) → Rise (m ∷ ms) → canonical_order z m.zone ≡ Less
+    → AllByRecursion (λ k. canonical_order z k ≡ Less) (map zone_of (m ∷ ms))
+above z m ms up l =
+    below_all canonical_order canonical_total same_name same_decides zone_of zone_of (λ z m n. z) zone_of z m ms up l
 
-rest_same : (a b : MemberOf) (front back : List MemberOf) → Rise (a ∷ front) → Rise (b ∷ back) → a.zone ≡ b.zone → ((z : Name) → member_of z (a ∷ front) ≡ member_of z (b ∷ back)) → (z : Name) → member_of z front ≡ member_of z back
+rest_same : (a b : MemberOf) (front back : List MemberOf) → Rise (a ∷ front) → Rise (b ∷ back)
+    → a.zone ≡ b.zone → ((z : Name) → member_of z (a ∷ front) ≡ member_of z (b ∷ back)) → (z : Name)
+    → member_of z front ≡ member_of z back
 rest_same a b front back up rise one h z =
     elim (cases_Bool (same_name a.zone z)) [
       | inl t ↦
           let is : a.zone ≡ z = (same_decides a.zone z).0 t in
-          let p : member_of a.zone front ≡ None = absent a.zone front (sorted_head canonical_order a.zone (map zone_of front) up) in
-          let q : member_of b.zone back ≡ None = absent b.zone back (sorted_head canonical_order b.zone (map zone_of back) rise) in
-          subst (λ (y : Name). member_of y front ≡ member_of y back) is (p ∙ sym (subst (λ (y : Name). member_of y back ≡ None) (sym one) q))
+          let p : member_of a.zone front ≡ None =
+          absent a.zone front (sorted_head canonical_order a.zone (map zone_of front) up) in
+          let q : member_of b.zone back ≡ None =
+          absent b.zone back (sorted_head canonical_order b.zone (map zone_of back) rise) in
+          subst (λ (y : Name). member_of y front ≡ member_of y back) is
+          (p ∙ sym (subst (λ (y : Name). member_of y back ≡ None) (sym one) q))
       | inr f ↦
           let g : same_name b.zone z ≡ false = subst (λ (y : Name). same_name y z ≡ false) one f in
           (rw (f, g) at (h z))
     ]
 
-pub same_members : (front back : List MemberOf) → Rise front → Rise back → ((z : Name) → member_of z front ≡ member_of z back) → front ≡ back
+pub same_members : (front back : List MemberOf) → Rise front → Rise back
+    → ((z : Name) → member_of z front ≡ member_of z back) → front ≡ back
 same_members [] [] up rise h = refl
 same_members [] (b ∷ back) up rise h = absurd (some_none b (sym (present b back) ∙ sym (h b.zone)))
 same_members (a ∷ front) [] up rise h = absurd (some_none a (sym (present a front) ∙ h a.zone))
 same_members (a ∷ front) (b ∷ back) up rise h =
     by_order (canonical_order a.zone b.zone)
-    (λ l. absurd (some_none a (sym (present a front) ∙ h a.zone ∙ absent a.zone (b ∷ back) (above a.zone b back rise l))))
+    (λ l. absurd
+    (some_none a (sym (present a front) ∙ h a.zone ∙ absent a.zone (b ∷ back) (above a.zone b back rise l))))
     (λ e.
     let one = canonical_same a.zone b.zone e in
-    let first : Some a ≡ Some b = sym (present a front) ∙ h a.zone ∙ subst (λ (y : Name). member_of y (b ∷ back) ≡ Some b) (sym one) (present b back) in
+    let first : Some a ≡ Some b = sym (present a front) ∙ h a.zone
+    ∙ subst (λ (y : Name). member_of y (b ∷ back) ≡ Some b) (sym one) (present b back) in
     let heads : a ≡ b = cc in
-    let tails = same_members front back (sorted_tail canonical_order a.zone (map zone_of front) up) (sorted_tail canonical_order b.zone (map zone_of back) rise) (rest_same a b front back up rise one h) in
+    let tails = same_members front back (sorted_tail canonical_order a.zone (map zone_of front) up)
+    (sorted_tail canonical_order b.zone (map zone_of back) rise) (rest_same a b front back up rise one h) in
     λ i. heads i ∷ tails i)
     (λ g.
     let l : canonical_order b.zone a.zone ≡ Less = canonical_total.antisymm b.zone a.zone ∙ ap ordering_reverse g in
-    absurd (some_none b (sym (present b back) ∙ sym (h b.zone) ∙ absent b.zone (a ∷ front) (above b.zone a front up l))))
+    absurd
+    (some_none b (sym (present b back) ∙ sym (h b.zone) ∙ absent b.zone (a ∷ front) (above b.zone a front up l))))
 
 -- ---- one zone, judged again
 itself : (name : Name) → same_name name name ≡ true
@@ -84,60 +100,81 @@ same_choice_itself None = refl
 same_choice_itself (Some word) = (bytes_eq-Decides word word).1 refl
 
 module _ (fold : FoldOf) (catalog : Name) (p q : ℕ) (ms : List MemberOf) (ls : List (Option (List Node)))
-    (same : (m : MemberOf) → same_name m.catalog catalog ≡ false → consents (record fold { members = ms; listings = ls }) catalog m ≡ consents fold catalog m) where
+    (same : (m : MemberOf) → same_name m.catalog catalog ≡ false
+    → consents (record fold { members = ms; listings = ls }) catalog m ≡ consents fold catalog m) where
   abbrev pub after : FoldOf
   after = record fold { members = ms; listings = ls }
 
   abbrev pub Twice : Option Node → Judgement → Type 0
-  Twice n j = (judged after catalog q j.stands n).stands ≡ j.stands × ((judged after catalog q j.stands n).change ≡ told_again j.change)
+  Twice n j = (judged after catalog q j.stands n).stands ≡ j.stands
+      × ((judged after catalog q j.stands n).change ≡ told_again j.change)
 
   -- a member of this catalog under its label and of its choice
-  settled : (m : MemberOf) (n : Node) → is_catalog fold n.zone ≡ false → same_name m.catalog catalog ≡ true → same_label m.label n.label ≡ true → option_eq bytes_eq m.choice (choice_in fold.config catalog n) ≡ true
+  settled : (m : MemberOf) (n : Node) → is_catalog fold n.zone ≡ false → same_name m.catalog catalog ≡ true
+      → same_label m.label n.label ≡ true → option_eq bytes_eq m.choice (choice_in fold.config catalog n) ≡ true
       → judged after catalog q (Some m) (Some n) ≡ record { stands = Some m; change = None }
   unfolding judged
   settled m n f c l w = rw (f, c, l, w) refl
 
-  twice_here : (m : MemberOf) (n : Node) → is_catalog fold n.zone ≡ false → same_name m.catalog catalog ≡ true → Twice (Some n) (held_here fold catalog p m n)
+  twice_here : (m : MemberOf) (n : Node) → is_catalog fold n.zone ≡ false → same_name m.catalog catalog ≡ true
+      → Twice (Some n) (held_here fold catalog p m n)
   twice_here m n f c =
       let choice = choice_in fold.config catalog n in
       elim (cases_Bool (same_label m.label n.label)) [
         | inl l ↦ elim (cases_Bool (option_eq bytes_eq m.choice choice)) [
-          | inl w ↦ rw (l, w) (let e = settled m n f c l w in (ap (λ (j : Judgement). j.stands) e, ap (λ (j : Judgement). j.change) e))
-          | inr u ↦ rw (l, u) (let e = settled (record m { choice = choice }) n f c l (same_choice_itself choice) in (ap (λ (j : Judgement). j.stands) e, ap (λ (j : Judgement). j.change) e))
+          | inl w ↦ rw (l, w) (let e = settled m n f c l w in
+              (ap (λ (j : Judgement). j.stands) e, ap (λ (j : Judgement). j.change) e))
+          | inr u ↦ rw (l, u) (let e = settled (record m { choice = choice }) n f c l (same_choice_itself choice) in
+              (ap (λ (j : Judgement). j.stands) e, ap (λ (j : Judgement). j.change) e))
         ]
-        | inr u ↦ rw u (let e = settled (entered fold catalog p n) n f (itself catalog) ((same_label_decides n.label n.label).1 refl) (same_choice_itself choice) in (ap (λ (j : Judgement). j.stands) e, ap (λ (j : Judgement). j.change) e))
+        | inr u ↦ rw u (let e = settled (entered fold catalog p n) n f (itself catalog)
+            ((same_label_decides n.label n.label).1 refl) (same_choice_itself choice) in
+            (ap (λ (j : Judgement). j.stands) e, ap (λ (j : Judgement). j.change) e))
       ]
 
-  twice_clash : (m : MemberOf) (n : Node) → is_catalog fold n.zone ≡ false → same_name m.catalog catalog ≡ false → consents fold catalog m ≡ false
+  twice_clash : (m : MemberOf) (n : Node) → is_catalog fold n.zone ≡ false → same_name m.catalog catalog ≡ false
+      → consents fold catalog m ≡ false
       → judged after catalog q (Some m) (Some n) ≡ record { stands = Some m; change = Some (Clash (Some m.catalog)) }
   unfolding judged
   twice_clash m n f c u = rw (f, c, same m c, u) refl
 
-  twice_elsewhere : (m : MemberOf) (n : Node) → is_catalog fold n.zone ≡ false → same_name m.catalog catalog ≡ false → Twice (Some n) (held_elsewhere fold catalog p m n)
+  twice_elsewhere : (m : MemberOf) (n : Node) → is_catalog fold n.zone ≡ false → same_name m.catalog catalog ≡ false
+      → Twice (Some n) (held_elsewhere fold catalog p m n)
   twice_elsewhere m n f c =
       let choice = choice_in fold.config catalog n in
       elim (cases_Bool (consents fold catalog m)) [
         | inl y ↦ elim (cases_Bool (same_label m.label n.label)) [
-          | inl l ↦ rw (y, l) (let e = settled (record m { catalog = catalog; choice = choice }) n f (itself catalog) l (same_choice_itself choice) in (ap (λ (j : Judgement). j.stands) e, ap (λ (j : Judgement). j.change) e))
-          | inr u ↦ rw (y, u) (let e = settled (entered fold catalog p n) n f (itself catalog) ((same_label_decides n.label n.label).1 refl) (same_choice_itself choice) in (ap (λ (j : Judgement). j.stands) e, ap (λ (j : Judgement). j.change) e))
+          | inl l ↦ rw (y, l) (let e = settled (record m { catalog = catalog; choice = choice }) n f (itself catalog) l
+              (same_choice_itself choice) in
+              (ap (λ (j : Judgement). j.stands) e, ap (λ (j : Judgement). j.change) e))
+          | inr u ↦ rw (y, u) (let e = settled (entered fold catalog p n) n f (itself catalog)
+              ((same_label_decides n.label n.label).1 refl) (same_choice_itself choice) in
+              (ap (λ (j : Judgement). j.stands) e, ap (λ (j : Judgement). j.change) e))
         ]
-        | inr u ↦ rw u (let e = twice_clash m n f c u in (ap (λ (j : Judgement). j.stands) e, ap (λ (j : Judgement). j.change) e))
+        | inr u ↦ rw u (let e = twice_clash m n f c u in
+            (ap (λ (j : Judgement). j.stands) e, ap (λ (j : Judgement). j.change) e))
       ]
 
-  twice_listed : (held : Option MemberOf) (n : Node) → is_catalog fold n.zone ≡ false → Twice (Some n) (listed fold catalog p held n)
-  twice_listed None n f = let e = settled (entered fold catalog p n) n f (itself catalog) ((same_label_decides n.label n.label).1 refl) (same_choice_itself (choice_in fold.config catalog n)) in (ap (λ (j : Judgement). j.stands) e, ap (λ (j : Judgement). j.change) e)
+  twice_listed : (held : Option MemberOf) (n : Node) → is_catalog fold n.zone ≡ false
+      → Twice (Some n) (listed fold catalog p held n)
+  twice_listed None n f =
+      let e = settled (entered fold catalog p n) n f (itself catalog) ((same_label_decides n.label n.label).1 refl)
+      (same_choice_itself (choice_in fold.config catalog n)) in
+      (ap (λ (j : Judgement). j.stands) e, ap (λ (j : Judgement). j.change) e)
   twice_listed (Some m) n f =
       elim (cases_Bool (same_name m.catalog catalog)) [
         | inl c ↦ rw c (twice_here m n f c)
         | inr c ↦ rw c (twice_elsewhere m n f c)
       ]
 
-  twice_configured : (held : Option MemberOf) (n : Node) → is_catalog fold n.zone ≡ true → judged after catalog q held (Some n) ≡ record { stands = held; change = Some (Clash None) }
+  twice_configured : (held : Option MemberOf) (n : Node) → is_catalog fold n.zone ≡ true
+      → judged after catalog q held (Some n) ≡ record { stands = held; change = Some (Clash None) }
   unfolding judged
   twice_configured None n t = rw t refl
   twice_configured (Some m) n t = rw t refl
 
-  first_listed : (held : Option MemberOf) (n : Node) → judged fold catalog p held (Some n) ≡ (if is_catalog fold n.zone then record { stands = held; change = Some (Clash None) } else listed fold catalog p held n)
+  first_listed : (held : Option MemberOf) (n : Node) → judged fold catalog p held (Some n) ≡ (if is_catalog fold n.zone
+      then record { stands = held; change = Some (Clash None) } else listed fold catalog p held n)
   unfolding judged
   first_listed None n = refl
   first_listed (Some m) n = refl
@@ -164,7 +201,8 @@ module _ (fold : FoldOf) (catalog : Name) (p q : ℕ) (ms : List MemberOf) (ls :
   twice held (Some n) =
       subst (Twice (Some n)) (sym (first_listed held n))
       (elim (cases_Bool (is_catalog fold n.zone)) [
-        | inl t ↦ rw t (let e = twice_configured held n t in (ap (λ (j : Judgement). j.stands) e, ap (λ (j : Judgement). j.change) e))
+        | inl t ↦ rw t (let e = twice_configured held n t in
+            (ap (λ (j : Judgement). j.stands) e, ap (λ (j : Judgement). j.change) e))
         | inr f ↦ rw f (twice_listed held n f)
       ])
 
@@ -177,16 +215,19 @@ found_of : (o : Option ℕ) → IsSome o → Found o
 found_of None h = absurd (cc)
 found_of (Some k) h = record { number = k; is = refl }
 
-other_at : (ls : List (Option (List Node))) (k : ℕ) (v : Option (List Node)) (o : Option ℕ) → ((j : ℕ) → o ≡ Some j → j ≢ k)
+other_at : (ls : List (Option (List Node))) (k : ℕ) (v : Option (List Node)) (o : Option ℕ)
+    → ((j : ℕ) → o ≡ Some j → j ≢ k)
     → option_map_or (λ j. get_or (slice_set ls k v) j None) o None ≡ option_map_or (λ j. get_or ls j None) o None
 other_at ls k v None h = refl
 other_at ls k v (Some j) h = get_or-set_other ls k j v None (h j refl)
 
-module _ (fold : FoldOf) (catalog : Name) (nodes : List Node) (k : ℕ) (is : number_of fold.config catalog ≡ Some k) where
+module _ (fold : FoldOf) (catalog : Name) (nodes : List Node) (k : ℕ)
+    (is : number_of fold.config catalog ≡ Some k) where
   set_is : with_listing fold catalog nodes ≡ slice_set fold.listings k (Some nodes)
   set_is = rw is refl
 
-  listing_other : (ms : List MemberOf) (holder : Name) → same_name holder catalog ≡ false → listing_of (record fold { members = ms; listings = with_listing fold catalog nodes }) holder ≡ listing_of fold holder
+  listing_other : (ms : List MemberOf) (holder : Name) → same_name holder catalog ≡ false → listing_of
+      (record fold { members = ms; listings = with_listing fold catalog nodes }) holder ≡ listing_of fold holder
   listing_other ms holder f =
       rw set_is
       (other_at fold.listings k (Some nodes) (number_of fold.config holder) (λ j e same_one.
@@ -197,39 +238,56 @@ module _ (fold : FoldOf) (catalog : Name) (nodes : List Node) (k : ℕ) (is : nu
       let bad : true ≡ false = sym t ∙ f in cc))
 
   consents_other : (ms : List MemberOf) (m : MemberOf) → same_name m.catalog catalog ≡ false
-      → consents (record fold { members = ms; listings = with_listing fold catalog nodes }) catalog m ≡ consents fold catalog m
-  consents_other ms m f = ap (λ (o : Option (List Node)). option_map_or (λ ns. coo_names ns m.label catalog) o false) (listing_other ms m.catalog f)
+      → consents (record fold { members = ms; listings = with_listing fold catalog nodes }) catalog m
+      ≡ consents fold catalog m
+  consents_other ms m f = ap (λ (o : Option (List Node)). option_map_or (λ ns. coo_names ns m.label catalog) o false)
+      (listing_other ms m.catalog f)
 
-  set_twice : (ms : List MemberOf) → with_listing (record fold { members = ms; listings = with_listing fold catalog nodes }) catalog nodes ≡ with_listing fold catalog nodes
+  set_twice : (ms : List MemberOf)
+      → with_listing (record fold { members = ms; listings = with_listing fold catalog nodes }) catalog nodes
+      ≡ with_listing fold catalog nodes
   set_twice ms = rw is (set-set fold.listings k (Some nodes) (Some nodes))
 
 -- ---- the law
-module _ (fold : FoldOf) (catalog : Name) (nodes : List Node) (p q : ℕ) (h : IsFold fold) (l : IsListing nodes) (k : ℕ) (is : number_of fold.config catalog ≡ Some k) where
+module _ (fold : FoldOf) (catalog : Name) (nodes : List Node) (p q : ℕ) (h : IsFold fold) (l : IsListing nodes) (k : ℕ)
+    (is : number_of fold.config catalog ≡ Some k) where
   rise : IsStrictlySortedBy canonical_order (map (λ (n : Node). n.zone) (in_zone_order nodes))
   rise = sorted_rise nodes l.zones
 
   judged_twice : (z : Name)
-      → (judged (process fold catalog nodes p) catalog q (judged_at fold catalog nodes p z).stands (node_of z nodes)).stands ≡ (judged_at fold catalog nodes p z).stands
-      × ((judged (process fold catalog nodes p) catalog q (judged_at fold catalog nodes p z).stands (node_of z nodes)).change ≡ told_again (judged_at fold catalog nodes p z).change)
+      → (judged (process fold catalog nodes p) catalog q (judged_at fold catalog nodes p z).stands
+      (node_of z nodes)).stands ≡ (judged_at fold catalog nodes p z).stands
+      × ((judged (process fold catalog nodes p) catalog q (judged_at fold catalog nodes p z).stands
+      (node_of z nodes)).change ≡ told_again (judged_at fold catalog nodes p z).change)
   unfolding process
   judged_twice z =
-      twice fold catalog p q (process fold catalog nodes p).members (with_listing fold catalog nodes) (λ m f. consents_other fold catalog nodes k is (process fold catalog nodes p).members m f) (member_of z fold.members) (node_of z nodes)
+      twice fold catalog p q (process fold catalog nodes p).members (with_listing fold catalog nodes)
+      (λ m f. consents_other fold catalog nodes k is (process fold catalog nodes p).members m f)
+      (member_of z fold.members) (node_of z nodes)
 
-  at_again : (z : Name) → judged_at (process fold catalog nodes p) catalog nodes q z ≡ judged (process fold catalog nodes p) catalog q (judged_at fold catalog nodes p z).stands (node_of z nodes)
-  at_again z = ap (λ (held : Option MemberOf). judged (process fold catalog nodes p) catalog q held (node_of z nodes)) ((each_zone fold catalog nodes p h.rises rise).member z)
+  at_again : (z : Name) → judged_at (process fold catalog nodes p) catalog nodes q z
+      ≡ judged (process fold catalog nodes p) catalog q (judged_at fold catalog nodes p z).stands (node_of z nodes)
+  at_again z = ap (λ (held : Option MemberOf). judged (process fold catalog nodes p) catalog q held (node_of z nodes))
+      ((each_zone fold catalog nodes p h.rises rise).member z)
 
-  members_again : (process (process fold catalog nodes p) catalog nodes q).members ≡ (process fold catalog nodes p).members
+  members_again : (process (process fold catalog nodes p) catalog nodes q).members
+      ≡ (process fold catalog nodes p).members
   members_again =
       let up = order_after fold catalog nodes p h.rises rise in
-      same_members (process (process fold catalog nodes p) catalog nodes q).members (process fold catalog nodes p).members
+      same_members (process (process fold catalog nodes p) catalog nodes q).members
+      (process fold catalog nodes p).members
       (order_after (process fold catalog nodes p) catalog nodes q up rise) up
       (λ z.
       (each_zone (process fold catalog nodes p) catalog nodes q up rise).member z
-      ∙ ap (λ (j : Judgement). j.stands) (at_again z) ∙ (judged_twice z).0 ∙ sym ((each_zone fold catalog nodes p h.rises rise).member z))
+      ∙ ap (λ (j : Judgement). j.stands) (at_again z) ∙ (judged_twice z).0
+      ∙ sym ((each_zone fold catalog nodes p h.rises rise).member z))
 
   fold_again : process (process fold catalog nodes p) catalog nodes q ≡ process fold catalog nodes p
   unfolding process
-  fold_again = let ms = members_again in let ls = set_twice fold catalog nodes k is (process fold catalog nodes p).members in λ i. record { config = fold.config; members = ms i; listings = ls i }
+  fold_again =
+      let ms = members_again in
+      let ls = set_twice fold catalog nodes k is (process fold catalog nodes p).members in
+      λ i. record { config = fold.config; members = ms i; listings = ls i }
 
   again : Again fold catalog nodes p q
   again = record {
@@ -238,4 +296,6 @@ module _ (fold : FoldOf) (catalog : Name) (nodes : List Node) (p q : ℕ) (h : I
   }
 
 pub changes_once : ChangesOnce
-changes_once fold catalog nodes p q h l some = let f = found_of (number_of fold.config catalog) some in again fold catalog nodes p q h l f.number f.is
+changes_once fold catalog nodes p q h l some =
+    let f = found_of (number_of fold.config catalog) some in
+    again fold catalog nodes p q h l f.number f.is

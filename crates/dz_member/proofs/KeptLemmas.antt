@@ -16,20 +16,27 @@ use Rattle.dz_member.specs.Membership.{MemberOf, shown, IsNumbered}
 use Rattle.dz_member.specs.inner.Kept.{IsKept}
 use Rattle.dz_member.proofs.SearchLemmas.{position_map}
 
-pub zones_shown : (catalogs : List CatalogSettings) (ms : List Membership) → map (λ (m : MemberOf). m.zone) (map (shown catalogs) ms) ≡ map (λ (m : Membership). m.zone) ms
+pub zones_shown : (catalogs : List CatalogSettings) (ms : List Membership)
+    → map (λ (m : MemberOf). m.zone) (map (shown catalogs) ms) ≡ map (λ (m : Membership). m.zone) ms
 zones_shown catalogs ms = map-map (λ (m : MemberOf). m.zone) (shown catalogs) ms
 
-pub zones_rise : (catalogs : List CatalogSettings) (ms : List Membership) → IsStrictlySortedBy canonical_order (map (λ (m : MemberOf). m.zone) (map (shown catalogs) ms)) → IsStrictlySortedBy canonical_order (map (λ (m : Membership). m.zone) ms)
-zones_rise catalogs ms up = subst (λ (zs : List Name). IsStrictlySortedBy canonical_order zs) (zones_shown catalogs ms) up
+pub zones_rise : (catalogs : List CatalogSettings) (ms : List Membership)
+    → IsStrictlySortedBy canonical_order (map (λ (m : MemberOf). m.zone) (map (shown catalogs) ms))
+    → IsStrictlySortedBy canonical_order (map (λ (m : Membership). m.zone) ms)
+zones_rise catalogs ms up =
+    subst (λ (zs : List Name). IsStrictlySortedBy canonical_order zs) (zones_shown catalogs ms) up
 
-pub place_shown : (catalogs : List CatalogSettings) (ms : List Membership) (zone : Name) → position (λ (m : MemberOf). same_name m.zone zone) (map (shown catalogs) ms) ≡ position (λ (m : Membership). same_name m.zone zone) ms
+pub place_shown : (catalogs : List CatalogSettings) (ms : List Membership) (zone : Name)
+    → position (λ (m : MemberOf). same_name m.zone zone) (map (shown catalogs) ms)
+    ≡ position (λ (m : Membership). same_name m.zone zone) ms
 place_shown catalogs ms zone = position_map (λ (m : MemberOf). same_name m.zone zone) (shown catalogs) ms
 
 -- the fold of a configuration alone
 none_numbered : (catalogs : List CatalogSettings) → All (IsNumbered catalogs) []
 none_numbered catalogs k d inside = absurd (omega arith)
 
-pub kept_start : (catalogs : List CatalogSettings) (listings : List (Option (List Node))) (count : ℕ) → IsAllowed catalogs → listings ≡ replicate count None → count ≡ length catalogs → IsKept catalogs [] listings
+pub kept_start : (catalogs : List CatalogSettings) (listings : List (Option (List Node))) (count : ℕ)
+    → IsAllowed catalogs → listings ≡ replicate count None → count ≡ length catalogs → IsKept catalogs [] listings
 unfolding IsStrictlySortedBy
 kept_start catalogs listings count allowed none is = record {
   fold = record { allowed = allowed; rises = tt; each = ap length none ∙ length-replicate count None ∙ is };
@@ -41,7 +48,9 @@ pub record IsAt (catalogs : List CatalogSettings) (ms : List Membership) (place 
   pub numbered : IsNumbered catalogs m
   pub is : slice_get ms place ≡ Some m
 
-pub at_place : (catalogs : List CatalogSettings) (ms : List Membership) (place : ℕ) (m : Membership) → All (IsNumbered catalogs) ms → place < length (map (shown catalogs) ms) → m ≡ get_or ms place m → IsAt catalogs ms place m
+pub at_place : (catalogs : List CatalogSettings) (ms : List Membership) (place : ℕ) (m : Membership)
+    → All (IsNumbered catalogs) ms → place < length (map (shown catalogs) ms) → m ≡ get_or ms place m
+    → IsAt catalogs ms place m
 at_place catalogs ms place m all inside e =
     let lt : place < length ms = omega (arith, length-map ms (shown catalogs), inside) in
     record {

@@ -1,5 +1,6 @@
 -- Octets as one number, the first octet the greatest: numbers of equally many octets compare as the octets do.
-use Rattle.std.proofs.Common.{◌≡◌, ℕ, suc, ◌+◌, ◌*◌, ◌<◌, List, [], ◌∷◌, length, get_or, refl, sym, ◌∙◌, ap, arith, inl, inr}
+use Rattle.std.proofs.Common.{◌≡◌, ℕ, suc, ◌+◌, ◌*◌, ◌<◌, List, [], ◌∷◌, length, get_or, refl, sym, ◌∙◌, ap, arith}
+use Rattle.std.proofs.Common.{inl, inr}
 use Rattle.std.specs.Cmp.{nat_cmp_is}
 use Rattle.std.specs.Cmp.Lexicographic.{slice_cmp}
 use Rattle.std.specs.Int.{w128, from_be_bytes}
@@ -23,13 +24,15 @@ rises a b (x ∷ xs) (y ∷ ys) e h l =
     let small : x < 256 = h 0 in
     rises (a * 256 + x) (b * 256 + y) xs ys (omega (arith, e)) (λ i. h (suc i)) (omega (arith, small, l))
 
-in_order : (a : ℕ) (xs ys : List ℕ) → length xs ≡ length ys → AreOctets xs → AreOctets ys → nat_cmp (number a xs) (number a ys) ≡ slice_cmp nat_cmp xs ys
+in_order : (a : ℕ) (xs ys : List ℕ) → length xs ≡ length ys → AreOctets xs → AreOctets ys
+    → nat_cmp (number a xs) (number a ys) ≡ slice_cmp nat_cmp xs ys
 in_order a [] [] e g h = sym (nat_cmp_is a a Equal refl)
 in_order a [] (y ∷ ys) e g h = absurd (omega (arith, e))
 in_order a (x ∷ xs) [] e g h = absurd (omega (arith, e))
 in_order a (x ∷ xs) (y ∷ ys) e g h = elim (cases_order x y) [
   | inl same ↦
-      rw same (rw (← nat_cmp_is y y Equal refl) (in_order (a * 256 + y) xs ys (omega (arith, e)) (λ i. g (suc i)) (λ i. h (suc i))))
+      rw same (rw (← nat_cmp_is y y Equal refl)
+      (in_order (a * 256 + y) xs ys (omega (arith, e)) (λ i. g (suc i)) (λ i. h (suc i))))
   | inr apart ↦ elim apart [
     | inl below ↦
         let low = rises (a * 256 + x) (a * 256 + y) xs ys (omega (arith, e)) (λ i. g (suc i)) (omega (arith, below)) in

@@ -1,5 +1,6 @@
 -- A stable sort has one answer: that of insertion.
-use Rattle.std.proofs.Common.{◌≡◌, ℕ, zero, suc, add-one, ◌<◌, ◌≤◌, ◌+◌, Bool, true, false, cond, not, ◌&&◌, List, [], ◌∷◌, length, refl, sym, ◌∙◌, ap, subst, arith}
+use Rattle.std.proofs.Common.{◌≡◌, ℕ, zero, suc, add-one, ◌<◌, ◌≤◌, ◌+◌, Bool, true, false, cond, not, ◌&&◌, List, []}
+use Rattle.std.proofs.Common.{◌∷◌, length, refl, sym, ◌∙◌, ap, subst, arith}
 use Rattle.std.proofs.Math.ListN.{get_or}
 use Rattle.std.specs.List.{filter}
 use Rattle.std.specs.List.Sorted.{ties, IsSortedBy, IsStableBy}
@@ -27,7 +28,8 @@ tail_same x y xs ys e = cc
 
 module _ {X : Type 0} (lt : X → X → Bool) (o : IsStrictWeakOrder lt) where
   irreflexive : (x : X) → lt x x ≡ false
-  irreflexive x = elim (lt x x) as (λ b. lt x x ≡ b → lt x x ≡ false) [ true ↦ λ e. o.one_way x x e | false ↦ λ e. e ] refl
+  irreflexive x =
+      elim (lt x x) as (λ b. lt x x ≡ b → lt x x ≡ false) [ true ↦ λ e. o.one_way x x e | false ↦ λ e. e ] refl
 
   both_false : (a b : Bool) → a ≡ false → b ≡ false → (not a && not b) ≡ true
   both_false a b p q = rw (p, q)
@@ -48,27 +50,33 @@ module _ {X : Type 0} (lt : X → X → Bool) (o : IsStrictWeakOrder lt) where
   found_above : (x y z : X) (xs zs : List X) → NoneBelow lt x xs → filter (ties lt y) xs ≡ z ∷ zs → lt y x ≡ false
   found_above x y z [] zs none e = absurd (nil_cons z zs e)
   found_above x y z (w ∷ ws) zs none e =
-      elim (ties lt y w) as (λ b. ties lt y w ≡ b → cond b (w ∷ filter (ties lt y) ws) (filter (ties lt y) ws) ≡ z ∷ zs → lt y x ≡ false) [
+      elim (ties lt y w) as (λ b. ties lt y w ≡ b → cond b (w ∷ filter (ties lt y) ws) (filter (ties lt y) ws) ≡ z ∷ zs
+      → lt y x ≡ false) [
         | true ↦ λ t _. o.chain y w x (first_false _ _ t) none.0
         | false ↦ λ _ e'. found_above x y z ws zs none.1 e'
       ] refl e
 
   -- of two lists in order with the same ties, the first elements are the same
-  not_below : (s t : X) (ss ts : List X) → Rises lt (t ∷ ts) → filter (ties lt s) (s ∷ ss) ≡ filter (ties lt s) (t ∷ ts) → lt s t ≡ false
+  not_below : (s t : X) (ss ts : List X) → Rises lt (t ∷ ts)
+      → filter (ties lt s) (s ∷ ss) ≡ filter (ties lt s) (t ∷ ts) → lt s t ≡ false
   not_below s t ss ts rises e =
       let e' : s ∷ filter (ties lt s) ss ≡ filter (ties lt s) (t ∷ ts) = rw (ties_self s) at e in
-      elim (ties lt s t) as (λ b. ties lt s t ≡ b → s ∷ filter (ties lt s) ss ≡ cond b (t ∷ filter (ties lt s) ts) (filter (ties lt s) ts) → lt s t ≡ false) [
+      elim (ties lt s t) as (λ b. ties lt s t ≡ b
+      → s ∷ filter (ties lt s) ss ≡ cond b (t ∷ filter (ties lt s) ts) (filter (ties lt s) ts) → lt s t ≡ false) [
         | true ↦ λ p _. first_false _ _ p
         | false ↦ λ _ q. found_above t s s ts (filter (ties lt s) ss) rises.0 (sym q)
       ] refl e'
 
-  pub same_sorted : (ss ts : List X) → Rises lt ss → Rises lt ts → ((x : X) → filter (ties lt x) ss ≡ filter (ties lt x) ts) → ss ≡ ts
+  pub same_sorted : (ss ts : List X) → Rises lt ss → Rises lt ts
+      → ((x : X) → filter (ties lt x) ss ≡ filter (ties lt x) ts) → ss ≡ ts
   same_sorted [] [] a b is = refl
   same_sorted [] (t ∷ ts) a b is = absurd (nil_cons t _ (rw (ties_self t) at (is t)))
   same_sorted (s ∷ ss) [] a b is = absurd (nil_cons s _ (sym (rw (ties_self s) at (is s))))
   same_sorted (s ∷ ss) (t ∷ ts) a b is =
-      let tie : ties lt s t ≡ true = both_false _ _ (not_below s t ss ts b (is s)) (not_below t s ts ss a (sym (is t))) in
-      let heads : s ≡ t = head_same s t (filter (ties lt s) ss) (filter (ties lt s) ts) (rw (ties_self s, tie) at (is s)) in
+      let tie : ties lt s t ≡ true =
+      both_false _ _ (not_below s t ss ts b (is s)) (not_below t s ts ss a (sym (is t))) in
+      let heads : s ≡ t =
+      head_same s t (filter (ties lt s) ss) (filter (ties lt s) ts) (rw (ties_self s, tie) at (is s)) in
       let rest = same_sorted ss ts a.1 b.1 (λ x.
       elim (ties lt x s) as (λ v. ties lt x s ≡ v → filter (ties lt x) ss ≡ filter (ties lt x) ts) [
         | true ↦ λ p. tail_same s t _ _ (rw (p, subst (λ (w : X). ties lt x w ≡ true) heads p) at (is x))
@@ -77,15 +85,19 @@ module _ {X : Type 0} (lt : X → X → Bool) (o : IsStrictWeakOrder lt) where
       λ i. heads i ∷ rest i
 
   -- from the order by places to that by recursion
-  pub none_below : (x : X) (xs : List X) → ((i : ℕ) (d : X) → i < length xs → lt (get_or xs i d) x ≡ false) → NoneBelow lt x xs
+  pub none_below : (x : X) (xs : List X) → ((i : ℕ) (d : X) → i < length xs → lt (get_or xs i d) x ≡ false)
+      → NoneBelow lt x xs
   none_below x [] h = tt
   none_below x (y ∷ ys) h = (h 0 y (omega arith), none_below x ys (λ i d below. h (suc i) d (omega arith)))
 
   pub rises_from_sorted : (xs : List X) → IsSortedBy lt xs → Rises lt xs
   rises_from_sorted [] up = tt
   rises_from_sorted (x ∷ xs) up =
-      let far = λ (i j : ℕ) (d : X) (le : i ≤ j) (below : j < length (x ∷ xs)). sorted_far lt o (x ∷ xs) up i j d le below in
-      (none_below x xs (λ i d below. far 0 (suc i) d (omega arith) (omega arith)), rises_from_sorted xs (λ k d low high. far (suc k) (suc (k + 1)) d (omega arith) (omega arith)))
+      let far =
+      λ (i j : ℕ) (d : X) (le : i ≤ j) (below : j < length (x ∷ xs)). sorted_far lt o (x ∷ xs) up i j d le below in (
+        none_below x xs (λ i d below. far 0 (suc i) d (omega arith) (omega arith)),
+        rises_from_sorted xs (λ k d low high. far (suc k) (suc (k + 1)) d (omega arith) (omega arith)),
+      )
 
   none_below_insert : (x y : X) (ys : List X) → lt y x ≡ false → NoneBelow lt x ys → NoneBelow lt x (insert_by lt y ys)
   none_below_insert x y [] le none = (le, tt)
@@ -119,11 +131,13 @@ module _ {X : Type 0} (lt : X → X → Bool) (o : IsStrictWeakOrder lt) where
   ties_insert : (z x : X) (ys : List X) → filter (ties lt z) (insert_by lt x ys) ≡ filter (ties lt z) (x ∷ ys)
   ties_insert z x [] = refl
   ties_insert z x (y ∷ ys) =
-      elim (lt y x) as (λ b. lt y x ≡ b → filter (ties lt z) (cond b (y ∷ insert_by lt x ys) (x ∷ y ∷ ys)) ≡ filter (ties lt z) (x ∷ y ∷ ys)) [
-        | true ↦ λ less. elim (ties lt z x) as (λ b. ties lt z x ≡ b → filter (ties lt z) (y ∷ insert_by lt x ys) ≡ filter (ties lt z) (x ∷ y ∷ ys)) [
-          | true ↦ λ e. rw (apart x y z less e, ties_insert z x ys) refl
-          | false ↦ λ e. rw (e, ties_insert z x ys, e) refl
-        ] refl
+      elim (lt y x) as (λ b. lt y x ≡ b
+      → filter (ties lt z) (cond b (y ∷ insert_by lt x ys) (x ∷ y ∷ ys)) ≡ filter (ties lt z) (x ∷ y ∷ ys)) [
+        | true ↦ λ less. elim (ties lt z x) as (λ b. ties lt z x ≡ b
+            → filter (ties lt z) (y ∷ insert_by lt x ys) ≡ filter (ties lt z) (x ∷ y ∷ ys)) [
+              | true ↦ λ e. rw (apart x y z less e, ties_insert z x ys) refl
+              | false ↦ λ e. rw (e, ties_insert z x ys, e) refl
+            ] refl
         | false ↦ λ _. refl
       ] refl
 
@@ -133,11 +147,13 @@ module _ {X : Type 0} (lt : X → X → Bool) (o : IsStrictWeakOrder lt) where
 
   pub ties_sorted_by : (z : X) (xs : List X) → filter (ties lt z) (sorted_by lt xs) ≡ filter (ties lt z) xs
   ties_sorted_by z [] = refl
-  ties_sorted_by z (x ∷ xs) = ties_insert z x (sorted_by lt xs) ∙ ap (λ (l : List X). cond (ties lt z x) (x ∷ l) l) (ties_sorted_by z xs)
+  ties_sorted_by z (x ∷ xs) =
+      ties_insert z x (sorted_by lt xs) ∙ ap (λ (l : List X). cond (ties lt z x) (x ∷ l) l) (ties_sorted_by z xs)
 
   -- what a stable sort leaves
   pub stable_is : (xs ys : List X) → IsSortedBy lt ys → IsStableBy lt xs ys → ys ≡ sorted_by lt xs
-  stable_is xs ys up stable = same_sorted ys (sorted_by lt xs) (rises_from_sorted ys up) (rises_sorted_by xs) (λ z. stable z ∙ sym (ties_sorted_by z xs))
+  stable_is xs ys up stable = same_sorted ys (sorted_by lt xs) (rises_from_sorted ys up) (rises_sorted_by xs)
+      (λ z. stable z ∙ sym (ties_sorted_by z xs))
 
   pub sorted_from_rises : (xs : List X) → Rises lt xs → IsSortedBy lt xs
   sorted_from_rises [] rises k d low high = absurd (omega arith)

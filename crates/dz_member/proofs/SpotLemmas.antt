@@ -1,5 +1,6 @@
 -- One step of the walk over memberships and nodes.
-use Rattle.std.proofs.Common.{◌≡◌, ℕ, zero, suc, List, [], ◌∷◌, ◌++◌, map, length, arith, append-nil, ◌+◌, ◌<◌, refl, ◌∙◌, ap, subst, append_assoc, Ordering, Less, Equal, Greater}
+use Rattle.std.proofs.Common.{◌≡◌, ℕ, zero, suc, List, [], ◌∷◌, ◌++◌, map, length, arith, append-nil, ◌+◌, ◌<◌, refl}
+use Rattle.std.proofs.Common.{◌∙◌, ap, subst, append_assoc, Ordering, Less, Equal, Greater}
 use Rattle.std.specs.Prelude.{Option, Some, None, is_some, if◌then◌else◌, drop, slice_get}
 use Rattle.std.specs.Option.{option_map, option_to_list}
 use Rattle.std.specs.Ordering.{ordering_reverse}
@@ -17,26 +18,33 @@ use Rattle.std.proofs.lemmas.Map.Keys.{sorted_tail}
 use Rattle.dz_member.proofs.WalkLemmas.{left, right, both, below_all}
 
 abbrev pub Rise : List Membership → List Node → Type 0
-Rise ms ns = IsStrictlySortedBy canonical_order (map (λ m. m.zone) ms) × IsStrictlySortedBy canonical_order (map (λ n. n.zone) ns)
+Rise ms ns = IsStrictlySortedBy canonical_order (map (λ m. m.zone) ms)
+    × IsStrictlySortedBy canonical_order (map (λ n. n.zone) ns)
 
 abbrev spot : Judge → Name → Option Membership → Option Node → Spot
 spot judge zone m n = record { zone = zone; judged = judge m n }
 
-spots_left : (judge : Judge) (m : Membership) (ms : List Membership) (ns : List Node) → Rise (m ∷ ms) ns → AllByRecursion (λ z. canonical_order m.zone z ≡ Less) (map (λ n. n.zone) ns)
+spots_left : (judge : Judge) (m : Membership) (ms : List Membership) (ns : List Node) → Rise (m ∷ ms) ns
+    → AllByRecursion (λ z. canonical_order m.zone z ≡ Less) (map (λ n. n.zone) ns)
     → spots judge (m ∷ ms) ns ≡ spot judge m.zone (Some m) None ∷ spots judge ms ns
 unfolding spots
-spots_left judge m ms ns up below = left canonical_order canonical_total same_name same_decides (λ m. m.zone) (λ n. n.zone) (spot judge) m ms ns up.0 below
+spots_left judge m ms ns up below = left canonical_order canonical_total same_name same_decides (λ m. m.zone)
+    (λ n. n.zone) (spot judge) m ms ns up.0 below
 
-spots_right : (judge : Judge) (n : Node) (ms : List Membership) (ns : List Node) → Rise ms (n ∷ ns) → AllByRecursion (λ z. canonical_order n.zone z ≡ Less) (map (λ m. m.zone) ms)
+spots_right : (judge : Judge) (n : Node) (ms : List Membership) (ns : List Node) → Rise ms (n ∷ ns)
+    → AllByRecursion (λ z. canonical_order n.zone z ≡ Less) (map (λ m. m.zone) ms)
     → spots judge ms (n ∷ ns) ≡ spot judge n.zone None (Some n) ∷ spots judge ms ns
 unfolding spots
-spots_right judge n ms ns up below = right canonical_order canonical_total same_name same_decides (λ m. m.zone) (λ n. n.zone) (spot judge) n ms ns up.1 below
+spots_right judge n ms ns up below = right canonical_order canonical_total same_name same_decides (λ m. m.zone)
+    (λ n. n.zone) (spot judge) n ms ns up.1 below
 
-spots_both : (judge : Judge) (m : Membership) (n : Node) (ms : List Membership) (ns : List Node) → Rise (m ∷ ms) (n ∷ ns) → canonical_order m.zone n.zone ≡ Equal
+spots_both : (judge : Judge) (m : Membership) (n : Node) (ms : List Membership) (ns : List Node)
+    → Rise (m ∷ ms) (n ∷ ns) → canonical_order m.zone n.zone ≡ Equal
     → spots judge (m ∷ ms) (n ∷ ns) ≡ spot judge m.zone (Some m) (Some n) ∷ spots judge ms ns
 unfolding spots
 spots_both judge m n ms ns up level =
-    both canonical_order canonical_total same_name same_decides (λ m. m.zone) (λ n. n.zone) (spot judge) m n ms ns up.0 up.1 level (canonical_same m.zone n.zone level)
+    both canonical_order canonical_total same_name same_decides (λ m. m.zone)
+    (λ n. n.zone) (spot judge) m n ms ns up.0 up.1 level (canonical_same m.zone n.zone level)
 
 spots_none : (judge : Judge) → spots judge [] [] ≡ []
 unfolding spots
@@ -53,18 +61,22 @@ pub record Goes (judge : Judge) (ms : List Membership) (ns : List Node) (p : Pai
   pub less : length p.held + length (left_of p ns) < length ms + length ns
   pub spots : spots judge ms ns ≡ spot judge p.zone p.member p.node ∷ spots judge p.held (left_of p ns)
 
-rest_m : (m : Membership) (ms : List Membership) → IsStrictlySortedBy canonical_order (map (λ m. m.zone) (m ∷ ms)) → IsStrictlySortedBy canonical_order (map (λ m. m.zone) ms)
+rest_m : (m : Membership) (ms : List Membership) → IsStrictlySortedBy canonical_order (map (λ m. m.zone) (m ∷ ms))
+    → IsStrictlySortedBy canonical_order (map (λ m. m.zone) ms)
 rest_m m ms up = sorted_tail canonical_order m.zone (map (λ m. m.zone) ms) up
 
-rest_n : (n : Node) (ns : List Node) → IsStrictlySortedBy canonical_order (map (λ n. n.zone) (n ∷ ns)) → IsStrictlySortedBy canonical_order (map (λ n. n.zone) ns)
+rest_n : (n : Node) (ns : List Node) → IsStrictlySortedBy canonical_order (map (λ n. n.zone) (n ∷ ns))
+    → IsStrictlySortedBy canonical_order (map (λ n. n.zone) ns)
 rest_n n ns up = sorted_tail canonical_order n.zone (map (λ n. n.zone) ns) up
 
-goes_by : (judge : Judge) (m : Membership) (n : Node) (ms : List Membership) (ns : List Node) (k : Ordering) → Rise (m ∷ ms) (n ∷ ns) → canonical_order m.zone n.zone ≡ k → Goes judge (m ∷ ms) (n ∷ ns) (pair_by k m ms n)
+goes_by : (judge : Judge) (m : Membership) (n : Node) (ms : List Membership) (ns : List Node) (k : Ordering)
+    → Rise (m ∷ ms) (n ∷ ns) → canonical_order m.zone n.zone ≡ k → Goes judge (m ∷ ms) (n ∷ ns) (pair_by k m ms n)
 goes_by judge m n ms ns Less up e = record {
   held = rest_m m ms up.0;
   listed = up.1;
   less = omega arith;
-  spots = spots_left judge m ms (n ∷ ns) up (below_all canonical_order canonical_total same_name same_decides (λ m. m.zone) (λ n. n.zone) (spot judge) (λ n. n.zone) m.zone n ns up.1 e);
+  spots = spots_left judge m ms (n ∷ ns) up (below_all canonical_order canonical_total same_name same_decides
+      (λ m. m.zone) (λ n. n.zone) (spot judge) (λ n. n.zone) m.zone n ns up.1 e);
 }
 goes_by judge m n ms ns Equal up e = record {
   held = rest_m m ms up.0;
@@ -78,25 +90,30 @@ goes_by judge m n ms ns Greater up e = record {
   less = omega arith;
   spots =
       let l : canonical_order n.zone m.zone ≡ Less = canonical_total.antisymm n.zone m.zone ∙ ap ordering_reverse e in
-      spots_right judge n (m ∷ ms) ns up (below_all canonical_order canonical_total same_name same_decides (λ m. m.zone) (λ n. n.zone) (spot judge) (λ m. m.zone) n.zone m ms up.0 l);
+      spots_right judge n (m ∷ ms) ns up (below_all canonical_order canonical_total same_name same_decides
+      (λ m. m.zone) (λ n. n.zone) (spot judge) (λ m. m.zone) n.zone m ms up.0 l);
 }
 
-goes_on : (judge : Judge) (ms : List Membership) (ns : List Node) (p : Pair) → Rise ms ns → first_pair ms (slice_get ns 0) ≡ Some p → Goes judge ms ns p
+goes_on : (judge : Judge) (ms : List Membership) (ns : List Node) (p : Pair) → Rise ms ns
+    → first_pair ms (slice_get ns 0) ≡ Some p → Goes judge ms ns p
 unfolding IsStrictlySortedBy
 goes_on judge [] [] p up e = absurd (cc)
 goes_on judge [] (n ∷ ns) p up e =
     let q : Pair = record { zone = n.zone; member = None; node = Some n; held = [] } in
     let same : q ≡ p = cc in
-    subst (Goes judge [] (n ∷ ns)) same (record { held = tt; listed = rest_n n ns up.1; less = omega arith; spots = spots_right judge n [] ns up tt })
+    subst (Goes judge [] (n ∷ ns)) same
+    (record { held = tt; listed = rest_n n ns up.1; less = omega arith; spots = spots_right judge n [] ns up tt })
 goes_on judge (m ∷ ms) [] p up e =
     let q : Pair = record { zone = m.zone; member = Some m; node = None; held = ms } in
     let same : q ≡ p = cc in
-    subst (Goes judge (m ∷ ms) []) same (record { held = rest_m m ms up.0; listed = tt; less = omega arith; spots = spots_left judge m ms [] up tt })
+    subst (Goes judge (m ∷ ms) []) same
+    (record { held = rest_m m ms up.0; listed = tt; less = omega arith; spots = spots_left judge m ms [] up tt })
 goes_on judge (m ∷ ms) (n ∷ ns) p up e =
     let same : pair_by (canonical_order m.zone n.zone) m ms n ≡ p = cc in
     subst (Goes judge (m ∷ ms) (n ∷ ns)) same (goes_by judge m n ms ns (canonical_order m.zone n.zone) up refl)
 
-pub spots_end : (judge : Judge) (ms : List Membership) (ns : List Node) → first_pair ms (slice_get ns 0) ≡ None → spots judge ms ns ≡ []
+pub spots_end : (judge : Judge) (ms : List Membership) (ns : List Node) → first_pair ms (slice_get ns 0) ≡ None
+    → spots judge ms ns ≡ []
 spots_end judge [] [] e = spots_none judge
 spots_end judge [] (n ∷ ns) e = absurd (cc)
 spots_end judge (m ∷ ms) [] e = absurd (cc)
@@ -107,20 +124,27 @@ consed None xs ys = ap (λ zs. zs ++ ys) (append-nil xs)
 consed (Some x) xs ys = append_assoc xs (x ∷ []) ys
 
 -- the loop's step
-pub record Step (judge : Judge) (ms : List Membership) (ns : List Node) (p : Pair) (members : List MemberOf) (changes : List Change) (all_members : List MemberOf) (all_changes : List Change) : Type 0 where
+pub record Step (judge : Judge) (ms : List Membership) (ns : List Node) (p : Pair) (members : List MemberOf)
+    (changes : List Change) (all_members : List MemberOf) (all_changes : List Change) : Type 0 where
   pub goes : Goes judge ms ns p
-  pub members_on : (members ++ option_to_list (judge p.member p.node).stands) ++ members_in (spots judge p.held (left_of p ns)) ≡ all_members
-  pub changes_on : (changes ++ option_to_list (option_map (λ what. record { zone = p.zone; what = what }) (judge p.member p.node).change)) ++ changes_in (spots judge p.held (left_of p ns)) ≡ all_changes
+  pub members_on : (members ++ option_to_list (judge p.member p.node).stands)
+      ++ members_in (spots judge p.held (left_of p ns)) ≡ all_members
+  pub changes_on : (changes ++ option_to_list (option_map (λ what. record { zone = p.zone; what = what })
+      (judge p.member p.node).change)) ++ changes_in (spots judge p.held (left_of p ns)) ≡ all_changes
 
-pub steps : (judge : Judge) (ms : List Membership) (ns : List Node) (p : Pair) (members : List MemberOf) (changes : List Change) (all_members : List MemberOf) (all_changes : List Change)
-    → Rise ms ns → first_pair ms (slice_get ns 0) ≡ Some p → members ++ members_in (spots judge ms ns) ≡ all_members → changes ++ changes_in (spots judge ms ns) ≡ all_changes
+pub steps : (judge : Judge) (ms : List Membership) (ns : List Node) (p : Pair) (members : List MemberOf)
+    (changes : List Change) (all_members : List MemberOf) (all_changes : List Change)
+    → Rise ms ns → first_pair ms (slice_get ns 0) ≡ Some p → members ++ members_in (spots judge ms ns) ≡ all_members
+    → changes ++ changes_in (spots judge ms ns) ≡ all_changes
     → Step judge ms ns p members changes all_members all_changes
 steps judge ms ns p members changes all_members all_changes up e f g =
     let go = goes_on judge ms ns p up e in
     record {
       goes = go;
-      members_on = consed (judge p.member p.node).stands members (members_in (spots judge p.held (left_of p ns))) ∙ (rw go.spots at f);
-      changes_on = consed (option_map (λ what. record { zone = p.zone; what = what }) (judge p.member p.node).change) changes (changes_in (spots judge p.held (left_of p ns))) ∙ (rw go.spots at g);
+      members_on = consed (judge p.member p.node).stands members (members_in (spots judge p.held (left_of p ns)))
+          ∙ (rw go.spots at f);
+      changes_on = consed (option_map (λ what. record { zone = p.zone; what = what }) (judge p.member p.node).change)
+          changes (changes_in (spots judge p.held (left_of p ns))) ∙ (rw go.spots at g);
     }
 
 -- the first node from a place on

@@ -7,7 +7,8 @@ use Rattle.dz_settings.specs.declared.config.GroupSettings.{GroupSettings}
 use Rattle.dz_settings.specs.declared.config.CatalogSettings.{CatalogSettings}
 use Rattle.dz_member.specs.declared.listing.Node.{Node}
 use Rattle.dz_member.specs.declared.change.What.{What}
-use Rattle.dz_member.specs.declared.change.What.TheVariants.{Added, Removed, Reset, Moved, MovedReset, Clash, Regrouped}
+use Rattle.dz_member.specs.declared.change.What.TheVariants.{Added, Removed, Reset, Moved, MovedReset, Clash}
+use Rattle.dz_member.specs.declared.change.What.TheVariants.{Regrouped}
 use Rattle.dz_member.specs.declared.change.Change.{Change}
 use Rattle.dz_settings.specs.declared.limits.TheConstants.{SECRET_OCTETS}
 use Rattle.dz_settings.specs.Config.{is_allowed, is_word}
@@ -64,13 +65,20 @@ word_twice = refl
 pub no_primary : is_allowed (record { name = one; policy = Off; primaries = []; groups = []; key = None } ∷ []) ≡ false
 no_primary = refl
 
-pub port_zero : is_allowed (record { name = one; policy = Off; primaries = host 0 ∷ []; groups = []; key = None } ∷ []) ≡ false
+pub port_zero : is_allowed (record { name = one; policy = Off; primaries = host 0 ∷ []; groups = []; key = None } ∷ [])
+    ≡ false
 port_zero = refl
 
 -- a catalog with a key of this secret
 abbrev signed_with : Octets → List CatalogSettings
 signed_with secret =
-    record { name = one; policy = Off; primaries = host 53 ∷ []; groups = []; key = Some (record { name = two; secret = secret }) } ∷ []
+    record {
+      name = one;
+      policy = Off;
+      primaries = host 53 ∷ [];
+      groups = [];
+      key = Some (record { name = two; secret = secret });
+    } ∷ []
 
 pub no_secret : is_allowed (signed_with []) ≡ false
 no_secret = refl
@@ -94,7 +102,8 @@ pub blank : is_word (codes "a b") ≡ false
 blank = refl
 
 -- ---- groups: one character string, and a word of the catalog; the first counts
-pub first_known : choice_of (edge ∷ core ∷ []) ((3 ∷ codes "abc") ∷ (4 ∷ codes "core") ∷ (4 ∷ codes "edge") ∷ []) ≡ Some (codes "core")
+pub first_known : choice_of (edge ∷ core ∷ []) ((3 ∷ codes "abc") ∷ (4 ∷ codes "core") ∷ (4 ∷ codes "edge") ∷ [])
+    ≡ Some (codes "core")
 unfolding choice_of
 first_known = refl
 
@@ -171,11 +180,13 @@ pub removed : changes after1 one [] 6 ≡ told (Removed one)
 unfolding changes judged
 removed = refl
 
-pub regrouped : changes after1 one (record { label = m1; zone = zone; coo = None; groups = (4 ∷ codes "edge") ∷ [] } ∷ []) 6 ≡ told (Regrouped one)
+pub regrouped : changes after1 one
+    (record { label = m1; zone = zone; coo = None; groups = (4 ∷ codes "edge") ∷ [] } ∷ []) 6 ≡ told (Regrouped one)
 unfolding changes judged choice_of
 regrouped = refl
 
-pub configured : changes (started both) one (record { label = m1; zone = two; coo = None; groups = [] } ∷ []) 6 ≡ record { zone = two; what = Clash None } ∷ []
+pub configured : changes (started both) one (record { label = m1; zone = two; coo = None; groups = [] } ∷ []) 6
+    ≡ record { zone = two; what = Clash None } ∷ []
 unfolding changes judged
 configured = refl
 

@@ -21,7 +21,8 @@ HeldOnce = (fold : FoldOf) → IsFold fold → IsDistinct same_name (map (λ m. 
 -- a zone changes its holder only where the node of its label in the old holder's last unbroken listing has a coo that
 -- names the new one
 abbrev pub MovesWithConsent : Type 0
-MovesWithConsent = (fold : FoldOf) (catalog : Name) (nodes : List Node) (position : ℕ) (zone : Name) (before after : MemberOf)
+MovesWithConsent =
+    (fold : FoldOf) (catalog : Name) (nodes : List Node) (position : ℕ) (zone : Name) (before after : MemberOf)
     → member_of zone fold.members ≡ Some before → (judged_at fold catalog nodes position zone).stands ≡ Some after
     → before.catalog ≢ after.catalog → (consents fold catalog before ≡ true) × (after.catalog ≡ catalog)
 
@@ -35,8 +36,10 @@ is_kept what = false
 abbrev pub KeepsState : Type 0
 KeepsState = (fold : FoldOf) (catalog : Name) (nodes : List Node) (position : ℕ) (zone : Name) (what : What)
     → (judged_at fold catalog nodes position zone).change ≡ Some what → is_kept what ≡ true
-    → option_map (λ m. m.label) (judged_at fold catalog nodes position zone).stands ≡ option_map (λ m. m.label) (member_of zone fold.members)
-    × (option_map (λ m. m.incarnation) (judged_at fold catalog nodes position zone).stands ≡ option_map (λ m. m.incarnation) (member_of zone fold.members))
+    → option_map (λ m. m.label) (judged_at fold catalog nodes position zone).stands
+    ≡ option_map (λ m. m.label) (member_of zone fold.members)
+    × (option_map (λ m. m.incarnation) (judged_at fold catalog nodes position zone).stands
+    ≡ option_map (λ m. m.incarnation) (member_of zone fold.members))
 
 -- a zone without a change is as it was
 abbrev pub StaysWithout : Type 0
@@ -63,13 +66,16 @@ told_again what = None
 -- the same listing processed once more leaves the fold as it is, and tells the clashes alone
 pub record Again (fold : FoldOf) (catalog : Name) (nodes : List Node) (position later : ℕ) : Type 0 where
   pub stays : process (process fold catalog nodes position) catalog nodes later ≡ process fold catalog nodes position
-  pub change : (zone : Name) → (judged_at (process fold catalog nodes position) catalog nodes later zone).change ≡ told_again (judged_at fold catalog nodes position zone).change
+  pub change : (zone : Name) → (judged_at (process fold catalog nodes position) catalog nodes later zone).change
+      ≡ told_again (judged_at fold catalog nodes position zone).change
 
 -- a listing that is processed once more changes nothing
 abbrev pub ChangesOnce : Type 0
-ChangesOnce = (fold : FoldOf) (catalog : Name) (nodes : List Node) (position later : ℕ) → IsFold fold → IsListing nodes → IsSome (number_of fold.config catalog) → Again fold catalog nodes position later
+ChangesOnce = (fold : FoldOf) (catalog : Name) (nodes : List Node) (position later : ℕ) → IsFold fold → IsListing nodes
+    → IsSome (number_of fold.config catalog) → Again fold catalog nodes position later
 
 -- the order of a listing's nodes doesn't matter: each zone is judged alike
 abbrev pub InAnyOrder : Type 0
-InAnyOrder = (fold : FoldOf) (catalog : Name) (nodes others : List Node) (position : ℕ) (zone : Name) → IsPermutation nodes others → has_twice same_zone nodes ≡ false
+InAnyOrder = (fold : FoldOf) (catalog : Name) (nodes others : List Node) (position : ℕ) (zone : Name)
+    → IsPermutation nodes others → has_twice same_zone nodes ≡ false
     → judged_at fold catalog nodes position zone ≡ judged_at fold catalog others position zone

@@ -1,5 +1,6 @@
 -- Meaning: members of catalogs, and the group that a member belongs to (RFC 9432 sections 4.1 and 4.3.2).
-use Rattle.std.specs.Prelude.{ℕ, ◌<◌, ◌==◌, Bool, List, [], ◌∷◌, length, position, slice_index_or, Option, Some, None, if◌then◌else◌}
+use Rattle.std.specs.Prelude.{ℕ, ◌<◌, ◌==◌, Bool, List, [], ◌∷◌, length, position, slice_index_or, Option, Some, None}
+use Rattle.std.specs.Prelude.{if◌then◌else◌}
 use Rattle.std.specs.Option.{option_map, option_and_then, ForSome}
 use Rattle.std.specs.List.{find, filter_map, list_any}
 use Rattle.std.specs.Str.{bytes_eq}
@@ -37,7 +38,8 @@ choice_of groups texts = find (is_known groups) (filter_map string_of texts)
 
 -- the settings of the catalog of a number
 abbrev pub settings_at : List CatalogSettings → ℕ → CatalogSettings
-settings_at catalogs number = slice_index_or catalogs number record { name = []; policy = Off; primaries = []; groups = []; key = None }
+settings_at catalogs number =
+    slice_index_or catalogs number record { name = []; policy = Off; primaries = []; groups = []; key = None }
 
 -- the group of a number
 abbrev pub group_at : List GroupSettings → ℕ → GroupSettings
@@ -78,11 +80,13 @@ settings_of catalogs name = find (λ catalog. same_name catalog.name name) catal
 
 -- the policy for a member, by the names of its catalog and of its choice
 abbrev pub policy_of : List CatalogSettings → MemberOf → Option Policy
-policy_of catalogs m = option_map (λ catalog. policy_in catalog (group_of catalog m.choice)) (settings_of catalogs m.catalog)
+policy_of catalogs m =
+    option_map (λ catalog. policy_in catalog (group_of catalog m.choice)) (settings_of catalogs m.catalog)
 
 -- the primaries of a member, by the names of its catalog and of its choice
 abbrev pub primaries_of : List CatalogSettings → MemberOf → Option (List Peer)
-primaries_of catalogs m = option_map (λ catalog. primaries_in catalog (group_of catalog m.choice)) (settings_of catalogs m.catalog)
+primaries_of catalogs m =
+    option_map (λ catalog. primaries_in catalog (group_of catalog m.choice)) (settings_of catalogs m.catalog)
 
 -- the key of a member is its catalog's, whatever its group
 abbrev pub key_of : List CatalogSettings → MemberOf → Option Key

@@ -1,11 +1,13 @@
 //! The order of a listing's zones, where most of it is known from an earlier listing.
 
-ghost use Rattle.std.specs.Prelude.{◌≡◌, ◌↔◌, ◌<◌, ◌≤◌, ◌++◌, length, map, nat_lt, All, IsTrue, IfOk, IfSome, OnOk, MatchOption};
+ghost use Rattle.std.specs.Prelude.{◌≡◌, ◌↔◌, ◌<◌, ◌≤◌, ◌++◌, length, map, nat_lt, All, IsTrue, IfOk, IfSome, OnOk};
+ghost use Rattle.std.specs.Prelude.{MatchOption};
 ghost use Rattle.std.specs.Option.{option_map};
 ghost use Rattle.std.specs.List.{list_all, filter_map, range_with_len};
 ghost use Rattle.std.specs.List.Sorted.{IsStrictlySortedBy, IsPermutation};
 ghost use Rattle.dz_name.specs.Name.{label_order};
-ghost use Rattle.dz_member.specs.inner.Again.{place_of_label, count_below, place_again, is_among, others, AreInZoneOrder, AreLikely, AreAllRising, AreTried};
+ghost use Rattle.dz_member.specs.inner.Again.{place_of_label, count_below, place_again, is_among, others};
+ghost use Rattle.dz_member.specs.inner.Again.{AreInZoneOrder, AreLikely, AreAllRising, AreTried};
 ghost use Rattle.dz_member.specs.inner.Places.{AreRising, ArePlacesOnce, comes_before};
 
 use crate::listing::{Listing, Node};

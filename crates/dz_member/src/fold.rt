@@ -1,6 +1,7 @@
 //! What is known of the catalogs and their members.
 
-ghost use Rattle.std.specs.Prelude.{◌≡◌, ◌+◌, ◌<◌, ◌≤◌, ◌^◌, length, map, position, slice_index_or, slice_get, Some, None, IfOk, IfSome, All, option_map};
+ghost use Rattle.std.specs.Prelude.{◌≡◌, ◌+◌, ◌<◌, ◌≤◌, ◌^◌, length, map, position, slice_index_or, slice_get, Some};
+ghost use Rattle.std.specs.Prelude.{None, IfOk, IfSome, All, option_map};
 ghost use Rattle.std.specs.List.Sorted.{IsStrictlySortedBy};
 ghost use Rattle.dz_name.specs.Name.{canonical_order, same_name};
 ghost use Rattle.std.specs.Option.{option_map_or, ForSome};

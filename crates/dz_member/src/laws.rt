@@ -1,6 +1,7 @@
 //! Laws of what a listing changes. Each is a contract without a call, so its body is empty.
 
-ghost use Rattle.dz_member.specs.Laws.{HeldOnce, MovesWithConsent, KeepsState, StaysWithout, ClashStays, ChangesOnce, InAnyOrder};
+ghost use Rattle.dz_member.specs.Laws.{HeldOnce, MovesWithConsent, KeepsState, StaysWithout, ClashStays, ChangesOnce};
+ghost use Rattle.dz_member.specs.Laws.{InAnyOrder};
 
 /// No zone is held twice.
 pub fn held_once()

@@ -1,6 +1,7 @@
 //! Nodes in the order of their zones, and which nodes make a listing.
 
-ghost use Rattle.std.specs.Prelude.{◌≡◌, ◌↔◌, ◌≤◌, ◌<◌, true, false, length, map, slice_get, Some, All, IsTrue, OnOk, IfOk, MatchOption};
+ghost use Rattle.std.specs.Prelude.{◌≡◌, ◌↔◌, ◌≤◌, ◌<◌, true, false, length, map, slice_get, Some, All, IsTrue, OnOk};
+ghost use Rattle.std.specs.Prelude.{IfOk, MatchOption};
 ghost use Rattle.std.specs.List.Sorted.{IsStrictlySortedBy, IsPermutation};
 ghost use Rattle.dz_name.specs.Name.{canonical_order, label_order};
 ghost use Rattle.dz_member.specs.Listing.{same_zone, IsListing};

@@ -11,7 +11,8 @@ use Rattle.dz_header.specs.Shape.{behind_records, shape_of, behind_owner, behind
 use Rattle.dz_record.specs.Fields.{fields_of}
 use Rattle.dz_message.specs.declared.fault.MessageFault.TheVariants.{Wire, ShortHeader, Trailing, BadRdata, BadType}
 use Rattle.dz_message.specs.Message.{Content}
-use Rattle.dz_message.specs.Reading.{octets_at, head_at, rdata_at, rdata_of, record_at, question_in, many, content_of, message_of, name_within}
+use Rattle.dz_message.specs.Reading.{octets_at, head_at, rdata_at, rdata_of, record_at, question_in, many, content_of}
+use Rattle.dz_message.specs.Reading.{message_of, name_within}
 use Rattle.dz_message.specs.Writing.{question_octets, message_octets}
 use Rattle.dz_record.specs.Record.{Record}
 use Rattle.dz_message.specs.Frame.{stream, first_size, frame_at, first_messages, messages_in}
@@ -30,7 +31,8 @@ example = codes "example" ∷ []
 
 -- ID 1, the question for a transfer of eXample., and an address record of the same name by a pointer
 abbrev transfer : Octets
-transfer = 0 ∷ 1 ∷ 132 ∷ 0 ∷ 0 ∷ 1 ∷ 0 ∷ 1 ∷ 0 ∷ 0 ∷ 0 ∷ 0 ∷ 7 ∷ 101 ∷ 88 ∷ 97 ∷ 109 ∷ 112 ∷ 108 ∷ 101 ∷ 0 ∷ 0 ∷ 252 ∷ 0 ∷ 1 ∷ 192 ∷ 12 ∷ 0 ∷ 1 ∷ 0 ∷ 1 ∷ 0 ∷ 0 ∷ 14 ∷ 16 ∷ 0 ∷ 4 ∷ 192 ∷ 0 ∷ 2 ∷ 1 ∷ []
+transfer = 0 ∷ 1 ∷ 132 ∷ 0 ∷ 0 ∷ 1 ∷ 0 ∷ 1 ∷ 0 ∷ 0 ∷ 0 ∷ 0 ∷ 7 ∷ 101 ∷ 88 ∷ 97 ∷ 109 ∷ 112 ∷ 108 ∷ 101 ∷ 0 ∷ 0 ∷ 252
+    ∷ 0 ∷ 1 ∷ 192 ∷ 12 ∷ 0 ∷ 1 ∷ 0 ∷ 1 ∷ 0 ∷ 0 ∷ 14 ∷ 16 ∷ 0 ∷ 4 ∷ 192 ∷ 0 ∷ 2 ∷ 1 ∷ []
 
 -- what this message says
 abbrev content : Content
@@ -42,12 +44,14 @@ content = record {
 
 -- names are read in lower case and without pointers
 pub is_read : message_of transfer ≡ Ok content
-unfolding message_of content_of many question_in question_at record_at head_at head_in rdata_of rdata_at octets_at fields_of behind_records name_at name_from element_at header_in number_of_two number_of_four
+unfolding message_of content_of many question_in question_at record_at head_at head_in rdata_of rdata_at octets_at
+    fields_of behind_records name_at name_from element_at header_in number_of_two number_of_four
 is_read = refl
 
 -- an additional octet is a fault, and so are octets that are missing
 pub an_octet_more : message_of (transfer ++ 0 ∷ []) ≡ Err Trailing
-unfolding message_of content_of many question_in question_at record_at head_at head_in rdata_of rdata_at octets_at fields_of behind_records name_at name_from element_at header_in number_of_two number_of_four
+unfolding message_of content_of many question_in question_at record_at head_at head_in rdata_of rdata_at octets_at
+    fields_of behind_records name_at name_from element_at header_in number_of_two number_of_four
 an_octet_more = refl
 
 pub eleven_octets : message_of (0 ∷ 1 ∷ 132 ∷ 0 ∷ 0 ∷ 1 ∷ 0 ∷ 1 ∷ 0 ∷ 0 ∷ 0 ∷ []) ≡ Err ShortHeader
@@ -60,7 +64,8 @@ no_question_there = refl
 
 -- the message as it is written, without pointers
 pub is_written : message_octets content
-    ≡ 0 ∷ 1 ∷ 132 ∷ 0 ∷ 0 ∷ 1 ∷ 0 ∷ 1 ∷ 0 ∷ 0 ∷ 0 ∷ 0 ∷ 7 ∷ codes "example" ++ 0 ∷ 0 ∷ 252 ∷ 0 ∷ 1 ∷ 7 ∷ codes "example" ++ 0 ∷ 0 ∷ 1 ∷ 0 ∷ 1 ∷ 0 ∷ 0 ∷ 14 ∷ 16 ∷ 0 ∷ 4 ∷ 192 ∷ 0 ∷ 2 ∷ 1 ∷ []
+    ≡ 0 ∷ 1 ∷ 132 ∷ 0 ∷ 0 ∷ 1 ∷ 0 ∷ 1 ∷ 0 ∷ 0 ∷ 0 ∷ 0 ∷ 7 ∷ codes "example" ++ 0 ∷ 0 ∷ 252 ∷ 0 ∷ 1 ∷ 7
+    ∷ codes "example" ++ 0 ∷ 0 ∷ 1 ∷ 0 ∷ 1 ∷ 0 ∷ 0 ∷ 14 ∷ 16 ∷ 0 ∷ 4 ∷ 192 ∷ 0 ∷ 2 ∷ 1 ∷ []
 unfolding message_octets question_octets header_octets wire_of two four
 is_written = refl
 
@@ -93,7 +98,8 @@ unfolding first_messages first_size number_of_two
 the_whole_ones = refl
 
 -- queries for example.
-pub query_for_all : query_octets 1 example None ≡ 0 ∷ 1 ∷ 0 ∷ 0 ∷ 0 ∷ 1 ∷ 0 ∷ 0 ∷ 0 ∷ 0 ∷ 0 ∷ 0 ∷ 7 ∷ codes "example" ++ 0 ∷ 0 ∷ 252 ∷ 0 ∷ 1 ∷ []
+pub query_for_all : query_octets 1 example None
+    ≡ 0 ∷ 1 ∷ 0 ∷ 0 ∷ 0 ∷ 1 ∷ 0 ∷ 0 ∷ 0 ∷ 0 ∷ 0 ∷ 0 ∷ 7 ∷ codes "example" ++ 0 ∷ 0 ∷ 252 ∷ 0 ∷ 1 ∷ []
 unfolding query_octets question_octets header_octets wire_of two
 query_for_all = refl
 
@@ -103,18 +109,23 @@ soa = record {
   owner = example;
   kind = 6;
   ttl = 3600;
-  rdata = 2 ∷ codes "ns" ++ 0 ∷ 4 ∷ codes "host" ++ 0 ∷ 0 ∷ 0 ∷ 0 ∷ 5 ∷ 0 ∷ 0 ∷ 0 ∷ 100 ∷ 0 ∷ 0 ∷ 0 ∷ 60 ∷ 0 ∷ 0 ∷ 2 ∷ 88 ∷ 0 ∷ 0 ∷ 0 ∷ 30 ∷ [];
+  rdata = 2 ∷ codes "ns" ++ 0 ∷ 4 ∷ codes "host" ++ 0 ∷ 0 ∷ 0 ∷ 0 ∷ 5 ∷ 0 ∷ 0 ∷ 0 ∷ 100 ∷ 0 ∷ 0 ∷ 0 ∷ 60 ∷ 0 ∷ 0 ∷ 2
+      ∷ 88 ∷ 0 ∷ 0 ∷ 0 ∷ 30 ∷ [];
 }
 
 pub query_for_differences : query_octets 258 example (Some soa)
-    ≡ 1 ∷ 2 ∷ 0 ∷ 0 ∷ 0 ∷ 1 ∷ 0 ∷ 0 ∷ 0 ∷ 1 ∷ 0 ∷ 0 ∷ 7 ∷ codes "example" ++ 0 ∷ 0 ∷ 251 ∷ 0 ∷ 1 ∷ 7 ∷ codes "example" ++ 0 ∷ 0 ∷ 6 ∷ 0 ∷ 1 ∷ 0 ∷ 0 ∷ 14 ∷ 16 ∷ 0 ∷ 30 ∷ 2 ∷ codes "ns" ++ 0 ∷ 4 ∷ codes "host" ++ 0 ∷ 0 ∷ 0 ∷ 0 ∷ 5 ∷ 0 ∷ 0 ∷ 0 ∷ 100 ∷ 0 ∷ 0 ∷ 0 ∷ 60 ∷ 0 ∷ 0 ∷ 2 ∷ 88 ∷ 0 ∷ 0 ∷ 0 ∷ 30 ∷ []
+    ≡ 1 ∷ 2 ∷ 0 ∷ 0 ∷ 0 ∷ 1 ∷ 0 ∷ 0 ∷ 0 ∷ 1 ∷ 0 ∷ 0 ∷ 7 ∷ codes "example" ++ 0 ∷ 0 ∷ 251 ∷ 0 ∷ 1 ∷ 7 ∷ codes "example"
+    ++ 0 ∷ 0 ∷ 6 ∷ 0 ∷ 1 ∷ 0 ∷ 0 ∷ 14 ∷ 16 ∷ 0 ∷ 30 ∷ 2 ∷ codes "ns" ++ 0 ∷ 4 ∷ codes "host" ++ 0 ∷ 0 ∷ 0 ∷ 0 ∷ 5 ∷ 0
+    ∷ 0 ∷ 0 ∷ 100 ∷ 0 ∷ 0 ∷ 0 ∷ 60 ∷ 0 ∷ 0 ∷ 2 ∷ 88 ∷ 0 ∷ 0 ∷ 0 ∷ 30 ∷ []
 unfolding query_octets question_octets header_octets wire_of two four
 query_for_differences = refl
 
 -- ---- what is read
 -- all that computes a reading: whoever unfolds `read` unfolds its whole list
 read : Octets → Result Content MessageFault
-unfolding message_of content_of many question_in question_at record_at head_at head_in rdata_of rdata_at name_within octets_at fields_of behind_records shape_of behind_owner behind_head name_at name_from element_at header_in number_of_two number_of_four wire_of
+unfolding message_of content_of many question_in question_at record_at head_at head_in rdata_of rdata_at name_within
+    octets_at fields_of behind_records shape_of behind_owner behind_head name_at name_from element_at header_in
+    number_of_two number_of_four wire_of
 read octets = message_of octets
 
 -- the header of an answer with one record, and the question for a transfer of Example.

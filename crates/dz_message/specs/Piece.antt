@@ -1,5 +1,6 @@
 -- Meaning: the messages of an outgoing transfer: each takes the records that it has room for (RFC 5936 section 2.2).
-use Rattle.std.specs.Prelude.{◌≡◌, ℕ, ◌+◌, ◌≤◌, Bool, true, false, ◌==◌, ◌&&◌, ◌||◌, nat_le, List, [], ◌∷◌, ◌++◌, length, take, map, if◌then◌else◌}
+use Rattle.std.specs.Prelude.{◌≡◌, ℕ, ◌+◌, ◌≤◌, Bool, true, false, ◌==◌, ◌&&◌, ◌||◌, nat_le, List, [], ◌∷◌, ◌++◌}
+use Rattle.std.specs.Prelude.{length, take, map, if◌then◌else◌}
 use Rattle.std.specs.List.{flat_map}
 use Rattle.dz_name.specs.Words.{Octets}
 use Rattle.dz_name.specs.declared.dns.TheConstants.{MESSAGE_OCTETS, HEADER_OCTETS}
@@ -33,7 +34,8 @@ answer_message id questions answers = record {
 
 -- how many octets a message with these questions and records has
 unfoldable pub size_of : List Question → List Record → ℕ
-size_of questions answers = HEADER_OCTETS + (length (flat_map question_octets questions) + length (flat_map record_octets answers))
+size_of questions answers =
+    HEADER_OCTETS + (length (flat_map question_octets questions) + length (flat_map record_octets answers))
 
 -- this many more octets keep a message within 65,535, and within 16,384 unless it has no record
 abbrev pub has_room : Bool → ℕ → ℕ → Bool
@@ -49,10 +51,12 @@ head_octets id asked = header_octets (record { id = id; flags = ANSWER_FLAGS; co
 
 -- the octets of a message with these questions and records before its answers are counted
 unfoldable pub begun_octets : ℕ → List Question → List Record → Octets
-begun_octets id questions answers = head_octets id (length questions) ++ (flat_map question_octets questions ++ flat_map record_octets answers)
+begun_octets id questions answers =
+    head_octets id (length questions) ++ (flat_map question_octets questions ++ flat_map record_octets answers)
 
 -- a buffer begins with this message, whose answers aren't counted in its header yet
-pub record Holds (piece : PieceState) (out : Octets) (id : ℕ) (questions : List Question) (answers : List Record) : Type 0 where
+pub record Holds (piece : PieceState) (out : Octets) (id : ℕ) (questions : List Question)
+    (answers : List Record) : Type 0 where
   pub state : piece ≡ piece_of questions answers
   pub octets : take piece.size out ≡ begun_octets id questions answers
 
@@ -104,14 +108,17 @@ abbrev pub nothing_counted : ℕ → TallyState
 nothing_counted question = tally_of 0 (HEADER_OCTETS + question) true
 
 -- one more record: the messages that ended were put out, and another is being built
-pub record GoesOn (next : PieceState) (buffer out_before out_now : Octets) (id : ℕ) (questions : List Question) (current : List Record) (r : Record) : Type 0 where
+pub record GoesOn (next : PieceState) (buffer out_before out_now : Octets) (id : ℕ) (questions : List Question)
+    (current : List Record) (r : Record) : Type 0 where
   pub asked : List Question
   pub taken : List Record
   pub holds : Holds next buffer id asked taken
-  pub same : (rest : List Record) → out_now ++ stream (written (packed id asked taken rest)) ≡ out_before ++ stream (written (packed id questions current (r ∷ rest)))
+  pub same : (rest : List Record) → out_now ++ stream (written (packed id asked taken rest)) ≡ out_before
+      ++ stream (written (packed id questions current (r ∷ rest)))
 
 -- messages were put out, another is being built, and with the remaining records they make the whole
-pub record IsPacking (piece : PieceState) (buffer out : Octets) (id : ℕ) (rest : List Record) (whole : Octets) : Type 0 where
+pub record IsPacking (piece : PieceState) (buffer out : Octets) (id : ℕ) (rest : List Record)
+    (whole : Octets) : Type 0 where
   pub asked : List Question
   pub taken : List Record
   pub holds : Holds piece buffer id asked taken

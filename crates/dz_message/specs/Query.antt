@@ -26,11 +26,13 @@ query_question zone held = record { name = zone; kind = query_kind held; class =
 
 -- the query as octets, with names without pointers
 unfoldable pub query_octets : ℕ → Name → Option Record → Octets
-query_octets id zone held = header_octets (query_header id held) ++ (question_octets (query_question zone held) ++ option_map_or record_octets held [])
+query_octets id zone held = header_octets (query_header id held)
+    ++ (question_octets (query_question zone held) ++ option_map_or record_octets held [])
 
 -- the query as it is read: the authority section is skipped
 abbrev pub query_content : ℕ → Name → Option Record → Content
-query_content id zone held = record { header = query_header id held; questions = query_question zone held ∷ []; answers = [] }
+query_content id zone held =
+    record { header = query_header id held; questions = query_question zone held ∷ []; answers = [] }
 
 -- a held record is an SOA
 abbrev pub IsHeldSoa : Option Record → Type 0

@@ -1,5 +1,6 @@
 -- Meaning: a message read from left to right, with the first fault that is found (RFC 1035 section 4.1).
-use Rattle.std.specs.Prelude.{ℕ, zero, suc, ◌+◌, ◌-◌, Bool, ◌==◌, ◌||◌, not, nat_le, nat_lt, List, [], ◌∷◌, ◌++◌, length, take, drop, slice_index, Option, Some, None, Result, Ok, Err, if◌then◌else◌}
+use Rattle.std.specs.Prelude.{ℕ, zero, suc, ◌+◌, ◌-◌, Bool, ◌==◌, ◌||◌, not, nat_le, nat_lt, List, [], ◌∷◌, ◌++◌}
+use Rattle.std.specs.Prelude.{length, take, drop, slice_index, Option, Some, None, Result, Ok, Err, if◌then◌else◌}
 use Rattle.dz_name.specs.Name.{wire_of}
 use Rattle.dz_name.specs.Reading.{name_at}
 use Rattle.dz_header.specs.declared.header.Header.{Header}
@@ -79,7 +80,8 @@ unfoldable pub rdata_of : Octets → ℕ → RecordHead → Result Octets Messag
 rdata_of m at head =
     if is_bad_kind head then Err BadType
     else if nat_lt (length m) (at + head.size) then Err Wire
-    else rdata_at m at (at + head.size) (fields_of head.kind) >>= λ rdata. if nat_le (length rdata) MESSAGE_OCTETS then Ok rdata else Err BadRdata
+    else rdata_at m at (at + head.size) (fields_of head.kind) >>= λ rdata. if nat_le (length rdata) MESSAGE_OCTETS
+    then Ok rdata else Err BadRdata
 
 -- the record at an offset and the offset after it (RFC 1035 section 4.1.3)
 unfoldable pub record_at : Octets → ℕ → Result (Record × ℕ) MessageFault
@@ -87,7 +89,10 @@ record_at m at = do
   owner ← named (name_at m at)
   head ← head_at m owner.1
   rdata ← rdata_of m (owner.1 + HEAD_OCTETS) head
-  Ok (record { owner = owner.0; kind = head.kind; ttl = ttl_of head.ttl; rdata = rdata }, owner.1 + HEAD_OCTETS + head.size)
+  Ok (
+    record { owner = owner.0; kind = head.kind; ttl = ttl_of head.ttl; rdata = rdata },
+    owner.1 + HEAD_OCTETS + head.size,
+  )
 
 -- this many of a kind, one after the other, and the offset after them
 unfoldable pub many : {X : Type 0} → (ℕ → Result (X × ℕ) MessageFault) → ℕ → ℕ → Result (List X × ℕ) MessageFault

@@ -1,5 +1,6 @@
 -- Meaning: what octets spell, a message part by part as laid out in the standard (RFC 1035 section 4.1).
-use Rattle.std.specs.Prelude.{◌≡◌, ℕ, ◌+◌, ◌-◌, ◌≤◌, false, List, [], ◌∷◌, ◌++◌, length, take, drop, slice_index, Ok, Some}
+use Rattle.std.specs.Prelude.{◌≡◌, ℕ, ◌+◌, ◌-◌, ◌≤◌, false, List, [], ◌∷◌, ◌++◌, length, take, drop, slice_index, Ok}
+use Rattle.std.specs.Prelude.{Some}
 use Rattle.dz_name.specs.Name.{wire_of}
 use Rattle.dz_name.specs.Numbers.{number_of_two, number_of_four}
 use Rattle.dz_name.specs.Reading.{Reads}
@@ -51,7 +52,8 @@ IsField m at end Remainder piece next = AreOctets m at end (end - at) piece next
 -- the fields of RDATA, one after the other up to `end`, and their canonical form
 pub data AreFields (m : Octets) (end : ℕ) : List Field → ℕ → Octets → Type 0 where
   no_field : AreFields m end [] end []
-  one_field : {field : Field} {fields : List Field} {at next : ℕ} (piece rest : Octets) → IsField m at end field piece next
+  one_field : {field : Field} {fields : List Field} {at next : ℕ} (piece rest : Octets)
+      → IsField m at end field piece next
       → AreFields m end fields next rest → AreFields m end (field ∷ fields) at (piece ++ rest)
 
 -- a record of class IN and of a type that a zone may hold (RFC 1035 section 4.1.3): its owner name, ten octets with

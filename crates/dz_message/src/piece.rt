@@ -1,6 +1,7 @@
 //! Messages of a transfer that are built record by record (RFC 5936 section 2.2).
 
-ghost use Rattle.std.specs.Prelude.{◌≡◌, ◌==◌, ℕ, List, ◌+◌, ◌≤◌, ◌++◌, ◌∷◌, [], false, length, take, drop, option_map, if◌then◌else◌};
+ghost use Rattle.std.specs.Prelude.{◌≡◌, ◌==◌, ℕ, List, ◌+◌, ◌≤◌, ◌++◌, ◌∷◌, [], false, length, take, drop};
+ghost use Rattle.std.specs.Prelude.{option_map, if◌then◌else◌};
 ghost use Rattle.std.specs.Option.{option_to_list};
 ghost use Rattle.dz_header.specs.declared.question.Question.{Question};
 ghost use Rattle.dz_record.specs.Record.{Record, record_octets};

@@ -3,7 +3,8 @@ ghost use Rattle.std.specs.Option.{option_map_or};
 ghost use Rattle.dz_name.specs.Name.{IsName};
 ghost use Rattle.dz_record.specs.Record.{record_octets};
 ghost use Rattle.dz_message.specs.Spelling.{Spells};
-ghost use Rattle.dz_message.specs.Query.{query_kind, query_header, query_question, query_octets, query_content, IsHeld, IsHeldSoa};
+ghost use Rattle.dz_message.specs.Query.{query_kind, query_header, query_question, query_octets, query_content};
+ghost use Rattle.dz_message.specs.Query.{IsHeld, IsHeldSoa};
 
 use crate::write::{write_answer, write_head, write_question};
 use dz_header::{Header, Question};

@@ -1,11 +1,14 @@
-ghost use Rattle.std.specs.Prelude.{◌≡◌, ◌<◌, ◌≤◌, ◌+◌, ◌-◌, ◌*◌, ◌++◌, length, min, drop, true, false, IfOk, IfErr, OnOk};
+ghost use Rattle.std.specs.Prelude.{◌≡◌, ◌<◌, ◌≤◌, ◌+◌, ◌-◌, ◌*◌, ◌++◌, length, min, drop, true, false, IfOk, IfErr};
+ghost use Rattle.std.specs.Prelude.{OnOk};
 ghost use Rattle.dz_record.specs.Fields.{is_rdata};
 ghost use Rattle.dz_record.specs.Record.{is_bad_type};
 ghost use Rattle.dz_header.specs.Shape.{behind_records};
 ghost use Rattle.std.specs.List.{sum_by};
-ghost use Rattle.dz_message.specs.Looks.{looks_of, looks_of_field, looks_of_kind, looks_of_questions, looks_of_answers, fewest_looks};
+ghost use Rattle.dz_message.specs.Looks.{looks_of, looks_of_field, looks_of_kind, looks_of_questions};
+ghost use Rattle.dz_message.specs.Looks.{looks_of_answers, fewest_looks};
 ghost use Rattle.dz_message.specs.Message.{Content};
-ghost use Rattle.dz_message.specs.Reading.{question_in, head_at, octets_at, name_within, field_at, rdata_at, rdata_of, record_at, many, ended, content_of, message_of};
+ghost use Rattle.dz_message.specs.Reading.{question_in, head_at, octets_at, name_within, field_at, rdata_at, rdata_of};
+ghost use Rattle.dz_message.specs.Reading.{record_at, many, ended, content_of, message_of};
 ghost use Rattle.dz_message.specs.Answers.{Gives, Appends, AppendsOne, EndsWell};
 ghost use Rattle.dz_message.specs.Spelling.{Spells};
 ghost use Rattle.dz_message.specs.Answers.{SpellsNone};

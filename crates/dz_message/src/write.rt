@@ -3,7 +3,8 @@ ghost use Rattle.std.specs.List.{flat_map, All};
 ghost use Rattle.dz_header.specs.Header.{header_octets};
 ghost use Rattle.dz_record.specs.Record.{record_octets, IsRecord};
 ghost use Rattle.dz_message.specs.Spelling.{Spells};
-ghost use Rattle.dz_message.specs.Writing.{question_octets, message_octets, CountsAgree, IsAsking, IsHeader, IsHeldMessage};
+ghost use Rattle.dz_message.specs.Writing.{question_octets, message_octets, CountsAgree, IsAsking, IsHeader};
+ghost use Rattle.dz_message.specs.Writing.{IsHeldMessage};
 ghost use Rattle.dz_message.specs.Answers.{IsWritten};
 
 use crate::fault::WriteError;

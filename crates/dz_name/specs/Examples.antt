@@ -1,5 +1,6 @@
 -- Judge: names, their order, their text and their reading, and the numbers of the DNS, computed by the checker.
-use Rattle.std.specs.Prelude.{◌≡◌, ℕ, ◌-◌, List, refl, [], ◌∷◌, ◌++◌, map, flat_map, length, replicate, codes, Result, Some, None, Ok, Err, true, false}
+use Rattle.std.specs.Prelude.{◌≡◌, ℕ, ◌-◌, List, refl, [], ◌∷◌, ◌++◌, map, flat_map, length, replicate, codes, Result}
+use Rattle.std.specs.Prelude.{Some, None, Ok, Err, true, false}
 use Rattle.std.specs.declared.cmp.Ordering.TheVariants.{Less, Equal, Greater}
 use Rattle.dz_name.specs.Words.{Name, Octets}
 use Rattle.dz_name.specs.Name.{lower, wire_of, same_name, is_within, canonical_order, wildcard_of}
@@ -9,7 +10,15 @@ use Rattle.dz_name.specs.declared.wire_fault.WireFault.TheVariants as faults
 use Rattle.dz_name.specs.Text.{items, labels_from, with_label, name_of_text, text_of}
 use Rattle.dz_name.specs.declared.text.NameError.{NameError}
 use Rattle.dz_name.specs.declared.text.NameError.TheVariants.{LabelTooLong, NameTooLong, EmptyLabel, BadEscape}
-use Rattle.dz_name.specs.declared.dns.TheConstants.{TYPE_A, TYPE_NS, TYPE_MD, TYPE_MF, TYPE_CNAME, TYPE_SOA, TYPE_MB, TYPE_MG, TYPE_MR, TYPE_PTR, TYPE_MINFO, TYPE_MX, TYPE_TXT, TYPE_RP, TYPE_AFSDB, TYPE_RT, TYPE_SIG, TYPE_PX, TYPE_AAAA, TYPE_NXT, TYPE_SRV, TYPE_NAPTR, TYPE_KX, TYPE_A6, TYPE_DNAME, TYPE_OPT, TYPE_DS, TYPE_RRSIG, TYPE_NSEC, TYPE_ZONEMD, TYPE_TKEY, TYPE_IXFR, TYPE_AXFR, TYPE_MAILA, TYPE_ANY, CLASS_IN, OPCODE_QUERY, OPCODE_NOTIFY, LABEL_OCTETS, NAME_OCTETS, HEADER_OCTETS, MESSAGE_OCTETS, LENGTH_OCTETS, UDP_OCTETS, EDNS_OCTETS, ALIASES, ZONE_RECORDS, TRANSFER_OCTETS}
+use Rattle.dz_name.specs.declared.dns.TheConstants.{TYPE_A, TYPE_NS, TYPE_MD, TYPE_MF, TYPE_CNAME, TYPE_SOA, TYPE_MB}
+use Rattle.dz_name.specs.declared.dns.TheConstants.{TYPE_MG, TYPE_MR, TYPE_PTR, TYPE_MINFO, TYPE_MX, TYPE_TXT, TYPE_RP}
+use Rattle.dz_name.specs.declared.dns.TheConstants.{TYPE_AFSDB, TYPE_RT, TYPE_SIG, TYPE_PX, TYPE_AAAA, TYPE_NXT}
+use Rattle.dz_name.specs.declared.dns.TheConstants.{TYPE_SRV, TYPE_NAPTR, TYPE_KX, TYPE_A6, TYPE_DNAME, TYPE_OPT}
+use Rattle.dz_name.specs.declared.dns.TheConstants.{TYPE_DS, TYPE_RRSIG, TYPE_NSEC, TYPE_ZONEMD, TYPE_TKEY, TYPE_IXFR}
+use Rattle.dz_name.specs.declared.dns.TheConstants.{TYPE_AXFR, TYPE_MAILA, TYPE_ANY, CLASS_IN, OPCODE_QUERY}
+use Rattle.dz_name.specs.declared.dns.TheConstants.{OPCODE_NOTIFY, LABEL_OCTETS, NAME_OCTETS, HEADER_OCTETS}
+use Rattle.dz_name.specs.declared.dns.TheConstants.{MESSAGE_OCTETS, LENGTH_OCTETS, UDP_OCTETS, EDNS_OCTETS, ALIASES}
+use Rattle.dz_name.specs.declared.dns.TheConstants.{ZONE_RECORDS, TRANSFER_OCTETS}
 use Rattle.dz_name.specs.declared.decimal.TheConstants.{PAST}
 use Rattle.dz_name.specs.declared.name_ref.TheConstants.{LABELS}
 use Rattle.dz_name.specs.declared.wire.TheConstants.{POINTER_REACH}
@@ -48,10 +57,12 @@ cut_label = refl
 pub apex_first : canonical_order example (codes "a" ∷ example) ≡ Less
 apex_first = refl
 
-pub child_before_sibling : canonical_order (codes "yljkjljk" ∷ codes "a" ∷ example) (codes "z" ∷ codes "a" ∷ example) ≡ Less
+pub child_before_sibling : canonical_order (codes "yljkjljk" ∷ codes "a" ∷ example) (codes "z" ∷ codes "a" ∷ example)
+    ≡ Less
 child_before_sibling = refl
 
-pub shorter_label_first : canonical_order (codes "zabc" ∷ codes "a" ∷ example) (codes "z" ∷ codes "a" ∷ example) ≡ Greater
+pub shorter_label_first : canonical_order (codes "zabc" ∷ codes "a" ∷ example) (codes "z" ∷ codes "a" ∷ example)
+    ≡ Greater
 shorter_label_first = refl
 
 pub by_the_last_label : canonical_order (codes "z" ∷ example) (codes "zabc" ∷ codes "a" ∷ example) ≡ Greater

@@ -1,5 +1,6 @@
 -- Meaning: domain names as lists of labels (RFC 1034 section 3.1, RFC 1035 section 3.1).
-use Rattle.std.specs.Prelude.{◌≡◌, ℕ, zero, suc, ◌+◌, ◌<◌, ◌≤◌, nat_lt, nat_le, Bool, Option, Some, None, List, [], ◌∷◌, ◌++◌, length, take, drop, reverse, map, Result, Ok, Err, if◌then◌else◌}
+use Rattle.std.specs.Prelude.{◌≡◌, ℕ, zero, suc, ◌+◌, ◌<◌, ◌≤◌, nat_lt, nat_le, Bool, Option, Some, None, List, []}
+use Rattle.std.specs.Prelude.{◌∷◌, ◌++◌, length, take, drop, reverse, map, Result, Ok, Err, if◌then◌else◌}
 use Rattle.std.specs.Char.{to_ascii_lowercase}
 use Rattle.std.specs.Cmp.Lexicographic.{slice_cmp}
 use Rattle.std.specs.Ordering.{nat_cmp}
@@ -26,8 +27,8 @@ unfoldable pub wire_of : Name → Octets
 wire_of [] = 0 ∷ []
 wire_of (label ∷ labels) = length label ∷ (label ++ wire_of labels)
 
--- the labels whose wire form is at the beginning of some octets (RFC 1035 section 3.1); the number only bounds how many
--- are read
+-- the labels whose wire form is at the beginning of some octets (RFC 1035 section 3.1); the number only bounds how
+-- many are read
 unfoldable pub labels_in : ℕ → Octets → Name
 labels_in zero octets = []
 labels_in (suc n) [] = []

@@ -1,7 +1,9 @@
 //! Names whose wire form is held elsewhere.
 
-ghost use Rattle.std.specs.Prelude.{◌≡◌, ℕ, ◌+◌, ◌-◌, ◌<◌, ◌≤◌, ◌↔◌, List, [], ◌∷◌, ◌++◌, length, take, drop, IsTrue, IfSome, IsNone, Some, slice_index, slice_index_or};
-ghost use Rattle.dz_name.specs.Name.{wire_of, IsLabel, IsName, IsWithin, same_name, is_within, parent_of, wildcard_of, canonical_order, labels_of, IsWire};
+ghost use Rattle.std.specs.Prelude.{◌≡◌, ℕ, ◌+◌, ◌-◌, ◌<◌, ◌≤◌, ◌↔◌, List, [], ◌∷◌, ◌++◌, length, take, drop, IsTrue};
+ghost use Rattle.std.specs.Prelude.{IfSome, IsNone, Some, slice_index, slice_index_or};
+ghost use Rattle.dz_name.specs.Name.{wire_of, IsLabel, IsName, IsWithin, same_name, is_within, parent_of, wildcard_of};
+ghost use Rattle.dz_name.specs.Name.{canonical_order, labels_of, IsWire};
 ghost use Rattle.dz_name.specs.inner.Starts.{AreStarts};
 ghost use Rattle.dz_name.specs.Words.{Name, Octets};
 

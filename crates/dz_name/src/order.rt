@@ -4,7 +4,8 @@ ghost use Rattle.std.specs.Prelude.{◌≡◌, ℕ, ◌+◌, ◌<◌, List, [], 
 ghost use Rattle.std.specs.Prelude.{refl};
 ghost use Rattle.std.specs.Ordering.{as_partial_cmp};
 ghost use Rattle.dz_name.specs.Name.{canonical_order, same_name, label_order, same_label};
-ghost use Rattle.dz_name.specs.Order.{canonical_total, names_equal, names_partly_equal, names_ordered, same_ties, label_total, labels_equal, labels_partly_equal, labels_ordered, same_label_ties};
+ghost use Rattle.dz_name.specs.Order.{canonical_total, names_equal, names_partly_equal, names_ordered, same_ties};
+ghost use Rattle.dz_name.specs.Order.{label_total, labels_equal, labels_partly_equal, labels_ordered, same_label_ties};
 
 use crate::label::Label;
 use crate::name::Name;

@@ -1,4 +1,5 @@
-ghost use Rattle.std.specs.Prelude.{◌≡◌, ℕ, ◌+◌, ◌<◌, ◌≤◌, ◌++◌, List, length, slice_index, Err, IfOk, IfErr, IfSome, IsNone};
+ghost use Rattle.std.specs.Prelude.{◌≡◌, ℕ, ◌+◌, ◌<◌, ◌≤◌, ◌++◌, List, length, slice_index, Err, IfOk, IfErr, IfSome};
+ghost use Rattle.std.specs.Prelude.{IsNone};
 ghost use Rattle.dz_name.specs.Name.{wire_of, IsName};
 ghost use Rattle.dz_name.specs.Words.{Name};
 ghost use Rattle.dz_name.specs.Reading.{Reading, Reads, label_end, name_at, IsNameBetween, canonical_end};

@@ -1,5 +1,6 @@
 -- Replies to NOTIFY: their octets, and what they read as.
-use Rattle.std.proofs.Common.{◌≡◌, ℕ, ◌<◌, ◌≤◌, ◌^◌, true, false, List, ◌++◌, length, get_or, refl, sym, ap, subst, arith, append_assoc, length-append, length-take-le, length-drop, Option, Some, None}
+use Rattle.std.proofs.Common.{◌≡◌, ℕ, ◌<◌, ◌≤◌, ◌^◌, true, false, List, ◌++◌, length, get_or, refl, sym, ap, subst}
+use Rattle.std.proofs.Common.{arith, append_assoc, length-append, length-take-le, length-drop, Option, Some, None}
 use Rattle.std.specs.Prelude.{nat_le, drop}
 use Rattle.std.proofs.lemmas.Bool.Decides.{nat_tests}
 use Rattle.dz_name.specs.Numbers.{number_of_two}
@@ -25,11 +26,14 @@ use Rattle.dz_notify.specs.ReadsBack.{SpellsReply, ReadsBackFor, ReadsBack}
 use Rattle.dz_notify.specs.declared.notify.Heard.{Heard}
 
 -- the question's octets are as many as were read
-pub length_echo : (octets : List ℕ) (asked : Asked) → IsWhole octets asked.size → length (query_of octets asked).echo ≡ asked.size
-length_echo octets asked whole = length-take-le asked.size (drop 12 octets) (omega (arith, whole.within, length-drop 12 octets))
+pub length_echo : (octets : List ℕ) (asked : Asked) → IsWhole octets asked.size
+    → length (query_of octets asked).echo ≡ asked.size
+length_echo octets asked whole =
+    length-take-le asked.size (drop 12 octets) (omega (arith, whole.within, length-drop 12 octets))
 
 -- a reply without records is short
-pub bare_short : (octets : List ℕ) (asked : Asked) (code : ℕ) → IsWhole octets asked.size → length (bare_octets (query_of octets asked) code) ≤ 512
+pub bare_short : (octets : List ℕ) (asked : Asked) (code : ℕ) → IsWhole octets asked.size
+    → length (bare_octets (query_of octets asked) code) ≤ 512
 unfolding bare_octets
 bare_short octets asked code whole =
     let query : Query = query_of octets asked in
@@ -45,7 +49,8 @@ bare_short octets asked code whole =
 
 -- so it isn't cut
 pub bare_whole : (octets : List ℕ) (asked : Asked) (code : ℕ) → IsWhole octets asked.size
-    → within_limit false (query_of octets asked) code false (bare_octets (query_of octets asked) code) ≡ bare_octets (query_of octets asked) code
+    → within_limit false (query_of octets asked) code false (bare_octets (query_of octets asked) code)
+    ≡ bare_octets (query_of octets asked) code
 unfolding within_limit
 bare_whole octets asked code whole =
     let text : List ℕ = bare_octets (query_of octets asked) code in
@@ -55,14 +60,17 @@ bare_whole octets asked code whole =
     let t : nat_le (length text) (limit_of false asked.edns) ≡ true = grind (arith, nat_tests) in rw t refl
 
 -- the reply to a NOTIFY with this code
-pub replied : (octets : List ℕ) (heard : Heard) (asked : Asked) (code : ResponseCode) → Notify asked ≡ request octets → code_for heard ≡ Some code
+pub replied : (octets : List ℕ) (heard : Heard) (asked : Asked) (code : ResponseCode) → Notify asked ≡ request octets
+    → code_for heard ≡ Some code
     → notify_reply_of octets heard ≡ Some (bare_octets (query_of octets asked) (number_of code))
 unfolding notify_reply_of notify_reply_for
 replied octets heard asked code is said =
-    subst (λ r. notify_reply_for octets heard r ≡ Some (bare_octets (query_of octets asked) (number_of code))) is (rw said refl)
+    subst (λ r. notify_reply_for octets heard r ≡ Some (bare_octets (query_of octets asked) (number_of code))) is
+    (rw said refl)
 
 -- without a code there is no reply
-silent_for : (octets : List ℕ) (heard : Heard) (r : Request) → code_for heard ≡ None → notify_reply_for octets heard r ≡ None
+silent_for : (octets : List ℕ) (heard : Heard) (r : Request) → code_for heard ≡ None
+    → notify_reply_for octets heard r ≡ None
 unfolding notify_reply_for
 silent_for octets heard Silent h = refl
 silent_for octets heard (Curt header code) h = refl
@@ -80,7 +88,8 @@ number_small : (octets : List ℕ) → ((i : ℕ) → get_or octets i 0 < 256) �
 unfolding number_of_two
 number_small octets bytes = omega (arith, bytes 0, bytes 1)
 
-id_small : (octets : List ℕ) (header : Header) → ((i : ℕ) → get_or octets i 0 < 256) → header ≡ header_in octets → header.id < 2 ^ 16
+id_small : (octets : List ℕ) (header : Header) → ((i : ℕ) → get_or octets i 0 < 256) → header ≡ header_in octets
+    → header.id < 2 ^ 16
 unfolding header_in
 id_small octets header bytes is = rw is (number_small octets bytes)
 
@@ -89,7 +98,8 @@ few_opts None = omega arith
 few_opts (Some edns) = omega arith
 
 -- header, question and OPT record read back
-spells : (octets : List ℕ) (asked : Asked) (code : ℕ) → ((i : ℕ) → get_or octets i 0 < 256) → IsTakenFrom octets asked → IsWhole octets asked.size
+spells : (octets : List ℕ) (asked : Asked) (code : ℕ) → ((i : ℕ) → get_or octets i 0 < 256) → IsTakenFrom octets asked
+    → IsWhole octets asked.size
     → SpellsReply asked code (bare_octets (query_of octets asked) code)
 unfolding bare_octets head_octets
 spells octets asked code bytes taken whole =
@@ -97,7 +107,9 @@ spells octets asked code bytes taken whole =
     let opt : List ℕ = opt_octets code asked.edns in
     let m : List ℕ = bare_octets query code in
     let flags : ℕ = reply_flags asked.header.flags code false false in
-    let there = header_there m asked.header.id flags 1 0 0 (opt_count asked.edns) (query.echo ++ opt) (id_small octets asked.header bytes taken.header) (read_back _).small (omega arith) (omega arith) (omega arith) (few_opts asked.edns) (append_assoc _ query.echo opt) in
+    let there = header_there m asked.header.id flags 1 0 0 (opt_count asked.edns) (query.echo ++ opt)
+    (id_small octets asked.header bytes taken.header) (read_back _).small (omega arith) (omega arith) (omega arith)
+    (few_opts asked.edns) (append_assoc _ query.echo opt) in
     let size = length_echo octets asked whole in
     record {
       id = ap (λ h. h.id) there.header_is;
@@ -108,10 +120,13 @@ spells octets asked code bytes taken whole =
     }
 
 -- the reply to a NOTIFY reads back
-pub reads : (octets text : List ℕ) (heard : Heard) (asked : Asked) (code : ResponseCode) → ((i : ℕ) → get_or octets i 0 < 256) → Notify asked ≡ request octets → code_for heard ≡ Some code
-    → IsWhole octets asked.size → bare_octets (query_of octets asked) (number_of code) ≡ text → ReadsBack octets heard text
+pub reads : (octets text : List ℕ) (heard : Heard) (asked : Asked) (code : ResponseCode)
+    → ((i : ℕ) → get_or octets i 0 < 256) → Notify asked ≡ request octets → code_for heard ≡ Some code
+    → IsWhole octets asked.size → bare_octets (query_of octets asked) (number_of code) ≡ text
+    → ReadsBack octets heard text
 unfolding ReadsBack
 reads octets text heard asked code bytes is said whole e =
     let taken : EchoesIn octets (Notify asked) = subst (EchoesIn octets) (sym is) (request_echo octets) in
-    let there : SpellsReply asked (number_of code) text = subst (λ xs. SpellsReply asked (number_of code) xs) e (spells octets asked (number_of code) bytes taken whole) in
+    let there : SpellsReply asked (number_of code) text = subst (λ xs. SpellsReply asked (number_of code) xs) e
+    (spells octets asked (number_of code) bytes taken whole) in
     subst (λ r. ReadsBackFor heard r text) is (rw said there)

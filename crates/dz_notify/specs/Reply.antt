@@ -25,7 +25,8 @@ notify_reply_for octets heard Silent = None
 notify_reply_for octets heard (Curt header code) = None
 notify_reply_for octets heard (NewerEdns asked) = None
 notify_reply_for octets heard (NotImp asked) = None
-notify_reply_for octets heard (Notify asked) = option_map (λ code. bare_octets (query_of octets asked) (number_of code)) (code_for heard)
+notify_reply_for octets heard (Notify asked) =
+    option_map (λ code. bare_octets (query_of octets asked) (number_of code)) (code_for heard)
 notify_reply_for octets heard (Asks asked) = None
 
 -- the reply to a NOTIFY received in this way, if it gets one

@@ -14,4 +14,5 @@ transfer_of id zone = record { apex = zone.apex; ask = Axfr; id = id; held = Non
 
 -- of a version that can be sent, the outcome of its stream is the version
 abbrev pub ComesBack : Type 0
-ComesBack = (id : ℕ) (zone : Zone) → id < 2 ^ 16 → IsVersion zone → is_fit zone ≡ true → outcome (transfer_of id zone) (stream (written (messages_of id zone))) ≡ new zone
+ComesBack = (id : ℕ) (zone : Zone) → id < 2 ^ 16 → IsVersion zone → is_fit zone ≡ true
+    → outcome (transfer_of id zone) (stream (written (messages_of id zone))) ≡ new zone

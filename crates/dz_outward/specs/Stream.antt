@@ -2,7 +2,8 @@
 use Rattle.std.specs.Prelude.{ℕ, ◌+◌, Bool, ◌==◌, ◌&&◌, not, nat_le, List, [], ◌∷◌, ◌++◌, length, filter}
 use Rattle.std.specs.List.{list_all}
 use Rattle.std.specs.Option.{option_to_list}
-use Rattle.dz_name.specs.declared.dns.TheConstants.{CLASS_IN, TYPE_AXFR, TYPE_SOA, HEADER_OCTETS, MESSAGE_OCTETS, TRANSFER_OCTETS}
+use Rattle.dz_name.specs.declared.dns.TheConstants.{CLASS_IN, TYPE_AXFR, TYPE_SOA, HEADER_OCTETS, MESSAGE_OCTETS}
+use Rattle.dz_name.specs.declared.dns.TheConstants.{TRANSFER_OCTETS}
 use Rattle.dz_header.specs.declared.question.Question.{Question}
 use Rattle.dz_record.specs.Record.{Record, record_octets}
 use Rattle.dz_message.specs.Frame.{stream}
@@ -37,4 +38,5 @@ fits_alone r = nat_le (HEADER_OCTETS + length (record_octets r)) MESSAGE_OCTETS
 -- a version can be sent: each record fits into a message, and the frames together have at most 67,108,864 octets. That
 -- number doesn't depend on the ID
 abbrev pub is_fit : Zone → Bool
-is_fit zone = list_all fits_alone zone.records && nat_le (length (stream (written (messages_of 0 zone)))) TRANSFER_OCTETS
+is_fit zone =
+    list_all fits_alone zone.records && nat_le (length (stream (written (messages_of 0 zone)))) TRANSFER_OCTETS

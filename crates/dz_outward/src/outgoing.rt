@@ -1,6 +1,7 @@
 //! A version on its way out.
 
-ghost use Rattle.std.specs.Prelude.{◌≡◌, ◌≤◌, ◌<◌, ◌∷◌, ◌++◌, ◌==◌, ℕ, List, [], true, false, length, is_ok, MatchOption, IfOk, Some};
+ghost use Rattle.std.specs.Prelude.{◌≡◌, ◌≤◌, ◌<◌, ◌∷◌, ◌++◌, ◌==◌, ℕ, List, [], true, false, length, is_ok};
+ghost use Rattle.std.specs.Prelude.{MatchOption, IfOk, Some};
 ghost use Rattle.std.specs.List.{All};
 ghost use Rattle.std.specs.Arc.{arc_value};
 ghost use Rattle.dz_header.specs.declared.question.Question.{Question};

@@ -46,11 +46,13 @@ pub a_member : line_of (codes "member m1 example. -") ≡ Some (Member (member_o
 unfolding line_of name_of_text items labels_from with_label wire_of groups_of
 a_member = refl
 
-pub with_words : line_of (codes "member m1 example. - edge x") ≡ Some (Member (member_of (codes "m1") None ((4 ∷ codes "edge") ∷ (1 ∷ codes "x") ∷ [])))
+pub with_words : line_of (codes "member m1 example. - edge x")
+    ≡ Some (Member (member_of (codes "m1") None ((4 ∷ codes "edge") ∷ (1 ∷ codes "x") ∷ [])))
 unfolding line_of name_of_text items labels_from with_label wire_of groups_of
 with_words = refl
 
-pub with_coo : line_of (codes "member M1. example. cat2.example.") ≡ Some (Member (member_of (codes "m1") (Some (codes "cat2" ∷ example)) []))
+pub with_coo : line_of (codes "member M1. example. cat2.example.")
+    ≡ Some (Member (member_of (codes "m1") (Some (codes "cat2" ∷ example)) []))
 unfolding line_of name_of_text items labels_from with_label wire_of groups_of
 with_coo = refl
 
@@ -102,16 +104,19 @@ unfolding first_turn
 a_member_first node = refl
 
 -- nothing is dropped from a catalog that has none before it
-pub a_drop_without_a_change : (label : Octets) → next_turn (begun example 7) 2 (Drop label) ≡ bad_turn (Some (begun example 7)) 2
+pub a_drop_without_a_change : (label : Octets)
+    → next_turn (begun example 7) 2 (Drop label) ≡ bad_turn (Some (begun example 7)) 2
 unfolding next_turn
 a_drop_without_a_change label = refl
 
 -- a second catalog is bad
-pub a_second_catalog : (apex : Name) (serial : ℕ) → next_turn (begun example 7) 2 (Catalog apex serial) ≡ bad_turn (Some (begun example 7)) 2
+pub a_second_catalog : (apex : Name) (serial : ℕ)
+    → next_turn (begun example 7) 2 (Catalog apex serial) ≡ bad_turn (Some (begun example 7)) 2
 unfolding next_turn
 a_second_catalog apex serial = refl
 
 -- a change without a serial is bad, and writes no line before
-pub a_change_without_a_serial : produce_turn (Some (begun example 7)) 2 (codes "change") ≡ bad_turn (Some (begun example 7)) 2
+pub a_change_without_a_serial : produce_turn (Some (begun example 7)) 2 (codes "change")
+    ≡ bad_turn (Some (begun example 7)) 2
 unfolding produce_turn line_of
 a_change_without_a_serial = refl

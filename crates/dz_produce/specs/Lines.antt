@@ -50,7 +50,8 @@ catalog_of fields = option_and_then (λ f. catalog_from (name_of f.0) (serial_of
 
 -- a node of what its fields were read as
 abbrev pub node_from : Option Octets → Option Name → Option (Option Name) → Option (List Octets) → Option Node
-node_from (Some label) (Some zone) (Some coo) (Some groups) = Some (record { label = label; zone = zone; coo = coo; groups = groups })
+node_from (Some label) (Some zone) (Some coo) (Some groups) =
+    Some (record { label = label; zone = zone; coo = coo; groups = groups })
 node_from _ _ _ _ = None
 
 -- `<label> <zone> <coo> <words ..>`

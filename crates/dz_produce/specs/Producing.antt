@@ -1,6 +1,7 @@
 -- Meaning: what `produce` writes: a catalog is made of the members that the first lines name, and then one after
 -- another of each change. A line is bad where it has no form, where it isn't in its turn, or where it brings a fault.
-use Rattle.std.specs.Prelude.{ℕ, Bool, ◌==◌, ◌&&◌, List, [], ◌∷◌, ◌++◌, length, codes, decimal, Option, Some, None, is_some, Result, if◌then◌else◌}
+use Rattle.std.specs.Prelude.{ℕ, Bool, ◌==◌, ◌&&◌, List, [], ◌∷◌, ◌++◌, length, codes, decimal, Option, Some, None}
+use Rattle.std.specs.Prelude.{is_some, Result, if◌then◌else◌}
 use Rattle.hex.specs.Hex.{encode_lower}
 use Rattle.dz_script.specs.Answers.{IsRun}
 use Rattle.dz_script.specs.Script.{Turn, goes_on, ends, Said, Rules}
@@ -91,7 +92,8 @@ bad number = codes "bad " ++ (decimal number ++ (10 ∷ []))
 -- a text is written, and the script goes on with a catalog unless that one has a fault: then the line is bad, and the
 -- state is unchanged
 abbrev pub unless_faulty : State → ℕ → Octets → Making → Turn State ProduceEnd
-unless_faulty state number text next = if is_faulty next then ends (text ++ bad number) state BadInput else goes_on text (Some next)
+unless_faulty state number text next =
+    if is_faulty next then ends (text ++ bad number) state BadInput else goes_on text (Some next)
 
 -- a bad line ends the script
 abbrev pub bad_turn : State → ℕ → Turn State ProduceEnd
@@ -110,7 +112,8 @@ may_drop m = is_some m.before && length m.added == 0
 
 -- a node is dropped where one may be
 abbrev pub drop_turn : Making → ℕ → Octets → Turn State ProduceEnd
-drop_turn m number label = if may_drop m then unless_faulty (Some m) number [] (without m label) else bad_turn (Some m) number
+drop_turn m number label = if may_drop m then unless_faulty (Some m) number [] (without m label)
+    else bad_turn (Some m) number
 
 -- a change writes the line of the catalog before it, whatever its own fault
 abbrev pub next_turn : Making → ℕ → Line → Turn State ProduceEnd

@@ -2,7 +2,8 @@
 
 ghost use Rattle.std.specs.Prelude.{◌≡◌, ◌<◌, ◌∷◌, length, IfOk};
 ghost use Rattle.dz_script.specs.Settings.{name_of};
-ghost use Rattle.dz_produce.specs.Lines.{serial_of, label_of, coo_of, group_of, groups_of, catalog_of, node_from, node_of, drop_of, change_of, line_in, line_of};
+ghost use Rattle.dz_produce.specs.Lines.{serial_of, label_of, coo_of, group_of, groups_of, catalog_of, node_from};
+ghost use Rattle.dz_produce.specs.Lines.{node_of, drop_of, change_of, line_in, line_of};
 
 use dz_member::{Node, Texts};
 use dz_name::{KeptName, Label, Name, Octets, read_number};

@@ -1,6 +1,7 @@
 //! A catalog that is being made.
 
-ghost use Rattle.std.specs.Prelude.{◌≡◌, ◌&&◌, [], true, false, not, is_some, Some, None, MatchOption, IfOk, OnOk, if◌then◌else◌};
+ghost use Rattle.std.specs.Prelude.{◌≡◌, ◌&&◌, [], true, false, not, is_some, Some, None, MatchOption, IfOk, OnOk};
+ghost use Rattle.std.specs.Prelude.{if◌then◌else◌};
 ghost use Rattle.std.specs.Option.{option_copied};
 ghost use Rattle.dz_xfr.specs.Apex.{held_serial};
 ghost use Rattle.dz_producer.specs.Amended.{IsCatalog, amend_fault};

@@ -1,7 +1,9 @@
 //! What `produce` does with a line.
 
 ghost use Rattle.std.specs.Prelude.{◌≡◌, ◌∷◌, [], Some, None, IfOk};
-ghost use Rattle.dz_produce.specs.Producing.{begun, with_member, without, changed, unless_faulty, drop_turn, first_turn, next_turn, form_turn, produce_turn, produce_finish, turn_from, text_of};
+ghost use Rattle.dz_produce.specs.Producing.{begun, with_member, without, changed, unless_faulty, drop_turn};
+ghost use Rattle.dz_produce.specs.Producing.{first_turn, next_turn, form_turn, produce_turn, produce_finish};
+ghost use Rattle.dz_produce.specs.Producing.{turn_from, text_of};
 
 use crate::line::{Line, read_line};
 use crate::making::Making;

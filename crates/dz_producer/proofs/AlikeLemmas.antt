@@ -1,5 +1,6 @@
 -- Lists of records that agree on those that are the same, and lists without two that are the same.
-use Rattle.std.proofs.Common.{◌≡◌, ℕ, ◌+◌, ◌≤◌, Bool, true, false, not, List, [], ◌∷◌, ◌++◌, length, map, refl, sym, ◌∙◌, ap, subst, arith, length-append, inl, inr}
+use Rattle.std.proofs.Common.{◌≡◌, ℕ, ◌+◌, ◌≤◌, Bool, true, false, not, List, [], ◌∷◌, ◌++◌, length, map, refl, sym}
+use Rattle.std.proofs.Common.{◌∙◌, ap, subst, arith, length-append, inl, inr}
 use Rattle.std.specs.Prelude.{filter}
 use Rattle.std.specs.List.{list_any, flat_map}
 use Rattle.std.specs.List.Sorted.{ties}
@@ -90,7 +91,8 @@ cons_alike r rs ss h z = append_alike (r ∷ []) (r ∷ []) rs ss (λ w. refl) h
 
 three_kept : (p : Record → Bool) (xs ys zs : List Record)
     → filter p (xs ++ (ys ++ zs)) ≡ filter p xs ++ (filter p ys ++ filter p zs)
-three_kept p xs ys zs = filter-append p xs (ys ++ zs) ∙ ap (λ (l : List Record). filter p xs ++ l) (filter-append p ys zs)
+three_kept p xs ys zs =
+    filter-append p xs (ys ++ zs) ∙ ap (λ (l : List Record). filter p xs ++ l) (filter-append p ys zs)
 
 swap_short : {X : Type 0} (a b c : List X) → length (a ++ (b ++ c)) ≤ 1 → a ++ (b ++ c) ≡ b ++ (a ++ c)
 swap_short [] b c h = refl
@@ -134,7 +136,8 @@ once_alike rs ss h once z = subst (λ (l : List Record). length l ≤ 1) (h z) (
 
 append_length : (p : Record → Bool) (xs ys : List Record)
     → length (filter p (xs ++ ys)) ≡ length (filter p xs) + length (filter p ys)
-append_length p xs ys = ap (λ (l : List Record). length l) (filter-append p xs ys) ∙ length-append (filter p xs) (filter p ys)
+append_length p xs ys = ap (λ (l : List Record). length l) (filter-append p xs ys)
+    ∙ length-append (filter p xs) (filter p ys)
 
 pub once_front : (xs ys : List Record) → Once (xs ++ ys) → Once xs
 once_front xs ys once z = let n = append_length (same_record z) xs ys in let few = once z in omega arith
@@ -160,7 +163,8 @@ module _ {X : Type 0} (f : X → List Record) (lt : X → X → Bool) where
         | inl t ↦
             let behind : Alike (flat_map f (insert_by lt x ys)) (f x ++ flat_map f ys) =
             flat_insert x ys (once_without (f x) (f y) (flat_map f ys) once) in
-            rw t (append_alike (f y) (f y) (flat_map f (insert_by lt x ys)) (f x ++ flat_map f ys) (λ w. refl) behind z ∙ sym
+            rw t (append_alike (f y) (f y) (flat_map f (insert_by lt x ys)) (f x ++ flat_map f ys) (λ w. refl) behind z
+            ∙ sym
             (swap_alike (f x) (f y) (flat_map f ys) once z))
         | inr n ↦ rw n refl
       ]
@@ -168,7 +172,8 @@ module _ {X : Type 0} (f : X → List Record) (lt : X → X → Bool) where
   pub flat_sorted : (xs : List X) → Once (flat_map f xs) → Alike (flat_map f (sorted_by lt xs)) (flat_map f xs)
   flat_sorted [] once z = refl
   flat_sorted (x ∷ xs) once z =
-      let rest : Alike (flat_map f (sorted_by lt xs)) (flat_map f xs) = flat_sorted xs (once_back (f x) (flat_map f xs) once) in
+      let rest : Alike (flat_map f (sorted_by lt xs)) (flat_map f xs) =
+      flat_sorted xs (once_back (f x) (flat_map f xs) once) in
       let whole : Alike (f x ++ flat_map f (sorted_by lt xs)) (f x ++ flat_map f xs) =
       append_alike (f x) (f x) (flat_map f (sorted_by lt xs)) (flat_map f xs) (λ w. refl) rest in
       flat_insert x (sorted_by lt xs)

@@ -25,28 +25,36 @@ module _ (old : Zone) (serial : ℕ) (dropped : List Octets) (added : List Node)
     label_fault l = rw (n, l) refl
 
     module _ (l : no_label old dropped ≡ false) where
-      pub nodes_fault : (fault : ProduceFault) → produce_fault old.apex serial (nodes_after old dropped added) ≡ Some fault → amend_fault old serial dropped added ≡ Some (Produce fault)
+      pub nodes_fault : (fault : ProduceFault) → produce_fault old.apex serial (nodes_after old dropped added)
+          ≡ Some fault → amend_fault old serial dropped added ≡ Some (Produce fault)
       unfolding amend_fault
       nodes_fault fault f = rw (n, l, f) refl
 
       module _ (f : produce_fault old.apex serial (nodes_after old dropped added) ≡ None) where
-        pub long_fault : nat_lt 67108864 (length (difference_octets old serial dropped added)) ≡ true → amend_fault old serial dropped added ≡ Some TooLong
+        pub long_fault : nat_lt 67108864 (length (difference_octets old serial dropped added)) ≡ true
+            → amend_fault old serial dropped added ≡ Some TooLong
         unfolding amend_fault
         long_fault t = rw (n, l, f, t) refl
 
-        pub none_holds : nat_lt 67108864 (length (difference_octets old serial dropped added)) ≡ false → amend_fault old serial dropped added ≡ None
+        pub none_holds : nat_lt 67108864 (length (difference_octets old serial dropped added)) ≡ false
+            → amend_fault old serial dropped added ≡ None
         unfolding amend_fault
         none_holds t = rw (n, l, f, t) refl
 
 -- a label that is dropped twice, or that is that of no node
-pub twice_dropped : (old : Zone) (dropped : List Octets) → has_twice same_label dropped ≡ true → no_label old dropped ≡ true
+pub twice_dropped : (old : Zone) (dropped : List Octets) → has_twice same_label dropped ≡ true
+    → no_label old dropped ≡ true
 twice_dropped old dropped t = rw t refl
 
 or_true : (b : Bool) → (b || true) ≡ true
 or_true true = refl
 or_true false = refl
 
-pub not_listed : (old : Zone) (dropped : List Octets) (nodes : List Node) → nodes ≡ listed old → list_all (λ label. list_any (λ node. same_label node.label label) nodes) dropped ≡ false → no_label old dropped ≡ true
+pub not_listed : (old : Zone) (dropped : List Octets) (nodes : List Node) → nodes ≡ listed old
+    → list_all (λ label. list_any (λ node. same_label node.label label) nodes) dropped ≡ false
+    → no_label old dropped ≡ true
 not_listed old dropped nodes are f =
-    let g : list_all (λ label. list_any (λ node. same_label node.label label) (listed old)) dropped ≡ false = ap (λ (ns : List Node). list_all (λ label. list_any (λ node. same_label node.label label) ns) dropped) (sym are) ∙ f in
+    let g : list_all (λ label. list_any (λ node. same_label node.label label) (listed old)) dropped ≡ false =
+    ap (λ (ns : List Node). list_all (λ label. list_any (λ node. same_label node.label label) ns) dropped)
+    (sym are) ∙ f in
     ap (λ b. has_twice same_label dropped || not b) g ∙ or_true (has_twice same_label dropped)

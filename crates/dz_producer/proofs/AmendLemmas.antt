@@ -1,5 +1,6 @@
 -- The nodes of a change, and its first fault.
-use Rattle.std.proofs.Common.{◌≡◌, ℕ, ◌+◌, ◌<◌, ◌≤◌, Bool, true, false, not, ◌||◌, ◌∷◌, cond, List, [], ◌++◌, length, take, get_or, refl, sym, ◌∙◌, ap, inl, inr}
+use Rattle.std.proofs.Common.{◌≡◌, ℕ, ◌+◌, ◌<◌, ◌≤◌, Bool, true, false, not, ◌||◌, ◌∷◌, cond, List, [], ◌++◌, length}
+use Rattle.std.proofs.Common.{take, get_or, refl, sym, ◌∙◌, ap, inl, inr}
 use Rattle.std.specs.Prelude.{filter, if◌then◌else◌}
 use Rattle.std.specs.Borrow.{Bor}
 use Rattle.std.specs.List.{list_any}
@@ -37,13 +38,21 @@ or_end true = refl
 or_end false = refl
 
 -- ---- a set of labels: one more is in it
-pub one_more : (before after : List ℕ → Bool) (xs : List Node) (i : ℕ) (x : Node) (label : List ℕ) → ((q : List ℕ) → before q ≡ list_any (λ n. same_label n.label q) (take i xs)) → i < length xs → x ≡ get_or xs i x → label ≡ x.label
-    → ((q : List ℕ) → after q ≡ cond (is_eq (label_order label q)) true (before q)) → (q : List ℕ) → after q ≡ list_any (λ n. same_label n.label q) (take (i + 1) xs)
+pub one_more : (before after : List ℕ → Bool) (xs : List Node) (i : ℕ) (x : Node) (label : List ℕ)
+    → ((q : List ℕ) → before q ≡ list_any (λ n. same_label n.label q) (take i xs)) → i < length xs → x ≡ get_or xs i x
+    → label ≡ x.label
+    → ((q : List ℕ) → after q ≡ cond (is_eq (label_order label q)) true (before q)) → (q : List ℕ)
+    → after q ≡ list_any (λ n. same_label n.label q) (take (i + 1) xs)
 one_more before after xs i x label seen within item is more q =
-    let here : list_any (λ n. same_label n.label q) (take (i + 1) xs) ≡ (list_any (λ n. same_label n.label q) (take i xs) || same_label x.label q) =
-    ap (list_any (λ n. same_label n.label q)) (take_more xs i x within ∙ ap (λ (y : Node). take i xs ++ y ∷ []) (sym item)) ∙ list_any-append (λ n. same_label n.label q) (take i xs) (x ∷ [])
+    let here : list_any (λ n. same_label n.label q) (take (i + 1) xs)
+    ≡ (list_any (λ n. same_label n.label q) (take i xs) || same_label x.label q) =
+    ap (list_any (λ n. same_label n.label q))
+    (take_more xs i x within ∙ ap (λ (y : Node). take i xs ++ y ∷ []) (sym item))
+    ∙ list_any-append (λ n. same_label n.label q) (take i xs) (x ∷ [])
     ∙ ap (λ b. list_any (λ n. same_label n.label q) (take i xs) || b) (or_end (same_label x.label q)) in
-    more q ∙ ap (λ b. cond b true (before q)) (ap (λ (l : List ℕ). is_eq (label_order l q)) is ∙ sym (same_label_ties x.label q)) ∙ or_turn (same_label x.label q) (before q) ∙ ap (λ b. b || same_label x.label q) (seen q) ∙ sym here
+    more q ∙ ap (λ b. cond b true (before q))
+    (ap (λ (l : List ℕ). is_eq (label_order l q)) is ∙ sym (same_label_ties x.label q))
+    ∙ or_turn (same_label x.label q) (before q) ∙ ap (λ b. b || same_label x.label q) (seen q) ∙ sym here
 
 -- ---- nodes that a test keeps, by references
 values_push : (bs : List (Bor Node)) (b : Bor Node) → values (bs ++ b ∷ []) ≡ values bs ++ b.now ∷ []
@@ -54,18 +63,28 @@ pub values_append : (bs cs : List (Bor Node)) → values (bs ++ cs) ≡ values b
 values_append [] cs = refl
 values_append (b ∷ bs) cs = ap (λ (ns : List Node). b.now ∷ ns) (values_append bs cs)
 
-one_filtered : (p : Node → Bool) (xs : List Node) (i : ℕ) (x : Node) → i < length xs → x ≡ get_or xs i x → filter p (take (i + 1) xs) ≡ filter p (take i xs) ++ (if p x then x ∷ [] else [])
-one_filtered p xs i x within item = ap (filter p) (take_more xs i x within ∙ ap (λ (y : Node). take i xs ++ y ∷ []) (sym item)) ∙ filter-append p (take i xs) (x ∷ [])
+one_filtered : (p : Node → Bool) (xs : List Node) (i : ℕ) (x : Node) → i < length xs → x ≡ get_or xs i x
+    → filter p (take (i + 1) xs) ≡ filter p (take i xs) ++ (if p x then x ∷ [] else [])
+one_filtered p xs i x within item =
+    ap (filter p) (take_more xs i x within ∙ ap (λ (y : Node). take i xs ++ y ∷ []) (sym item))
+    ∙ filter-append p (take i xs) (x ∷ [])
 
-pub kept_more : (p : Node → Bool) (xs : List Node) (i : ℕ) (bs : List (Bor Node)) (b : Bor Node) → values bs ≡ filter p (take i xs) → i < length xs → b.now ≡ get_or xs i b.now → p b.now ≡ true → values (bs ++ b ∷ []) ≡ filter p (take (i + 1) xs)
+pub kept_more : (p : Node → Bool) (xs : List Node) (i : ℕ) (bs : List (Bor Node)) (b : Bor Node)
+    → values bs ≡ filter p (take i xs) → i < length xs → b.now ≡ get_or xs i b.now → p b.now ≡ true
+    → values (bs ++ b ∷ []) ≡ filter p (take (i + 1) xs)
 kept_more p xs i bs b so_far within item passes =
-    values_push bs b ∙ ap (λ (ns : List Node). ns ++ b.now ∷ []) so_far ∙ sym (one_filtered p xs i b.now within item ∙ ap (λ t. filter p (take i xs) ++ (if t then b.now ∷ [] else [])) passes)
+    values_push bs b ∙ ap (λ (ns : List Node). ns ++ b.now ∷ []) so_far ∙ sym
+    (one_filtered p xs i b.now within item ∙ ap (λ t. filter p (take i xs) ++ (if t then b.now ∷ [] else [])) passes)
 
-pub kept_same : (p : Node → Bool) (xs : List Node) (i : ℕ) (bs : List (Bor Node)) (x : Node) → values bs ≡ filter p (take i xs) → i < length xs → x ≡ get_or xs i x → p x ≡ false → values bs ≡ filter p (take (i + 1) xs)
+pub kept_same : (p : Node → Bool) (xs : List Node) (i : ℕ) (bs : List (Bor Node)) (x : Node)
+    → values bs ≡ filter p (take i xs) → i < length xs → x ≡ get_or xs i x → p x ≡ false
+    → values bs ≡ filter p (take (i + 1) xs)
 kept_same p xs i bs x so_far within item fails =
-    so_far ∙ sym (one_filtered p xs i x within item ∙ ap (λ t. filter p (take i xs) ++ (if t then x ∷ [] else [])) fails ∙ append-nil (filter p (take i xs)))
+    so_far ∙ sym (one_filtered p xs i x within item
+    ∙ ap (λ t. filter p (take i xs) ++ (if t then x ∷ [] else [])) fails ∙ append-nil (filter p (take i xs)))
 
-pub kept_all : (p : Node → Bool) (xs : List Node) (i : ℕ) (bs : List (Bor Node)) → values bs ≡ filter p (take i xs) → length xs ≤ i → values bs ≡ filter p xs
+pub kept_all : (p : Node → Bool) (xs : List Node) (i : ℕ) (bs : List (Bor Node)) → values bs ≡ filter p (take i xs)
+    → length xs ≤ i → values bs ≡ filter p xs
 kept_all p xs i bs so_far past = so_far ∙ ap (filter p) (take_all i xs past)
 
 pub not_true : (b : Bool) → b ≡ true → not b ≡ false
@@ -75,13 +94,16 @@ pub not_false : (b : Bool) → b ≡ false → not b ≡ true
 not_false b f = rw f refl
 
 -- ---- labels that are dropped
-pub label_twice : (labels : List (List ℕ)) → has_twice (λ x y. is_eq (label_order x y)) labels ≡ has_twice same_label labels
+pub label_twice : (labels : List (List ℕ))
+    → has_twice (λ x y. is_eq (label_order x y)) labels ≡ has_twice same_label labels
 label_twice labels = ap (λ (t : List ℕ → List ℕ → Bool). has_twice t labels) (λ i x y. sym (same_label_ties x y) i)
 
-pub labels_seen : (labels : List (List ℕ)) (i : ℕ) (holds : List ℕ → Bool) → IsSeen label_order (λ (q : List ℕ). q) (λ (x : List ℕ). x) holds (take i labels) → length labels ≤ i
+pub labels_seen : (labels : List (List ℕ)) (i : ℕ) (holds : List ℕ → Bool)
+    → IsSeen label_order (λ (q : List ℕ). q) (λ (x : List ℕ). x) holds (take i labels) → length labels ≤ i
     → (has_twice same_label labels ≡ false) × ((label : List ℕ) → holds label ≡ list_any (same_label label) labels)
 labels_seen labels i holds seen past =
     let all : take i labels ≡ labels = take_all i labels past in (
       sym (label_twice labels) ∙ ap (has_twice (λ x y. is_eq (label_order x y))) (sym all) ∙ seen.once,
-      λ label. seen.all label ∙ ap (list_any (λ x. is_eq (label_order x label))) all ∙ ap (λ (p : List ℕ → Bool). list_any p labels) (λ i x. (sym (same_label_ties x label) ∙ label_symm x label) i),
+      λ label. seen.all label ∙ ap (list_any (λ x. is_eq (label_order x label))) all ∙ ap
+          (λ (p : List ℕ → Bool). list_any p labels) (λ i x. (sym (same_label_ties x label) ∙ label_symm x label) i),
     )

@@ -1,5 +1,6 @@
 -- What is made is a catalog, and has the serial that it was made with.
-use Rattle.std.proofs.Common.{◌≡◌, ℕ, ◌-◌, ◌<◌, ◌^◌, Bool, true, false, not, ◌||◌, ◌&&◌, List, [], ◌∷◌, ◌++◌, length, map, drop, suc, refl, sym, ◌∙◌, ap, Some, None, Option, Ok, inl, inr}
+use Rattle.std.proofs.Common.{◌≡◌, ℕ, ◌-◌, ◌<◌, ◌^◌, Bool, true, false, not, ◌||◌, ◌&&◌, List, [], ◌∷◌, ◌++◌, length}
+use Rattle.std.proofs.Common.{map, drop, suc, refl, sym, ◌∙◌, ap, Some, None, Option, Ok, inl, inr}
 use Rattle.std.specs.Prelude.{filter, nat_lt, if◌then◌else◌}
 use Rattle.std.specs.List.{All, list_any, list_all, flat_map, find}
 use Rattle.std.specs.Option.{option_map_or}
@@ -30,11 +31,15 @@ use Rattle.dz_producer.specs.Amended.{IsCatalog, listed, nodes_in}
 use Rattle.dz_producer.specs.Faults.{same_node, has_bad_group, is_string, is_long, too_many, produce_fault}
 use Rattle.dz_producer.specs.Laws.{IsNode, octets_before, with_sorted_groups, label_before, in_label_order}
 use Rattle.dz_producer.specs.Produced.{produced}
-use Rattle.dz_producer.specs.Records.{hourly, uncached, soa, name_server, version_property, times, owner_of, member, coo_records, group_records, node_records, plain_records, digest, all_records}
+use Rattle.dz_producer.specs.Records.{hourly, uncached, soa, name_server, version_property, times, owner_of, member}
+use Rattle.dz_producer.specs.Records.{coo_records, group_records, node_records, plain_records, digest, all_records}
 use Rattle.dz_producer.specs.declared.fault.ProduceFault.{ProduceFault}
-use Rattle.dz_producer.specs.declared.fault.ProduceFault.TheVariants.{LabelTwice, BadGroup, NameTooLong, TooMany, ZoneTwice}
+use Rattle.dz_producer.specs.declared.fault.ProduceFault.TheVariants.{LabelTwice, BadGroup, NameTooLong, TooMany}
+use Rattle.dz_producer.specs.declared.fault.ProduceFault.TheVariants.{ZoneTwice}
 use Rattle.dz_catalog.specs.Member.{group_name}
-use Rattle.dz_producer.proofs.AlikeLemmas.{Alike, Once, canonical_alike, any_alike, length_alike, digested_alike, append_alike, cons_alike, once_from, once_alike, once_front, once_back, flat_sorted, map_sorted}
+use Rattle.dz_producer.proofs.AlikeLemmas.{Alike, Once, canonical_alike, any_alike, length_alike, digested_alike}
+use Rattle.dz_producer.proofs.AlikeLemmas.{append_alike, cons_alike, once_from, once_alike, once_front, once_back}
+use Rattle.dz_producer.proofs.AlikeLemmas.{flat_sorted, map_sorted}
 use Rattle.dz_producer.proofs.CanonicalLemmas.{Respects, canonical_filter, same_parts}
 use Rattle.dz_producer.proofs.ListingLemmas.{NoFault, no_fault, no_text_twice, records_once, lists_its_nodes}
 use Rattle.dz_producer.proofs.OwnerLemmas.{name_itself}
@@ -45,7 +50,8 @@ use Rattle.dz_producer.proofs.RecordLemmas.{none_kept, all_node, all_nodes}
 pub soa_number : (apex : Name) (serial : ℕ) → serial < 2 ^ 32 → serial_of (soa apex serial) ≡ serial
 unfolding wire_of four
 soa_number apex serial small =
-    let numbers : soa_numbers (drop (length (soa apex serial).rdata - 20) (soa apex serial).rdata) ≡ soa_numbers (four serial ++ times) =
+    let numbers : soa_numbers (drop (length (soa apex serial).rdata - 20) (soa apex serial).rdata)
+    ≡ soa_numbers (four serial ++ times) =
     refl in
     ap (λ (s : Soa). s.serial) numbers ∙ number-four serial times small
 
@@ -113,7 +119,8 @@ all_insert lt p x (y ∷ ys) =
       | inr n ↦ rw n refl
     ]
 
-every_sorted : {X : Type 0} (lt : X → X → Bool) (p : X → Bool) (xs : List X) → list_all p (sorted_by lt xs) ≡ list_all p xs
+every_sorted : {X : Type 0} (lt : X → X → Bool) (p : X → Bool) (xs : List X)
+    → list_all p (sorted_by lt xs) ≡ list_all p xs
 every_sorted lt p [] = refl
 every_sorted lt p (x ∷ xs) = all_insert lt p x (sorted_by lt xs) ∙ ap (λ b. p x && b) (every_sorted lt p xs)
 
@@ -155,7 +162,8 @@ count_same nodes = length_sorted label_before (map with_sorted_groups nodes) ∙
 
 -- ---- the records of nodes in order, the groups of each in order
 module _ (apex : List (List ℕ)) where
-  node_sorted : (n : Node) → Once (node_records apex n) → Alike (node_records apex (with_sorted_groups n)) (node_records apex n)
+  node_sorted : (n : Node) → Once (node_records apex n)
+      → Alike (node_records apex (with_sorted_groups n)) (node_records apex n)
   unfolding node_records
   node_sorted n once =
       let owner : List (List ℕ) = owner_of apex n in
@@ -164,7 +172,8 @@ module _ (apex : List (List ℕ)) where
       let sorted : List Record = group_records owner (sorted_by octets_before n.groups) in
       let few : Once groups = once_back coo groups (once_back (member apex n ∷ []) (coo ++ groups) once) in
       cons_alike (member apex n) (coo ++ sorted) (coo ++ groups)
-      (append_alike coo coo sorted groups (λ w. refl) (map_sorted (uncached (group_name owner) 16) octets_before n.groups few))
+      (append_alike coo coo sorted groups
+      (λ w. refl) (map_sorted (uncached (group_name owner) 16) octets_before n.groups few))
 
   each_sorted : (ns : List Node) → Once (flat_map (node_records apex) ns)
       → Alike (flat_map (node_records apex) (map with_sorted_groups ns)) (flat_map (node_records apex) ns)
@@ -182,7 +191,8 @@ module _ (apex : List (List ℕ)) where
       let mapped : List Node = map with_sorted_groups ns in
       let each : Alike (flat_map (node_records apex) mapped) (flat_map (node_records apex) ns) = each_sorted ns once in
       flat_sorted (node_records apex) label_before mapped
-      (once_alike (flat_map (node_records apex) ns) (flat_map (node_records apex) mapped) (λ w. sym (each w)) once) z ∙ each z
+      (once_alike (flat_map (node_records apex) ns) (flat_map (node_records apex) mapped) (λ w. sym (each w)) once) z
+      ∙ each z
 
 -- ---- the catalog of nodes in order
 abbrev by_tests : Bool → Bool → Bool → Bool → Bool → Option ProduceFault
@@ -200,13 +210,15 @@ module _ (apex : List (List ℕ)) (serial : ℕ) (nodes : List Node) (ok : NoFau
 
   pub once_all : Once (all_records apex serial nodes)
   once_all =
-      once_from (all_records apex serial nodes) (records_once apex serial nodes ok.labels (no_text_twice nodes ok.groups))
+      once_from (all_records apex serial nodes)
+      (records_once apex serial nodes ok.labels (no_text_twice nodes ok.groups))
 
   pub once_flat : Once (flat_map (node_records apex) nodes)
   once_flat =
       let flat : List Record = flat_map (node_records apex) nodes in
       let last : List Record = digest apex serial (plain_records apex serial nodes) ∷ [] in
-      once_front flat last (once_back (soa apex serial ∷ name_server apex ∷ version_property apex ∷ []) (flat ++ last) once_all)
+      once_front flat last
+      (once_back (soa apex serial ∷ name_server apex ∷ version_property apex ∷ []) (flat ++ last) once_all)
 
   plain_alike : Alike (plain_records apex serial sorted) (plain_records apex serial nodes)
   plain_alike =
@@ -214,7 +226,8 @@ module _ (apex : List (List ℕ)) (serial : ℕ) (nodes : List Node) (ok : NoFau
       append_alike front front (flat_map (node_records apex) sorted) (flat_map (node_records apex) nodes) (λ w. refl)
       (nodes_alike apex nodes once_flat)
 
-  digest_same : digest apex serial (plain_records apex serial sorted) ≡ digest apex serial (plain_records apex serial nodes)
+  digest_same : digest apex serial (plain_records apex serial sorted)
+      ≡ digest apex serial (plain_records apex serial nodes)
   digest_same =
       ap (λ (octets : List ℕ). hourly apex 63 (four serial ++ (1 ∷ 1 ∷ sha384 octets)))
       (digested_alike apex (plain_records apex serial sorted) (plain_records apex serial nodes) plain_alike)
@@ -241,7 +254,8 @@ module _ (apex : List (List ℕ)) (serial : ℕ) (nodes : List Node) (ok : NoFau
   unfolding produce_fault
   fault_same =
       let names =
-      any_alike (λ r. is_long r.owner) (plain_records apex serial sorted) (plain_records apex serial nodes) plain_alike in
+      any_alike (λ r. is_long r.owner) (plain_records apex serial sorted)
+      (plain_records apex serial nodes) plain_alike in
       λ i. by_tests (labels_same nodes i) (groups_same nodes i) (names i) (many_same i) (zones_same nodes i)
 
 pub makes_catalog : (apex : Name) (serial : ℕ) (nodes : List Node) → serial < 2 ^ 32 → All IsNode nodes
@@ -253,7 +267,8 @@ makes_catalog apex serial nodes small are none =
     let lists = lists_its_nodes apex serial nodes are none in
     let nodes_are : listed zone ≡ in_label_order nodes = ap nodes_in lists in
     let number : held_serial zone ≡ serial = serial_kept apex serial nodes small in
-    let moved : produce_fault apex (held_serial zone) (listed zone) ≡ produce_fault apex serial (in_label_order nodes) =
+    let moved : produce_fault apex (held_serial zone) (listed zone)
+    ≡ produce_fault apex serial (in_label_order nodes) =
     λ i. produce_fault apex (number i) (nodes_are i) in
     let again : produced apex serial (in_label_order nodes) ≡ produced apex (held_serial zone) (listed zone) =
     λ i. produced apex (sym number i) (sym nodes_are i) in (

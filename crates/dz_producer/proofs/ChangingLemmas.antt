@@ -1,5 +1,7 @@
 -- Deletions and additions of records along lists that are alike.
-use Rattle.std.proofs.Common.{◌≡◌, ◌≤◌, suc, Bool, true, false, not, ◌||◌, List, [], ◌∷◌, ◌++◌, length, refl, sym, ◌∙◌, ap, subst, arith, append_assoc, append-nil, length-append, is_gt, is_eq, Ordering, Less, Equal, Greater, inl, inr}
+use Rattle.std.proofs.Common.{◌≡◌, ◌≤◌, suc, Bool, true, false, not, ◌||◌, List, [], ◌∷◌, ◌++◌, length, refl, sym, ◌∙◌}
+use Rattle.std.proofs.Common.{ap, subst, arith, append_assoc, append-nil, length-append, is_gt, is_eq, Ordering, Less}
+use Rattle.std.proofs.Common.{Equal, Greater, inl, inr}
 use Rattle.std.specs.Prelude.{filter}
 use Rattle.std.specs.List.{list_any, flat_map}
 use Rattle.std.proofs.lemmas.Bool.{cases_Bool, or_parts}
@@ -9,7 +11,8 @@ use Rattle.dz_record.specs.Order.{records_equal, same_ties}
 use Rattle.dz_record.specs.Record.{Record, same_record, record_order}
 use Rattle.dz_record.specs.Records.{insertion}
 use Rattle.dz_ixfr.specs.Incremental.{is_there, without, Deletes, Adds}
-use Rattle.dz_producer.proofs.AlikeLemmas.{Alike, Once, any_alike, filter_alike, append_alike, cons_alike, swap_alike, same_as, once_alike, once_back}
+use Rattle.dz_producer.proofs.AlikeLemmas.{Alike, Once, any_alike, filter_alike, append_alike, cons_alike, swap_alike}
+use Rattle.dz_producer.proofs.AlikeLemmas.{same_as, once_alike, once_back}
 
 -- ---- a record and those after it
 few_none : (p : Record → Bool) (rs : List Record) → length (filter p rs) ≤ 0 → list_any p rs ≡ false
@@ -119,8 +122,10 @@ added_all zone (r ∷ rs) rest h once =
     let apart : (list_any (same_record r) rs || list_any (same_record r) rest) ≡ false =
     sym (list_any-append (same_record r) rs rest) ∙ none_again r (rs ++ rest) once in
     let absent : is_there r zone ≡ false =
-    any_alike (same_record r) zone rest h ∙ (or_parts (list_any (same_record r) rs) (list_any (same_record r) rest) apart).1 in
+    any_alike (same_record r) zone rest h
+    ∙ (or_parts (list_any (same_record r) rs) (list_any (same_record r) rest) apart).1 in
     let moved : Alike (r ∷ (rs ++ rest)) (rs ++ r ∷ rest) = swap_alike (r ∷ []) rs rest once in
     let joined : Alike (insertion r zone) (r ∷ rest) = λ z. insertion_alike r zone z ∙ cons_alike r zone rest h z in
-    let next = added_all (insertion r zone) rs (r ∷ rest) joined (once_alike (r ∷ (rs ++ rest)) (rs ++ r ∷ rest) moved once) in
+    let next = added_all (insertion r zone) rs (r ∷ rest) joined
+    (once_alike (r ∷ (rs ++ rest)) (rs ++ r ∷ rest) moved once) in
     record { after = next.after; adds = (absent, next.adds); whole = λ z. next.whole z ∙ sym (moved z) }

@@ -1,5 +1,6 @@
 -- The difference of a change is a whole incremental form, of the records of the catalog after the change.
-use Rattle.std.proofs.Common.{◌≡◌, ℕ, Bool, true, false, not, List, [], ◌∷◌, ◌++◌, length, refl, sym, ◌∙◌, ap, subst, append_assoc, append-nil, Some, None, Option}
+use Rattle.std.proofs.Common.{◌≡◌, ℕ, Bool, true, false, not, List, [], ◌∷◌, ◌++◌, length, refl, sym, ◌∙◌, ap, subst}
+use Rattle.std.proofs.Common.{append_assoc, append-nil, Some, None, Option}
 use Rattle.std.specs.Prelude.{filter, nat_lt, if◌then◌else◌}
 use Rattle.std.specs.List.{flat_map}
 use Rattle.std.proofs.lemmas.Grind.{flat_map-append}
@@ -13,15 +14,18 @@ use Rattle.dz_zone.specs.Version.{Zone, zone_of}
 use Rattle.dz_zone.proofs.FaultLemmas.{fault_in_order}
 use Rattle.dz_xfr.specs.Apex.{is_apex_soa, serial_of, held_serial}
 use Rattle.dz_ixfr.specs.Incremental.{HasNoSoa, Difference, spelled, IsDifference, leads_last, others, IsIncremental}
-use Rattle.dz_producer.specs.Amended.{IsCatalog, listed, is_dropped, gone, kept, nodes_after, no_label, digest_of, deleted, added_records, difference, difference_octets, after_nodes, amend_fault}
+use Rattle.dz_producer.specs.Amended.{IsCatalog, listed, is_dropped, gone, kept, nodes_after, no_label, digest_of}
+use Rattle.dz_producer.specs.Amended.{deleted, added_records, difference, difference_octets, after_nodes, amend_fault}
 use Rattle.dz_producer.specs.Faults.{produce_fault}
 use Rattle.dz_producer.specs.Produced.{produced}
 use Rattle.dz_producer.specs.Records.{soa, name_server, version_property, node_records, all_records}
 use Rattle.dz_producer.specs.declared.fault.ProduceFault.{ProduceFault}
 use Rattle.dz_producer.specs.declared.fault.AmendFault.TheVariants.{OldSerial, NoLabel}
-use Rattle.dz_producer.proofs.AlikeLemmas.{Alike, Once, canonical_alike, in_order_alike, filter_alike, append_alike, cons_alike, swap_alike, once_alike, once_front, once_back}
+use Rattle.dz_producer.proofs.AlikeLemmas.{Alike, Once, canonical_alike, in_order_alike, filter_alike, append_alike}
+use Rattle.dz_producer.proofs.AlikeLemmas.{cons_alike, swap_alike, once_alike, once_front, once_back}
 use Rattle.dz_producer.proofs.CatalogLemmas.{serial_is, once_all}
-use Rattle.dz_producer.proofs.ChangingLemmas.{insertion_alike, swap_halves, flat_split, Deleted, deleted_all, Added, added_all}
+use Rattle.dz_producer.proofs.ChangingLemmas.{insertion_alike, swap_halves, flat_split, Deleted, deleted_all, Added}
+use Rattle.dz_producer.proofs.ChangingLemmas.{added_all}
 use Rattle.dz_producer.proofs.ListingLemmas.{NoFault, no_fault}
 use Rattle.dz_producer.proofs.OwnerLemmas.{name_itself}
 use Rattle.dz_producer.proofs.RecordLemmas.{all_append, all_node, all_nodes}
@@ -58,7 +62,8 @@ flat_no_soa apex nodes =
     all_nodes (λ r. is_apex_soa apex r ≡ false) apex
     (λ node. all_node (λ r. is_apex_soa apex r ≡ false) apex node refl (λ c. refl) (λ g. refl)) nodes
 
-all_without : (apex : List (List ℕ)) (rs : List Record) → HasNoSoa apex rs → filter (λ r. not (is_apex_soa apex r)) rs ≡ rs
+all_without : (apex : List (List ℕ)) (rs : List Record) → HasNoSoa apex rs
+    → filter (λ r. not (is_apex_soa apex r)) rs ≡ rs
 all_without apex [] h = refl
 all_without apex (r ∷ rs) h = rw h.0 (ap (λ (xs : List Record). r ∷ xs) (all_without apex rs h.1))
 
@@ -81,7 +86,8 @@ module _ (apex : List (List ℕ)) (last : Record) where
   -- those of the nodes that pass a test, preceded by the last record
   pub gone_first : (p : Node → Bool) (nodes : List Node)
       → Once (without_soa nodes)
-      → Alike (without_soa nodes) ((of (filter p nodes) ++ last ∷ []) ++ (front apex ++ of (filter (λ n. not (p n)) nodes)))
+      → Alike (without_soa nodes)
+      ((of (filter p nodes) ++ last ∷ []) ++ (front apex ++ of (filter (λ n. not (p n)) nodes)))
   gone_first p nodes once =
       let flat : List Record = of nodes in
       let some : List Record = of (filter p nodes) in
@@ -121,7 +127,8 @@ module _ (apex : List (List ℕ)) (last : Record) where
       ∙ append_assoc few new (last ∷ []) in
       let whole : without_soa (nodes ++ more) ≡ (front apex ++ few) ++ (new ++ last ∷ []) =
       ap (λ (xs : List Record). front apex ++ xs) joined in
-      λ z. ap (filter (same_record z)) whole ∙ swap_halves (front apex ++ few) (new ++ last ∷ []) (subst Once whole once) z
+      λ z. ap (filter (same_record z)) whole
+      ∙ swap_halves (front apex ++ few) (new ++ last ∷ []) (subst Once whole once) z
 
 -- ---- a change of a catalog
 module _ (old : Zone) (serial : ℕ) (dropped : List Octets) (added : List Node) (catalog : IsCatalog old)
@@ -214,7 +221,8 @@ module _ (old : Zone) (serial : ℕ) (dropped : List Octets) (added : List Node)
 
   zone_alike : Alike zone (all_records apex serial more)
   zone_alike z =
-      insertion_alike first comes.after z ∙ cons_alike first comes.after new_rest (λ w. comes.whole w ∙ sym (new_alike w)) z
+      insertion_alike first comes.after z
+      ∙ cons_alike first comes.after new_rest (λ w. comes.whole w ∙ sym (new_alike w)) z
 
   pub zone_is : zone_of apex zone ≡ produced apex serial more
   zone_is =
@@ -230,7 +238,12 @@ module _ (old : Zone) (serial : ℕ) (dropped : List Octets) (added : List Node)
   -- the difference
   abbrev change : Difference
   change =
-      record { old = soa apex held; deleted = deleted old dropped; new = first; added = added_records old serial dropped added }
+      record {
+        old = soa apex held;
+        deleted = deleted old dropped;
+        new = first;
+        added = added_records old serial dropped added;
+      }
 
   is_difference : IsDifference apex held (others old) change comes.after
   is_difference = record {
@@ -241,7 +254,8 @@ module _ (old : Zone) (serial : ℕ) (dropped : List Octets) (added : List Node)
     middle = goes.middle;
     deletes = goes.deletes;
     new = soa_opens apex serial;
-    added = all_append (λ r. is_apex_soa apex r ≡ false) (flat_map (node_records apex) added) (digest_of apex serial more ∷ [])
+    added = all_append (λ r. is_apex_soa apex r ≡ false) (flat_map (node_records apex) added)
+        (digest_of apex serial more ∷ [])
         (flat_no_soa apex added) (refl, tt);
     adds = comes.adds;
   }

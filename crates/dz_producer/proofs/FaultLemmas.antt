@@ -1,5 +1,6 @@
 -- The first fault of nodes, by the tests that the code makes.
-use Rattle.std.proofs.Common.{◌≡◌, ℕ, Bool, true, false, ◌||◌, List, [], ◌∷◌, length, refl, sym, ◌∙◌, ap, arith, length-append, Some, None}
+use Rattle.std.proofs.Common.{◌≡◌, ℕ, Bool, true, false, ◌||◌, List, [], ◌∷◌, length, refl, sym, ◌∙◌, ap, arith}
+use Rattle.std.proofs.Common.{length-append, Some, None}
 use Rattle.std.specs.Prelude.{nat_lt, sum_by}
 use Rattle.std.specs.Borrow.{Bor}
 use Rattle.std.specs.List.{list_any, flat_map}
@@ -14,7 +15,8 @@ use Rattle.dz_outward.specs.Stream.{is_fit}
 use Rattle.dz_producer.specs.Faults.{same_node, has_bad_group, is_long, too_many, produce_fault}
 use Rattle.dz_producer.specs.Produced.{produced}
 use Rattle.dz_producer.specs.Records.{plain_records, all_records, node_records, digest}
-use Rattle.dz_producer.specs.declared.fault.ProduceFault.TheVariants.{LabelTwice, BadGroup, NameTooLong, TooMany, ZoneTwice}
+use Rattle.dz_producer.specs.declared.fault.ProduceFault.TheVariants.{LabelTwice, BadGroup, NameTooLong, TooMany}
+use Rattle.dz_producer.specs.declared.fault.ProduceFault.TheVariants.{ZoneTwice}
 use Rattle.dz_producer.specs.inner.Nodes.{values, record_count, whole_count}
 use Rattle.dz_producer.proofs.MakingLemmas.{above_room}
 use Rattle.dz_producer.proofs.NodeLemmas.{any_nodes, flat_values}

@@ -1,5 +1,6 @@
 -- The records of a catalog make a zone: none of the faults of a zone holds of them.
-use Rattle.std.proofs.Common.{◌≡◌, ℕ, ◌+◌, ◌≤◌, Bool, true, false, List, [], ◌∷◌, ◌++◌, length, refl, sym, ◌∙◌, ap, arith, length-append, Some, None, inl, inr}
+use Rattle.std.proofs.Common.{◌≡◌, ℕ, ◌+◌, ◌≤◌, Bool, true, false, List, [], ◌∷◌, ◌++◌, length, refl, sym, ◌∙◌, ap}
+use Rattle.std.proofs.Common.{arith, length-append, Some, None, inl, inr}
 use Rattle.std.specs.Prelude.{filter, not, nat_lt, ◌==◌, ◌&&◌, if◌then◌else◌}
 use Rattle.std.specs.Borrow.{Bor}
 use Rattle.std.specs.List.{AllByRecursion, list_any, flat_map, count_by}
@@ -11,11 +12,14 @@ use Rattle.dz_name.proofs.PartLemmas.{within_suffix}
 use Rattle.dz_member.specs.declared.listing.Node.{Node}
 use Rattle.dz_record.specs.Record.{Record, same_record}
 use Rattle.dz_record.specs.Records.{distinct}
-use Rattle.dz_zone.specs.Valid.{some_two, at_apex, no_soa, soa_twice, soa_below, no_ns, out_of_zone, cname_beside, owned_twice, too_many, clash, both_are, fault_of}
-use Rattle.dz_zone.specs.declared.fault.ZoneFault.TheVariants.{NoSoa, SoaTwice, SoaBelow, NoNs, OutOfZone, CnameBeside, CnameTwice, DnameTwice, TooMany}
+use Rattle.dz_zone.specs.Valid.{some_two, at_apex, no_soa, soa_twice, soa_below, no_ns, out_of_zone, cname_beside}
+use Rattle.dz_zone.specs.Valid.{owned_twice, too_many, clash, both_are, fault_of}
+use Rattle.dz_zone.specs.declared.fault.ZoneFault.TheVariants.{NoSoa, SoaTwice, SoaBelow, NoNs, OutOfZone, CnameBeside}
+use Rattle.dz_zone.specs.declared.fault.ZoneFault.TheVariants.{CnameTwice, DnameTwice, TooMany}
 use Rattle.dz_catalog.specs.Broken.{version_name}
 use Rattle.dz_catalog.specs.Member.{coo_name, group_name}
-use Rattle.dz_producer.specs.Records.{uncached, soa, name_server, version_property, owner_of, member, plain_records, digest, all_records, node_records}
+use Rattle.dz_producer.specs.Records.{uncached, soa, name_server, version_property, owner_of, member, plain_records}
+use Rattle.dz_producer.specs.Records.{digest, all_records, node_records}
 use Rattle.dz_producer.specs.inner.Nodes.{values, whole_count}
 use Rattle.dz_producer.proofs.FaultLemmas.{all_length}
 use Rattle.dz_producer.proofs.OwnerLemmas.{name_itself, kinds_differ}

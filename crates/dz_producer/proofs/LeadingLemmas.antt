@@ -1,5 +1,6 @@
 -- The difference of a change leads from the old catalog to the new one.
-use Rattle.std.proofs.Common.{◌≡◌, ℕ, ◌+◌, ◌<◌, ◌≤◌, ◌^◌, true, false, List, [], ◌∷◌, ◌++◌, length, refl, sym, ◌∙◌, ap, subst, arith, append-nil, Some, None, inl, inr}
+use Rattle.std.proofs.Common.{◌≡◌, ℕ, ◌+◌, ◌<◌, ◌≤◌, ◌^◌, true, false, List, [], ◌∷◌, ◌++◌, length, refl, sym, ◌∙◌, ap}
+use Rattle.std.proofs.Common.{subst, arith, append-nil, Some, None, inl, inr}
 use Rattle.std.specs.Prelude.{◌==◌, nat_lt}
 use Rattle.std.specs.List.{AllByRecursion, flat_map}
 use Rattle.std.proofs.lemmas.Bool.{cases_Bool, eqb-true, ltb-false}
@@ -34,16 +35,19 @@ use Rattle.dz_take.proofs.KindLemmas.{form_first, form_incremental}
 use Rattle.dz_take.proofs.TakingLemmas.{messages_back}
 use Rattle.dz_outward.proofs.OutgoingLemmas.{soa_short}
 use Rattle.dz_outward.proofs.RoundLemmas.{Deciding, Behind, decides, shorts}
-use Rattle.dz_producer.specs.Amended.{IsCatalog, listed, is_dropped, gone, kept, nodes_after, digest_of, deleted, added_records, difference, difference_octets, question_of}
+use Rattle.dz_producer.specs.Amended.{IsCatalog, listed, is_dropped, gone, kept, nodes_after, digest_of, deleted}
+use Rattle.dz_producer.specs.Amended.{added_records, difference, difference_octets, question_of}
 use Rattle.dz_producer.specs.Laws.{IsNode, LeadsOn, change_of}
 use Rattle.dz_producer.specs.Produced.{produced}
 use Rattle.dz_producer.specs.Records.{soa, node_records, plain_records, all_records}
 use Rattle.dz_producer.proofs.CatalogLemmas.{soa_number}
-use Rattle.dz_producer.proofs.DifferenceLemmas.{NoAmendFault, no_amend_fault, soa_opens, old_is, new_is, old_number, records_are, zone, zone_is, zone_faultless, is_incremental}
+use Rattle.dz_producer.proofs.DifferenceLemmas.{NoAmendFault, no_amend_fault, soa_opens, old_is, new_is, old_number}
+use Rattle.dz_producer.proofs.DifferenceLemmas.{records_are, zone, zone_is, zone_faultless, is_incremental}
 use Rattle.dz_producer.proofs.ListingLemmas.{by_turns}
 use Rattle.dz_producer.proofs.OwnerLemmas.{name_itself}
 use Rattle.dz_producer.proofs.RecordLemmas.{all_append}
-use Rattle.dz_producer.proofs.SentLemmas.{Roomy, all_parts, all_gone, all_in_order, all_fit, flat_roomy, soa_held, digest_held, nodes_held}
+use Rattle.dz_producer.proofs.SentLemmas.{Roomy, all_parts, all_gone, all_in_order, all_fit, flat_roomy, soa_held}
+use Rattle.dz_producer.proofs.SentLemmas.{digest_held, nodes_held}
 use Rattle.dz_producer.proofs.ValidLemmas.{Fitting, fitting}
 
 -- nothing is newer than itself
@@ -69,7 +73,8 @@ front_amid old front rest end r e =
     sym (read_pieces (one old.apex) (amid (start old)) front (r ∷ rest)) ∙ e in
     (elim (place_of old front) as (λ p. read (one old.apex) p (r ∷ rest) ≡ ended end → said p ≡ more) [
       | amid x ↦ λ h. refl
-      | ended other ↦ λ h. let none : r ∷ rest ≡ [] = (ended_alone (one old.apex) other end (r ∷ rest) h).0 in absurd (cc)
+      | ended other ↦ λ h. let none : r ∷ rest ≡ [] = (ended_alone (one old.apex) other end (r ∷ rest) h).0 in
+          absurd (cc)
       | failed fault ↦ λ h. absurd (failed_not_ended (one old.apex) fault (r ∷ rest) end h)
     ]) pieces
 
@@ -135,7 +140,15 @@ module _ (old : Zone) (serial : ℕ) (dropped : List Octets) (added : List Node)
 
   kind_is : (rest : List Record) → IsIncrementalKind transfer old (first ∷ second ∷ rest)
   kind_is rest =
-      record { first = first; second = second; rest = rest; are = refl; opens = opens; base = refl; kind = old_follows }
+      record {
+        first = first;
+        second = second;
+        rest = rest;
+        are = refl;
+        opens = opens;
+        base = refl;
+        kind = old_follows;
+      }
 
   -- all records decide
   read_all : place_of old all ≡ ended end
@@ -153,7 +166,8 @@ module _ (old : Zone) (serial : ℕ) (dropped : List Octets) (added : List Node)
       ∙ (ap (λ (p : Place Amid). decision_of apex (said p)) read_all ∙ ap (λ (d : Decision). Some d) decided)
 
   -- no front of them does
-  form_front : (front rest : List Record) (r : Record) → 0 < length front → front ++ r ∷ rest ≡ all → form transfer front ≡ None
+  form_front : (front rest : List Record) (r : Record) → 0 < length front → front ++ r ∷ rest ≡ all
+      → form transfer front ≡ None
   form_front [] rest r some e = absurd (omega arith)
   form_front (x ∷ []) rest r some e =
       let same : first ≡ x = cc in
@@ -217,13 +231,15 @@ module _ (old : Zone) (serial : ℕ) (dropped : List Octets) (added : List Node)
     of_added P each =
         let joined : flat nodes ≡ flat (kept old dropped) ++ flat added =
         flat_map-append (node_records apex) (kept old dropped) added in
-        (all_parts P (flat (kept old dropped)) (flat added) (subst (λ (rs : List Record). AllByRecursion P rs) joined each)).1
+        (all_parts P (flat (kept old dropped)) (flat added)
+        (subst (λ (rs : List Record). AllByRecursion P rs) joined each)).1
 
     held_added : AllByRecursion IsRecord comes
     held_added =
         let roomy = flat_roomy apex serial nodes (new_is old serial dropped added catalog ok) new_fits in
         let digest_is = digest_held apex serial (plain_records apex serial nodes) name in
-        all_append IsRecord (flat added) new_digest (nodes_held apex added name are (of_added Roomy roomy)) (digest_is, tt)
+        all_append IsRecord (flat added) new_digest (nodes_held apex added name are (of_added Roomy roomy))
+        (digest_is, tt)
 
     all_new_fit : AllByRecursion FitsAlone new_records
     all_new_fit = all_fit apex serial nodes (new_is old serial dropped added catalog ok) new_fits
@@ -240,7 +256,8 @@ module _ (old : Zone) (serial : ℕ) (dropped : List Octets) (added : List Node)
     all_behind : (P : Record → Type 0) → P first → P second → AllByRecursion P goes → AllByRecursion P comes
         → AllByRecursion P (second ∷ behind)
     all_behind P of_first of_second away more_records =
-        let rest : AllByRecursion P (comes ++ first ∷ []) = all_append P comes (first ∷ []) more_records (of_first, tt) in
+        let rest : AllByRecursion P (comes ++ first ∷ []) =
+        all_append P comes (first ∷ []) more_records (of_first, tt) in
         (of_second, all_append P goes (first ∷ (comes ++ first ∷ [])) away (of_first, rest))
 
     held_behind : AllByRecursion IsRecord (second ∷ behind)
@@ -272,7 +289,8 @@ module _ (old : Zone) (serial : ℕ) (dropped : List Octets) (added : List Node)
         grind (arith, nat_tests)
 
     packed_is : packed 0 (question ∷ []) [] (difference old serial dropped added) ≡ messages
-    packed_is = ap (packed 0 (question ∷ []) []) all_is ∙ one_taken 0 (question ∷ []) [] first (second ∷ behind) has_place
+    packed_is = ap (packed 0 (question ∷ []) []) all_is
+        ∙ one_taken 0 (question ∷ []) [] first (second ∷ behind) has_place
 
     first_size : size_of (question ∷ []) (first ∷ []) ≤ 65535
     first_size =
@@ -306,7 +324,8 @@ module _ (old : Zone) (serial : ℕ) (dropped : List Octets) (added : List Node)
 
     pub leads : outcome transfer (difference_octets old serial dropped added) ≡ new target
     leads =
-        let decided = decides transfer all (new target) [] (question ∷ []) (first ∷ []) (second ∷ behind) deciding from_start in
+        let decided =
+        decides transfer all (new target) [] (question ∷ []) (first ∷ []) (second ∷ behind) deciding from_start in
         let short = shorts 0 (question ∷ []) (first ∷ []) (second ∷ behind) first_size fit_behind in
         let back = messages_back (written messages) short in
         ap (λ (c : List Content). outcome transfer (stream (written c))) packed_is

@@ -1,5 +1,6 @@
 -- How many octets streams have at most, by those of their records.
-use Rattle.std.proofs.Common.{◌≡◌, ℕ, ◌+◌, ◌*◌, ◌<◌, ◌≤◌, Bool, true, false, List, [], ◌∷◌, ◌++◌, length, map, refl, sym, ◌∙◌, ap, arith, length-append, Some, None, Option, inl, inr}
+use Rattle.std.proofs.Common.{◌≡◌, ℕ, ◌+◌, ◌*◌, ◌<◌, ◌≤◌, Bool, true, false, List, [], ◌∷◌, ◌++◌, length, map, refl}
+use Rattle.std.proofs.Common.{sym, ◌∙◌, ap, arith, length-append, Some, None, Option, inl, inr}
 use Rattle.std.specs.Prelude.{not, filter, find, if◌then◌else◌}
 use Rattle.std.specs.List.{AllByRecursion, list_all}
 use Rattle.std.specs.Ordering.{is_gt}
@@ -31,7 +32,8 @@ is_full true n more small fails = grind (arith, nat_tests)
 is_full false n more small fails = grind (arith, nat_tests)
 
 -- of each message that ends 14 octets more are counted, at most for every 15,000 octets
-pub packing : (t : TallyState) (rs : List Record) → AllByRecursion Small rs → 15000 * octets_behind t rs ≤ 15000 * (total_of t + octets_of rs) + 14 * (t.size + octets_of rs)
+pub packing : (t : TallyState) (rs : List Record) → AllByRecursion Small rs
+    → 15000 * octets_behind t rs ≤ 15000 * (total_of t + octets_of rs) + 14 * (t.size + octets_of rs)
 unfolding octets_behind
 packing t [] all = omega arith
 packing t (r ∷ rs) all =
@@ -46,9 +48,11 @@ packing t (r ∷ rs) all =
     ]
 
 -- so a stream is within its limit
-pub within_limit : (q : Question) (rs : List Record) → length (wire_of q.name) ≤ 255 → AllByRecursion Small rs → octets_of rs ≤ 66994000 → length (stream (written (packed 0 (q ∷ []) [] rs))) ≤ 67108864
+pub within_limit : (q : Question) (rs : List Record) → length (wire_of q.name) ≤ 255 → AllByRecursion Small rs
+    → octets_of rs ≤ 66994000 → length (stream (written (packed 0 (q ∷ []) [] rs))) ≤ 67108864
 within_limit q rs short all few =
-    let asked : length (question_octets q ++ []) ≡ length (wire_of q.name) + 4 = ap length (append-nil (question_octets q)) ∙ question_size q in
+    let asked : length (question_octets q ++ []) ≡ length (wire_of q.name) + 4 =
+    ap length (append-nil (question_octets q)) ∙ question_size q in
     let begun : size_of (q ∷ []) [] ≡ 12 + length (question_octets q ++ []) = size_begun (q ∷ []) in
     let all_counted = counted_all 0 0 (q ∷ []) [] rs in
     let counts = packing (tally_of 0 (size_of (q ∷ []) []) true) rs all in
@@ -61,7 +65,10 @@ sum_filter p (r ∷ rs) =
     let ih = sum_filter p rs in
     let sum : octets_of (r ∷ rs) ≡ size r + octets_of rs = sum_by-cons size r rs in
     elim (cases_Bool (p r)) [
-      | inl holds ↦ let kept : octets_of (r ∷ filter p rs) ≡ size r + octets_of (filter p rs) = sum_by-cons size r (filter p rs) in rw holds (omega arith)
+      | inl holds ↦
+          let kept : octets_of (r ∷ filter p rs) ≡ size r + octets_of (filter p rs) =
+          sum_by-cons size r (filter p rs) in
+          rw holds (omega arith)
       | inr fails ↦ rw fails (omega arith)
     ]
 
@@ -74,14 +81,19 @@ sum_insertion r [] = sum_by-cons size r []
 sum_insertion r (s ∷ ss) =
     let sum : octets_of (s ∷ ss) ≡ size s + octets_of ss = sum_by-cons size s ss in
     elim (cases_Bool (is_gt (record_order r s))) [
-      | inl holds ↦ let put : octets_of (s ∷ insertion r ss) ≡ size s + octets_of (insertion r ss) = sum_by-cons size s (insertion r ss) in let ih = sum_insertion r ss in rw holds (omega arith)
+      | inl holds ↦
+          let put : octets_of (s ∷ insertion r ss) ≡ size s + octets_of (insertion r ss) =
+          sum_by-cons size s (insertion r ss) in
+          let ih = sum_insertion r ss in
+          rw holds (omega arith)
       | inr fails ↦ rw fails (sum_by-cons size r (s ∷ ss))
     ]
 
 sum_in_order : (rs : List Record) → octets_of (in_order rs) ≡ octets_of rs
 unfolding in_order
 sum_in_order [] = refl
-sum_in_order (r ∷ rs) = sum_insertion r (in_order rs) ∙ (ap (λ n. size r + n) (sum_in_order rs) ∙ sym (sum_by-cons size r rs))
+sum_in_order (r ∷ rs) =
+    sum_insertion r (in_order rs) ∙ (ap (λ n. size r + n) (sum_in_order rs) ∙ sym (sum_by-cons size r rs))
 
 sum_distinct : (rs : List Record) → octets_of (distinct rs) ≤ octets_of rs
 unfolding distinct

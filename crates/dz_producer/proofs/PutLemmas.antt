@@ -6,7 +6,8 @@ use Rattle.std.specs.List.{flat_map}
 use Rattle.dz_name.specs.Name.{wire_of}
 use Rattle.dz_member.specs.declared.listing.Node.{Node}
 use Rattle.dz_record.specs.Record.{Record}
-use Rattle.dz_producer.specs.Records.{uncached, soa, name_server, version_property, owner_of, coo_records, group_records, node_records, plain_records, digest, all_records}
+use Rattle.dz_producer.specs.Records.{uncached, soa, name_server, version_property, owner_of, coo_records}
+use Rattle.dz_producer.specs.Records.{group_records, node_records, plain_records, digest, all_records}
 use Rattle.dz_producer.specs.inner.Nodes.{values}
 use Rattle.dz_producer.proofs.NodeLemmas.{flat_values}
 

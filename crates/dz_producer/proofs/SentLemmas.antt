@@ -1,5 +1,6 @@
 -- The records of a catalog that is made can be sent.
-use Rattle.std.proofs.Common.{◌≡◌, ℕ, Bool, true, false, List, [], ◌∷◌, ◌++◌, length, refl, subst, arith, is_gt, Some, None, Option, inl, inr}
+use Rattle.std.proofs.Common.{◌≡◌, ℕ, Bool, true, false, List, [], ◌∷◌, ◌++◌, length, refl, subst, arith, is_gt, Some}
+use Rattle.std.proofs.Common.{None, Option, inl, inr}
 use Rattle.std.specs.Prelude.{filter, nat_le, if◌then◌else◌}
 use Rattle.std.specs.List.{AllByRecursion, list_all, flat_map}
 use Rattle.std.specs.Option.{ForSome}
@@ -20,9 +21,11 @@ use Rattle.dz_catalog.specs.Member.{zones_of, coo_name, group_name}
 use Rattle.dz_zonemd.specs.Digested.{digested}
 use Rattle.dz_producer.specs.Faults.{is_long}
 use Rattle.dz_producer.specs.Laws.{IsNode}
-use Rattle.dz_producer.specs.Records.{uncached, soa, digest, owner_of, coo_records, group_records, node_records, plain_records, all_records}
+use Rattle.dz_producer.specs.Records.{uncached, soa, digest, owner_of, coo_records, group_records, node_records}
+use Rattle.dz_producer.specs.Records.{plain_records, all_records}
 use Rattle.dz_producer.proofs.ListingLemmas.{NoFault}
-use Rattle.dz_producer.proofs.MakingLemmas.{above_room, zones_label, coo_label, group_label, soa_is, pointer_is, digest_is}
+use Rattle.dz_producer.proofs.MakingLemmas.{above_room, zones_label, coo_label, group_label, soa_is, pointer_is}
+use Rattle.dz_producer.proofs.MakingLemmas.{digest_is}
 use Rattle.dz_producer.proofs.PairLemmas.{each_differs}
 use Rattle.dz_producer.proofs.RdataLemmas.{rest_rdata}
 use Rattle.dz_producer.proofs.RecordLemmas.{all_append}
@@ -104,9 +107,11 @@ child_name : (label : List ℕ) (name : List (List ℕ)) → IsLabel label → I
 child_name label name is above room = record { each = (is, above.each); short = grind (arith, nat_tests) }
 
 pub soa_held : (apex : Name) (serial : ℕ) → IsName apex → IsRecord (soa apex serial)
-soa_held apex serial name = record { owner = name; number = omega arith; kind = refl; ttl = omega arith; rdata = soa_is serial }
+soa_held apex serial name =
+    record { owner = name; number = omega arith; kind = refl; ttl = omega arith; rdata = soa_is serial }
 
-pub digest_held : (apex : Name) (serial : ℕ) (records : List Record) → IsName apex → IsRecord (digest apex serial records)
+pub digest_held : (apex : Name) (serial : ℕ) (records : List Record) → IsName apex
+    → IsRecord (digest apex serial records)
 digest_held apex serial records name =
     record {
       owner = name;
@@ -121,8 +126,16 @@ coo_held : (owner : Name) (coo : Option Name) → IsName owner → ForSome coo I
     → AllByRecursion Roomy (coo_records owner coo) → AllByRecursion IsRecord (coo_records owner coo)
 coo_held owner None name is room = tt
 coo_held owner (Some catalog) name is room =
-    let own : IsName (coo_name owner) = child_name (99 ∷ 111 ∷ 111 ∷ []) owner coo_label name room.0.0 in
-    (record { owner = own; number = omega arith; kind = refl; ttl = omega arith; rdata = pointer_is catalog (is catalog refl) }, tt)
+    let own : IsName (coo_name owner) = child_name (99 ∷ 111 ∷ 111 ∷ []) owner coo_label name room.0.0 in (
+      record {
+        owner = own;
+        number = omega arith;
+        kind = refl;
+        ttl = omega arith;
+        rdata = pointer_is catalog (is catalog refl);
+      },
+      tt,
+    )
 
 text_held : (owner : Name) (group : Octets) → IsName owner → Roomy (uncached (group_name owner) 16 group)
     → IsRecord (uncached (group_name owner) 16 group)
@@ -130,13 +143,21 @@ unfolding fields_of
 text_held owner group name room =
     let size = record_size (uncached (group_name owner) 16 group) in
     let fits = room.1 in
-    let own : IsName (group_name owner) = child_name (103 ∷ 114 ∷ 111 ∷ 117 ∷ 112 ∷ []) owner group_label name room.0 in
-    record { owner = own; number = omega arith; kind = refl; ttl = omega arith; rdata = rest_rdata 16 group refl (omega arith) }
+    let own : IsName (group_name owner) =
+    child_name (103 ∷ 114 ∷ 111 ∷ 117 ∷ 112 ∷ []) owner group_label name room.0 in
+    record {
+      owner = own;
+      number = omega arith;
+      kind = refl;
+      ttl = omega arith;
+      rdata = rest_rdata 16 group refl (omega arith);
+    }
 
 groups_held : (owner : Name) (groups : List Octets) → IsName owner → AllByRecursion Roomy (group_records owner groups)
     → AllByRecursion IsRecord (group_records owner groups)
 groups_held owner [] name room = tt
-groups_held owner (group ∷ groups) name room = (text_held owner group name room.0, groups_held owner groups name room.1)
+groups_held owner (group ∷ groups) name room =
+    (text_held owner group name room.0, groups_held owner groups name room.1)
 
 node_held : (apex : Name) (node : Node) → IsName apex → IsNode node → AllByRecursion Roomy (node_records apex node)
     → AllByRecursion IsRecord (node_records apex node)
@@ -144,16 +165,24 @@ unfolding node_records
 node_held apex node name is room =
     let owner : List (List ℕ) = owner_of apex node in
     let zones : IsName (zones_of apex) =
-    child_name (122 ∷ 111 ∷ 110 ∷ 101 ∷ 115 ∷ []) apex zones_label name (above_room node.label (zones_of apex) room.0.0) in
+    child_name (122 ∷ 111 ∷ 110 ∷ 101 ∷ 115 ∷ []) apex zones_label name
+    (above_room node.label (zones_of apex) room.0.0) in
     let own : IsName owner = child_name node.label (zones_of apex) is.label zones room.0.0 in
     let parts = all_parts Roomy (coo_records owner node.coo) (group_records owner node.groups) room.1 in (
-      record { owner = own; number = omega arith; kind = refl; ttl = omega arith; rdata = pointer_is node.zone is.zone },
+      record {
+        owner = own;
+        number = omega arith;
+        kind = refl;
+        ttl = omega arith;
+        rdata = pointer_is node.zone is.zone;
+      },
       all_append IsRecord (coo_records owner node.coo) (group_records owner node.groups)
           (coo_held owner node.coo own is.coo parts.0) (groups_held owner node.groups own parts.1),
     )
 
 pub nodes_held : (apex : Name) (nodes : List Node) → IsName apex → AllByRecursion IsNode nodes
-    → AllByRecursion Roomy (flat_map (node_records apex) nodes) → AllByRecursion IsRecord (flat_map (node_records apex) nodes)
+    → AllByRecursion Roomy (flat_map (node_records apex) nodes)
+    → AllByRecursion IsRecord (flat_map (node_records apex) nodes)
 nodes_held apex [] name are room = tt
 nodes_held apex (n ∷ ns) name are room =
     let parts = all_parts Roomy (node_records apex n) (flat_map (node_records apex) ns) room in

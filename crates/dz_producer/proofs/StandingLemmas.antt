@@ -29,11 +29,13 @@ use Rattle.dz_producer.proofs.RecordLemmas.{none_kept, all_node, all_nodes}
 kept_respects : (apex : List (List ℕ)) → Respects (λ r. not (is_left_out apex r))
 kept_respects apex r s t = let same = same_parts r s t in rw (same.0, same.1.0, same.1.1) refl
 
-pub digested_canonical : (apex : List (List ℕ)) (rs : List Record) → digested apex (in_order (distinct rs)) ≡ digested apex rs
+pub digested_canonical : (apex : List (List ℕ)) (rs : List Record)
+    → digested apex (in_order (distinct rs)) ≡ digested apex rs
 unfolding digested
 digested_canonical apex rs =
     let keep = λ (r : Record). not (is_left_out apex r) in
-    ap (λ (xs : List Record). flat_map record_octets (in_order (distinct xs))) (canonical_filter keep rs (kept_respects apex)) ∙ ap (flat_map record_octets) (canonical_twice (filter keep rs))
+    ap (λ (xs : List Record). flat_map record_octets (in_order (distinct xs)))
+    (canonical_filter keep rs (kept_respects apex)) ∙ ap (flat_map record_octets) (canonical_twice (filter keep rs))
 
 module _ (apex : List (List ℕ)) (serial : ℕ) (nodes : List Node) where
   abbrev plain : List Record
@@ -54,7 +56,8 @@ module _ (apex : List (List ℕ)) (serial : ℕ) (nodes : List Node) where
   digest_left_out =
       let keep = λ (r : Record). not (is_left_out apex r) in
       let last : filter keep (zonemd ∷ []) ≡ [] = rw at_apex refl in
-      ap (λ (xs : List Record). flat_map record_octets (in_order (distinct xs))) (filter-append keep plain (zonemd ∷ []) ∙ (ap (λ (xs : List Record). filter keep plain ++ xs) last ∙ append-nil (filter keep plain)))
+      ap (λ (xs : List Record). flat_map record_octets (in_order (distinct xs))) (filter-append keep plain
+      (zonemd ∷ []) ∙ (ap (λ (xs : List Record). filter keep plain ++ xs) last ∙ append-nil (filter keep plain)))
 
   digested_whole : digested apex zone ≡ digested apex plain
   digested_whole = digested_canonical apex (plain ++ zonemd ∷ []) ∙ digest_left_out
@@ -64,14 +67,18 @@ module _ (apex : List (List ℕ)) (serial : ℕ) (nodes : List Node) where
   zonemd_respects r s t = let same = same_parts r s t in rw (same.0, same.1.0) refl
 
   no_other : filter (is_zonemd apex) plain ≡ []
-  no_other = none_kept (is_zonemd apex) (flat_map (node_records apex) nodes) (all_nodes (λ r. is_zonemd apex r ≡ false) apex (λ node. all_node (λ r. is_zonemd apex r ≡ false) apex node refl (λ c. refl) (λ g. refl)) nodes)
+  no_other = none_kept (is_zonemd apex) (flat_map (node_records apex) nodes) (all_nodes (λ r. is_zonemd apex r ≡ false)
+      apex (λ node. all_node (λ r. is_zonemd apex r ≡ false) apex node refl (λ c. refl) (λ g. refl)) nodes)
 
   one_digest : zonemds apex zone ≡ zonemd ∷ []
   unfolding distinct in_order insertion
   one_digest =
       let last : filter (is_zonemd apex) (zonemd ∷ []) ≡ zonemd ∷ [] = rw at_apex refl in
-      let all : filter (is_zonemd apex) (plain ++ zonemd ∷ []) ≡ zonemd ∷ [] = filter-append (is_zonemd apex) plain (zonemd ∷ []) ∙ (ap (λ (xs : List Record). xs ++ filter (is_zonemd apex) (zonemd ∷ [])) no_other ∙ last) in
-      canonical_filter (is_zonemd apex) (plain ++ zonemd ∷ []) zonemd_respects ∙ ap (λ (xs : List Record). in_order (distinct xs)) all
+      let all : filter (is_zonemd apex) (plain ++ zonemd ∷ []) ≡ zonemd ∷ [] =
+      filter-append (is_zonemd apex) plain (zonemd ∷ [])
+      ∙ (ap (λ (xs : List Record). xs ++ filter (is_zonemd apex) (zonemd ∷ [])) no_other ∙ last) in
+      canonical_filter (is_zonemd apex) (plain ++ zonemd ∷ []) zonemd_respects
+      ∙ ap (λ (xs : List Record). in_order (distinct xs)) all
 
   -- the serial of both
   same_number : (n : ℕ) → (n == n) ≡ true
@@ -82,14 +89,16 @@ module _ (apex : List (List ℕ)) (serial : ℕ) (nodes : List Node) where
   soa_serial small =
       let numbers : soa_of (soa apex serial) ≡ Some (soa_numbers (four serial ++ times)) = refl in
       let is : number_of_four (four serial ++ times) ≡ serial = number-four serial times small in
-      ap (λ o. option_map_or (λ s. s.serial == serial) o false && same_name apex apex) numbers ∙ rw (is, same_number serial) at_apex
+      ap (λ o. option_map_or (λ s. s.serial == serial) o false && same_name apex apex) numbers
+      ∙ rw (is, same_number serial) at_apex
 
   digest_serial : serial < 2 ^ 32 → serial_in zonemd ≡ serial
   digest_serial small = number-four serial _ small
 
   found_serial : serial < 2 ^ 32 → is_serial apex zone (serial_in zonemd) ≡ true
   found_serial small =
-      rw (digest_serial small) (canonical_any (serial_is apex serial) (soa apex serial) (name_server apex ∷ version_property apex ∷ (flat_map (node_records apex) nodes ++ zonemd ∷ [])) (soa_serial small))
+      rw (digest_serial small) (canonical_any (serial_is apex serial) (soa apex serial) (name_server apex
+      ∷ version_property apex ∷ (flat_map (node_records apex) nodes ++ zonemd ∷ [])) (soa_serial small))
 
   -- its parts
   by_sha384 : known_algorithm zonemd ≡ Some Sha384
@@ -105,7 +114,8 @@ module _ (apex : List (List ℕ)) (serial : ℕ) (nodes : List Node) where
 
   digest_agrees : is_digest (digested apex zone) zonemd ≡ true
   digest_agrees =
-      rw (by_sha384, digest_is) ((bytes_eq-Decides (sha384 (digested apex plain)) (sha384 (digested apex zone))).1 (ap sha384 (sym digested_whole)))
+      rw (by_sha384, digest_is) ((bytes_eq-Decides (sha384 (digested apex plain)) (sha384 (digested apex zone))).1
+      (ap sha384 (sym digested_whole)))
 
   own_twin : (r : Record) → is_twin r r ≡ true
   own_twin r = grind (arith, nat_tests)

@@ -1,5 +1,6 @@
 -- A catalog that is made is a valid zone.
-use Rattle.std.proofs.Common.{◌≡◌, ℕ, Bool, true, false, not, ◌||◌, ◌&&◌, List, [], ◌∷◌, ◌++◌, length, refl, sym, ◌∙◌, ap, Some, None, Option}
+use Rattle.std.proofs.Common.{◌≡◌, ℕ, Bool, true, false, not, ◌||◌, ◌&&◌, List, [], ◌∷◌, ◌++◌, length, refl, sym, ◌∙◌}
+use Rattle.std.proofs.Common.{ap, Some, None, Option}
 use Rattle.std.specs.Prelude.{◌==◌, nat_lt, codes, count_by, if◌then◌else◌}
 use Rattle.std.specs.List.{AllByRecursion, list_any, flat_map}
 use Rattle.std.proofs.lemmas.Bool.{or_parts, not-false}
@@ -13,13 +14,16 @@ use Rattle.dz_settings.specs.Twice.{has_twice}
 use Rattle.dz_record.specs.Record.{Record}
 use Rattle.dz_record.specs.Records.{distinct}
 use Rattle.dz_outward.specs.Stream.{is_fit}
-use Rattle.dz_zone.specs.Valid.{some_two, at_apex, no_soa, soa_twice, soa_below, no_ns, out_of_zone, cname_beside, owned_twice, clash, both_are, fault_of}
+use Rattle.dz_zone.specs.Valid.{some_two, at_apex, no_soa, soa_twice, soa_below, no_ns, out_of_zone, cname_beside}
+use Rattle.dz_zone.specs.Valid.{owned_twice, clash, both_are, fault_of}
 use Rattle.dz_zone.specs.Version.{zone_of}
 use Rattle.dz_zone.specs.declared.fault.ZoneFault.{ZoneFault}
 use Rattle.dz_zone.specs.declared.fault.ZoneFault.TheVariants as faults
 use Rattle.dz_producer.specs.Faults.{same_node, has_bad_group, is_long, too_many, produce_fault}
-use Rattle.dz_producer.specs.Records.{soa, name_server, version_property, node_records, plain_records, digest, all_records}
-use Rattle.dz_producer.specs.declared.fault.ProduceFault.TheVariants.{LabelTwice, BadGroup, NameTooLong, TooMany, ZoneTwice}
+use Rattle.dz_producer.specs.Records.{soa, name_server, version_property, node_records, plain_records, digest}
+use Rattle.dz_producer.specs.Records.{all_records}
+use Rattle.dz_producer.specs.declared.fault.ProduceFault.TheVariants.{LabelTwice, BadGroup, NameTooLong, TooMany}
+use Rattle.dz_producer.specs.declared.fault.ProduceFault.TheVariants.{ZoneTwice}
 use Rattle.dz_producer.proofs.CatalogLemmas.{one_soa}
 use Rattle.dz_producer.proofs.ListingLemmas.{NoFault, no_fault, no_text_twice, records_once}
 use Rattle.dz_producer.proofs.OwnerLemmas.{name_itself}
@@ -46,7 +50,8 @@ fitting apex serial nodes h =
     record { names = parts.0; few = many.0; fit = not-false fit many.1 }
   where
     two_of_five : (a b c d e : Bool) → (
-        if a then Some LabelTwice else if b then Some BadGroup else if c then Some NameTooLong else if d then Some TooMany
+        if a then Some LabelTwice else if b then Some BadGroup else if c then Some NameTooLong else if d
+        then Some TooMany
         else if e then Some ZoneTwice else None
         ) ≡ None
         → (c ≡ false) × (d ≡ false)
@@ -59,7 +64,8 @@ fitting apex serial nodes h =
 pub distinct_all : (apex : Name) (serial : ℕ) (nodes : List Node) → NoFault nodes
     → distinct (all_records apex serial nodes) ≡ all_records apex serial nodes
 distinct_all apex serial nodes ok =
-    all_distinct (all_records apex serial nodes) (records_once apex serial nodes ok.labels (no_text_twice nodes ok.groups))
+    all_distinct (all_records apex serial nodes)
+    (records_once apex serial nodes ok.labels (no_text_twice nodes ok.groups))
 
 -- ---- no two of a kind that no record has
 and_none : (a : Bool) → (a && false) ≡ false
@@ -73,7 +79,8 @@ unfolding some_two
 no_two test kind f [] h = refl
 no_two test kind f (r ∷ rs) h =
     or_false (list_any (test r) rs) (some_two test rs)
-    (any_no (test r) rs (each_more (λ s. (s.kind == kind) ≡ false) (λ s. test r s ≡ false) (λ s k. f r s h.0 k) rs h.1))
+    (any_no (test r) rs
+    (each_more (λ s. (s.kind == kind) ≡ false) (λ s. test r s ≡ false) (λ s k. f r s h.0 k) rs h.1))
     (no_two test kind f rs h.1)
 
 no_clash : (r s : Record) → (r.kind == 5) ≡ false → (s.kind == 5) ≡ false → clash r s ≡ false
@@ -161,7 +168,8 @@ module _ (apex : List (List ℕ)) (serial : ℕ) (nodes : List Node) where
   pub valid : nat_lt 250000 (length all) ≡ false → fault_of apex all ≡ None
   unfolding fault_of
   valid few =
-      λ i. by_faults (some_soa i) (not_twice i) (none_below i) (some_server i) (all_inside i) (none_beside i) (no_cnames i)
+      λ i. by_faults (some_soa i) (not_twice i) (none_below i) (some_server i) (all_inside i) (none_beside i)
+      (no_cnames i)
       (no_dnames i) (few i)
 
 pub produced_faultless : (apex : Name) (serial : ℕ) (nodes : List Node) → produce_fault apex serial nodes ≡ None

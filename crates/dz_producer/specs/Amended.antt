@@ -1,6 +1,7 @@
 -- Meaning: a catalog without some of its nodes and with others, and the difference that leads to it (RFC 1995 section
 -- 4).
-use Rattle.std.specs.Prelude.{◌≡◌, ℕ, Bool, ◌||◌, not, nat_lt, List, [], ◌∷◌, ◌++◌, length, filter, flat_map, Option, Some, None, Result, Ok, Err, if◌then◌else◌}
+use Rattle.std.specs.Prelude.{◌≡◌, ℕ, Bool, ◌||◌, not, nat_lt, List, [], ◌∷◌, ◌++◌, length, filter, flat_map, Option}
+use Rattle.std.specs.Prelude.{Some, None, Result, Ok, Err, if◌then◌else◌}
 use Rattle.std.specs.List.{list_any, list_all}
 use Rattle.dz_name.specs.Name.{same_label}
 use Rattle.dz_name.specs.Words.{Name, Octets}
@@ -74,16 +75,19 @@ digest_of apex serial nodes = digest apex serial (plain_records apex serial node
 
 -- what goes: the records of the nodes that go, and the old digest
 abbrev pub deleted : Zone → List Octets → List Record
-deleted old dropped = flat_map (node_records old.apex) (gone old dropped) ++ digest_of old.apex (held_serial old) (listed old) ∷ []
+deleted old dropped =
+    flat_map (node_records old.apex) (gone old dropped) ++ digest_of old.apex (held_serial old) (listed old) ∷ []
 
 -- what comes: the records of the added nodes, and the new digest
 abbrev pub added_records : Zone → ℕ → List Octets → List Node → List Record
-added_records old serial dropped added = flat_map (node_records old.apex) added ++ digest_of old.apex serial (nodes_after old dropped added) ∷ []
+added_records old serial dropped added =
+    flat_map (node_records old.apex) added ++ digest_of old.apex serial (nodes_after old dropped added) ∷ []
 
 -- the records of the difference, in their order
 unfoldable pub difference : Zone → ℕ → List Octets → List Node → List Record
 difference old serial dropped added =
-    soa old.apex serial ∷ soa old.apex (held_serial old) ∷ (deleted old dropped ++ soa old.apex serial ∷ (added_records old serial dropped added ++ soa old.apex serial ∷ []))
+    soa old.apex serial ∷ soa old.apex (held_serial old) ∷ (deleted old dropped ++ soa old.apex serial
+    ∷ (added_records old serial dropped added ++ soa old.apex serial ∷ []))
 
 -- the question for a difference
 abbrev pub question_of : Zone → Question
@@ -91,7 +95,8 @@ question_of zone = record { name = zone.apex; kind = TYPE_IXFR; class = CLASS_IN
 
 -- the octets of the difference's stream, with ID 0
 abbrev pub difference_octets : Zone → ℕ → List Octets → List Node → Octets
-difference_octets old serial dropped added = stream (written (packed 0 (question_of old ∷ []) [] (difference old serial dropped added)))
+difference_octets old serial dropped added =
+    stream (written (packed 0 (question_of old ∷ []) [] (difference old serial dropped added)))
 
 -- ---- the first fault that holds
 -- a fault of the new nodes, or else that the stream is too long
@@ -104,4 +109,5 @@ unfoldable pub amend_fault : Zone → ℕ → List Octets → List Node → Opti
 amend_fault old serial dropped added =
     if not (is_newer (held_serial old) serial) then Some OldSerial
     else if no_label old dropped then Some NoLabel
-    else after_nodes (produce_fault old.apex serial (nodes_after old dropped added)) (nat_lt TRANSFER_OCTETS (length (difference_octets old serial dropped added)))
+    else after_nodes (produce_fault old.apex serial (nodes_after old dropped added))
+    (nat_lt TRANSFER_OCTETS (length (difference_octets old serial dropped added)))

@@ -1,5 +1,6 @@
 -- Meaning: what is kept of nodes that come one after another, and what is told of them from it, whatever the serial.
-use Rattle.std.specs.Prelude.{◌≡◌, ℕ, ◌+◌, ◌-◌, ◌^◌, ◌<◌, ◌≤◌, true, List, [], ◌∷◌, ◌++◌, length, min, sum_by, is_some, None}
+use Rattle.std.specs.Prelude.{◌≡◌, ℕ, ◌+◌, ◌-◌, ◌^◌, ◌<◌, ◌≤◌, true, List, [], ◌∷◌, ◌++◌, length, min, sum_by, is_some}
+use Rattle.std.specs.Prelude.{None}
 use Rattle.std.specs.BTreeSet.{contains}
 use Rattle.std.specs.List.{All, AllByRecursion, list_any}
 use Rattle.std.specs.Option.{ForSome}
@@ -41,7 +42,8 @@ pub record IsHeld (node : Node) : Type 0 where
 
 -- these are the nodes that were put into a draft
 pub record IsDraft (nodes : List Node) (draft : Draft) : Type 0 where
-  pub labels : (label : Octets) → contains label_order draft.labels label ≡ list_any (λ n. same_label n.label label) nodes
+  pub labels : (label : Octets)
+      → contains label_order draft.labels label ≡ list_any (λ n. same_label n.label label) nodes
   pub zones : (zone : Name) → contains canonical_order draft.zones zone ≡ list_any (λ n. same_name n.zone zone) nodes
   pub count : draft.nodes ≡ saturated (length nodes)
   pub records : draft.records ≡ saturated (4 + sum_by record_count nodes)
@@ -55,8 +57,10 @@ pub record IsGrown (apex : Name) (nodes : List Node) (node : Node) (before after
 -- what a verdict on the nodes and one more says
 abbrev pub IsJudged : Verdict → Name → List Node → Node → Draft → Draft → Type 0
 IsJudged Fine apex nodes node before after =
-    IsGrown apex nodes node before after × (after.octets ≤ SURE) × ((serial : ℕ) → produce_fault apex serial (nodes ++ node ∷ []) ≡ None)
-IsJudged Faulty apex nodes node before after = (serial : ℕ) → is_some (produce_fault apex serial (nodes ++ node ∷ [])) ≡ true
+    IsGrown apex nodes node before after × (after.octets ≤ SURE)
+    × ((serial : ℕ) → produce_fault apex serial (nodes ++ node ∷ []) ≡ None)
+IsJudged Faulty apex nodes node before after =
+    (serial : ℕ) → is_some (produce_fault apex serial (nodes ++ node ∷ [])) ≡ true
 IsJudged Unsure apex nodes node before after = IsGrown apex nodes node before after
 
 -- nodes without a fault, of which the draft is, and which have no more octets than were counted
@@ -68,4 +72,5 @@ pub record IsGood (apex : Name) (serial : ℕ) (nodes : List Node) (so_far : Dra
 
 -- a verdict holds, whatever nodes without a fault the draft is of, and whatever their serial
 abbrev pub Judges : Verdict → Name → Node → Draft → Draft → Type 0
-Judges verdict apex node before after = (serial : ℕ) (nodes : List Node) → IsGood apex serial nodes before → IsJudged verdict apex nodes node before after
+Judges verdict apex node before after = (serial : ℕ) (nodes : List Node) → IsGood apex serial nodes before
+    → IsJudged verdict apex nodes node before after

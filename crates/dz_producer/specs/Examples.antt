@@ -32,7 +32,8 @@ abbrev edge : Octets
 edge = 4 ∷ codes "edge"
 
 -- c. 3600 SOA invalid. invalid. 7 3600 600 2147483646 0
-pub soa_rdata : (soa apex 7).rdata ≡ (7 ∷ codes "invalid" ++ 0 ∷ 7 ∷ codes "invalid" ++ 0 ∷ 0 ∷ 0 ∷ 0 ∷ 7 ∷ 0 ∷ 0 ∷ 14 ∷ 16 ∷ 0 ∷ 0 ∷ 2 ∷ 88 ∷ 127 ∷ 255 ∷ 255 ∷ 254 ∷ 0 ∷ 0 ∷ 0 ∷ 0 ∷ [])
+pub soa_rdata : (soa apex 7).rdata ≡ (7 ∷ codes "invalid" ++ 0 ∷ 7 ∷ codes "invalid" ++ 0 ∷ 0 ∷ 0 ∷ 0 ∷ 7 ∷ 0 ∷ 0 ∷ 14
+    ∷ 16 ∷ 0 ∷ 0 ∷ 2 ∷ 88 ∷ 127 ∷ 255 ∷ 255 ∷ 254 ∷ 0 ∷ 0 ∷ 0 ∷ 0 ∷ [])
 unfolding wire_of four
 soa_rdata = refl
 
@@ -46,12 +47,14 @@ unfolding node_records wire_of
 records_of_a_node = refl
 
 -- labels in order, and the groups of a node
-pub nodes_in_order : in_label_order (plain (codes "n") (codes "a") ∷ with_groups (codes "m") (edge ∷ (1 ∷ codes "x") ∷ []) ∷ [])
+pub nodes_in_order : in_label_order
+    (plain (codes "n") (codes "a") ∷ with_groups (codes "m") (edge ∷ (1 ∷ codes "x") ∷ []) ∷ [])
     ≡ with_groups (codes "m") ((1 ∷ codes "x") ∷ edge ∷ []) ∷ plain (codes "n") (codes "a") ∷ []
 nodes_in_order = refl
 
 -- a label twice counts before a bad group
-pub label_twice : produce_fault apex 7 (with_groups (codes "m") ([] ∷ []) ∷ plain (codes "n") (codes "a") ∷ plain (codes "m") (codes "b") ∷ []) ≡ Some LabelTwice
+pub label_twice : produce_fault apex 7 (with_groups (codes "m") ([] ∷ []) ∷ plain (codes "n") (codes "a")
+    ∷ plain (codes "m") (codes "b") ∷ []) ≡ Some LabelTwice
 unfolding produce_fault
 label_twice = refl
 
@@ -68,7 +71,8 @@ pub two_strings : produce_fault apex 7 (with_groups (codes "m") ((edge ++ edge) 
 unfolding produce_fault
 two_strings = refl
 
-pub group_twice : produce_fault apex 7 (with_groups (codes "m") (edge ∷ (1 ∷ codes "x") ∷ edge ∷ []) ∷ []) ≡ Some BadGroup
+pub group_twice : produce_fault apex 7 (with_groups (codes "m") (edge ∷ (1 ∷ codes "x") ∷ edge ∷ []) ∷ [])
+    ≡ Some BadGroup
 unfolding produce_fault
 group_twice = refl
 

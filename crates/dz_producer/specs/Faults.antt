@@ -1,5 +1,6 @@
 -- Meaning: what is wrong with the nodes of a catalog that is to be made.
-use Rattle.std.specs.Prelude.{ℕ, Bool, false, ◌==◌, ◌&&◌, ◌||◌, not, nat_lt, List, [], ◌∷◌, length, Option, Some, None, if◌then◌else◌}
+use Rattle.std.specs.Prelude.{ℕ, Bool, false, ◌==◌, ◌&&◌, ◌||◌, not, nat_lt, List, [], ◌∷◌, length, Option, Some, None}
+use Rattle.std.specs.Prelude.{if◌then◌else◌}
 use Rattle.std.specs.List.{list_any, list_all}
 use Rattle.std.specs.Str.{bytes_eq}
 use Rattle.dz_name.specs.Name.{wire_of, same_label}
@@ -13,7 +14,8 @@ use Rattle.dz_zone.specs.Version.{zone_of}
 use Rattle.dz_outward.specs.Stream.{is_fit}
 use Rattle.dz_producer.specs.Records.{plain_records, all_records}
 use Rattle.dz_producer.specs.declared.fault.ProduceFault.{ProduceFault}
-use Rattle.dz_producer.specs.declared.fault.ProduceFault.TheVariants.{LabelTwice, BadGroup, NameTooLong, TooMany, ZoneTwice}
+use Rattle.dz_producer.specs.declared.fault.ProduceFault.TheVariants.{LabelTwice, BadGroup, NameTooLong, TooMany}
+use Rattle.dz_producer.specs.declared.fault.ProduceFault.TheVariants.{ZoneTwice}
 
 -- two nodes have one label
 abbrev pub same_node : Node → Node → Bool
@@ -35,7 +37,8 @@ is_long name = nat_lt NAME_OCTETS (length (wire_of name))
 -- there are too many nodes or records, or too many octets to be sent
 abbrev pub too_many : Name → ℕ → List Node → Bool
 too_many apex serial nodes =
-    nat_lt NODES (length nodes) || (nat_lt ZONE_RECORDS (length (all_records apex serial nodes)) || not (is_fit (zone_of apex (all_records apex serial nodes))))
+    nat_lt NODES (length nodes) || (nat_lt ZONE_RECORDS (length (all_records apex serial nodes))
+    || not (is_fit (zone_of apex (all_records apex serial nodes))))
 
 -- the first fault that holds
 unfoldable pub produce_fault : Name → ℕ → List Node → Option ProduceFault

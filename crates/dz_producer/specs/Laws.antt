@@ -45,12 +45,14 @@ pub record IsNode (node : Node) : Type 0 where
 -- ---- the laws, of nodes without a fault
 -- the catalog that is made lists its nodes, in order
 abbrev pub ListsItsNodes : Type 0
-ListsItsNodes = (apex : Name) (serial : ℕ) (nodes : List Node) → All IsNode nodes → produce_fault apex serial nodes ≡ None
+ListsItsNodes = (apex : Name) (serial : ℕ) (nodes : List Node) → All IsNode nodes
+    → produce_fault apex serial nodes ≡ None
     → listing_of apex (produced apex serial nodes).records ≡ Ok (in_label_order nodes)
 
 -- the digest of the catalog that is made verifies it (RFC 8976 section 4)
 abbrev pub StandsGood : Type 0
-StandsGood = (apex : Name) (serial : ℕ) (nodes : List Node) → serial < 2 ^ 32 → standing apex (produced apex serial nodes).records ≡ Good
+StandsGood = (apex : Name) (serial : ℕ) (nodes : List Node) → serial < 2 ^ 32
+    → standing apex (produced apex serial nodes).records ≡ Good
 
 -- ---- a change is read back against the version that was changed (RFC 1995 section 4)
 -- an IXFR with ID 0 to one that holds the version that was changed
@@ -59,5 +61,7 @@ change_of old = record { apex = old.apex; ask = Ixfr; id = 0; held = Some old }
 
 -- the difference leads to the catalog of the nodes after the change
 abbrev pub LeadsOn : Type 0
-LeadsOn = (old : Zone) (serial : ℕ) (dropped : List Octets) (added : List Node) → IsVersion old → IsCatalog old → serial < 2 ^ 32 → All IsNode added → amend_fault old serial dropped added ≡ None
-    → outcome (change_of old) (difference_octets old serial dropped added) ≡ new (produced old.apex serial (nodes_after old dropped added))
+LeadsOn = (old : Zone) (serial : ℕ) (dropped : List Octets) (added : List Node) → IsVersion old → IsCatalog old
+    → serial < 2 ^ 32 → All IsNode added → amend_fault old serial dropped added ≡ None
+    → outcome (change_of old) (difference_octets old serial dropped added)
+    ≡ new (produced old.apex serial (nodes_after old dropped added))

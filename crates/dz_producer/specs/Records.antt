@@ -1,4 +1,5 @@
--- Meaning: the records of a catalog zone that is made of nodes (RFC 9432 section 4). The TTLs of a catalog say nothing.
+-- Meaning: the records of a catalog zone that is made of nodes (RFC 9432 section 4). The TTLs of a catalog say
+-- nothing.
 use Rattle.std.specs.Prelude.{ℕ, ◌++◌, List, [], ◌∷◌, map, flat_map, codes, Option, Some, None}
 use Rattle.sha2.specs.Sha512.{sha384}
 use Rattle.dz_name.specs.Name.{wire_of}
@@ -64,17 +65,21 @@ group_records owner groups = map (uncached (group_name owner) TYPE_TXT) groups
 
 -- all records of a node: PTR, change of ownership, groups
 unfoldable pub node_records : Name → Node → List Record
-node_records apex node = member apex node ∷ (coo_records (owner_of apex node) node.coo ++ group_records (owner_of apex node) node.groups)
+node_records apex node =
+    member apex node ∷ (coo_records (owner_of apex node) node.coo ++ group_records (owner_of apex node) node.groups)
 
 -- ---- the catalog, without its digest and with it
 -- the catalog's SOA, NS and version, and the records of the nodes
 abbrev pub plain_records : Name → ℕ → List Node → List Record
-plain_records apex serial nodes = soa apex serial ∷ name_server apex ∷ version_property apex ∷ flat_map (node_records apex) nodes
+plain_records apex serial nodes =
+    soa apex serial ∷ name_server apex ∷ version_property apex ∷ flat_map (node_records apex) nodes
 
 -- the ZONEMD record of these records: scheme SIMPLE, SHA-384 (RFC 8976 section 2.2)
 abbrev pub digest : Name → ℕ → List Record → Record
-digest apex serial records = hourly apex TYPE_ZONEMD (four serial ++ (SCHEME_SIMPLE ∷ ALGORITHM_SHA384 ∷ sha384 (digested apex records)))
+digest apex serial records =
+    hourly apex TYPE_ZONEMD (four serial ++ (SCHEME_SIMPLE ∷ ALGORITHM_SHA384 ∷ sha384 (digested apex records)))
 
 -- all records of the catalog, with the digest
 abbrev pub all_records : Name → ℕ → List Node → List Record
-all_records apex serial nodes = plain_records apex serial nodes ++ digest apex serial (plain_records apex serial nodes) ∷ []
+all_records apex serial nodes =
+    plain_records apex serial nodes ++ digest apex serial (plain_records apex serial nodes) ∷ []

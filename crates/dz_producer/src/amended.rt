@@ -1,6 +1,7 @@
 //! Catalogs that are changed.
 
-ghost use Rattle.std.specs.Prelude.{◌≡◌, ◌==◌, ◌++◌, ◌∷◌, ℕ, [], List, false, true, filter, not, IfOk, OnOk, MatchOption, option_map};
+ghost use Rattle.std.specs.Prelude.{◌≡◌, ◌==◌, ◌++◌, ◌∷◌, ℕ, [], List, false, true, filter, not, IfOk, OnOk};
+ghost use Rattle.std.specs.Prelude.{MatchOption, option_map};
 ghost use Rattle.std.specs.List.{All, find, list_any, list_all};
 ghost use Rattle.std.specs.BTreeSet.{contains};
 ghost use Rattle.dz_name.specs.Name.{label_order, same_label};
@@ -11,7 +12,8 @@ ghost use Rattle.dz_message.specs.Piece.{FitsAlone, packed, written};
 ghost use Rattle.dz_xfr.specs.Apex.{held_serial};
 ghost use Rattle.dz_settings.specs.Twice.{has_twice};
 ghost use Rattle.dz_member.specs.declared.listing.Node.{Node};
-ghost use Rattle.dz_producer.specs.Amended.{IsCatalog, IsCatalogOf, listed, is_listed, no_label, gone, kept, digest_of, question_of};
+ghost use Rattle.dz_producer.specs.Amended.{IsCatalog, IsCatalogOf, listed, is_listed, no_label, gone, kept};
+ghost use Rattle.dz_producer.specs.Amended.{digest_of, question_of};
 ghost use Rattle.dz_producer.specs.Answers.{IsAmended};
 ghost use Rattle.dz_producer.specs.Faults.{has_bad_group, is_long};
 ghost use Rattle.dz_producer.specs.Produced.{produced};

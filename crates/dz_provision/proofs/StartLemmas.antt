@@ -23,5 +23,6 @@ module _ (config : List CatalogSettings) where
   unfolding journal_from entry_lines
   start_journal = refl
 
-  pub start_logged : (held : Option Octets) → ((text : Octets) → held ≡ Some text → text ≡ []) → IsLogged (Setup config ∷ []) held false
+  pub start_logged : (held : Option Octets) → ((text : Octets) → held ≡ Some text → text ≡ [])
+      → IsLogged (Setup config ∷ []) 0 held false
   start_logged held empty = nothing_logged (Setup config ∷ []) held start_journal empty

@@ -1,5 +1,6 @@
 -- Meaning: what a store has to do after the last entry of a list, and how far it came.
-use Rattle.std.specs.Prelude.{◌≡◌, ◌+◌, ℕ, Bool, true, false, List, [], ◌∷◌, ◌++◌, map, filter, Option, Some, None, option_map}
+use Rattle.std.specs.Prelude.{◌≡◌, ℕ, Bool, true, false, List, [], ◌∷◌, ◌++◌, map, filter, Option, Some, None}
+use Rattle.std.specs.Prelude.{option_map}
 use Rattle.std.specs.Option.{option_and_then, option_to_list}
 use Rattle.dz_name.specs.Words.{Name, Octets}
 use Rattle.dz_zone.specs.Version.{Zone}
@@ -65,7 +66,8 @@ kept_from last membership version = record {
 }
 
 abbrev pub kept_of : State → Last → Option KeptZone
-kept_of s last = option_and_then (λ membership. option_map (kept_from last membership) (held_at s last.zone)) (membership_at s last.zone)
+kept_of s last = option_and_then (λ membership. option_map (kept_from last membership) (held_at s last.zone))
+    (membership_at s last.zone)
 
 unfoldable pub last_kept : List Entry → Option KeptZone
 last_kept list = option_and_then (kept_of (after list)) (last_of list)

@@ -1,5 +1,5 @@
 -- Meaning: the log of a server: the lines of the list of taken transfers, and lines beside them.
-use Rattle.std.specs.Prelude.{⊤, ◌≡◌, ℕ, Bool, List, [], ◌∷◌, ◌++◌, codes, Option, Some, MatchBool}
+use Rattle.std.specs.Prelude.{⊤, ◌≡◌, ◌+◌, ℕ, Bool, List, [], ◌∷◌, ◌++◌, codes, Option, Some, MatchBool}
 use Rattle.hex.specs.Hex.{encode_lower}
 use mathlib.Core.List.{IsPrefix}
 use Rattle.dz_name.specs.Words.{Name, Octets}
@@ -19,8 +19,8 @@ use Rattle.dz_store.specs.declared.fault.StoreFault.TheVariants as faults
 use Rattle.dz_report.specs.Lines.{also, end, job_line, failure_line, notify_line, verdict_lines}
 use Rattle.dz_provision.specs.Journal.{journal}
 
--- what tells of no entry: a job, and that there is none; what ended a job by which nothing was taken; a NOTIFY; a reply to
--- a query, and that there is none; a zone that a store couldn't keep or forget
+-- what tells of no entry: a job, and that there is none; what ended a job by which nothing was taken; a NOTIFY; a
+-- reply to a query, and that there is none; a zone that a store couldn't keep or forget
 pub data Aside : Type 0 where
   handed : JobOf → Aside
   idle : Aside
@@ -60,8 +60,8 @@ text_of (replied octets) = codes "reply " ++ (encode_lower octets ++ (10 ∷ [])
 text_of silent = codes "none\n"
 text_of (unkept zone fault) = unkept_text zone fault
 
--- the lines of a call that asks for a job, and of one that ends a job: there are none where there is no job, and for want
--- of memory
+-- the lines of a call that asks for a job, and of one that ends a job: there are none where there is no job, and for
+-- want of memory
 abbrev pub due_lines : Due → Octets
 due_lines (due.Job job) = job_line job
 due_lines (due.Idle quiet) = []
@@ -72,12 +72,10 @@ abbrev pub settled_lines : Name → Verdict → Octets
 settled_lines zone OutOfMemory = []
 settled_lines zone verdict = verdict_lines zone verdict
 
--- what can be said beside events: that there is no job, a reply or none, want of memory for a zone's transfer, and a zone
--- that isn't kept
+-- what can be said beside events: that there is no job, a reply or none, and a zone that isn't kept
 abbrev pub IsRemark : Aside → Type 0
 IsRemark idle = ⊤
 IsRemark full = ⊤
-IsRemark (starved zone) = ⊤
 IsRemark (replied octets) = ⊤
 IsRemark silent = ⊤
 IsRemark (unkept zone fault) = ⊤
@@ -103,14 +101,27 @@ told [] = []
 told (listed text ∷ parts) = text ∷ told parts
 told (beside aside ∷ parts) = told parts
 
--- a log of a list: once the lines beside are left out, the texts of its entries remain, each whole
-unfoldable pub IsLog : List Entry → Octets → Type 0
-IsLog list text = (parts : List Part) × (text ≡ written parts) × (told parts ≡ journal list)
+-- how many of the lines beside them tell of want of memory for a zone's transfer
+abbrev pub wants : Aside → ℕ
+wants (starved zone) = 1
+wants aside = 0
+
+abbrev pub starved_lines : List Part → ℕ
+starved_lines [] = 0
+starved_lines (listed text ∷ parts) = starved_lines parts
+starved_lines (beside aside ∷ parts) = wants aside + starved_lines parts
+
+-- a log of a list, with so many lines of want of memory: once the lines beside are left out, the texts of its entries
+-- remain, each whole
+unfoldable pub IsLog : List Entry → ℕ → Octets → Type 0
+IsLog list count text =
+    (parts : List Part) × (text ≡ written parts) × (told parts ≡ journal list) × (starved_lines parts ≡ count)
 
 -- the beginning of one
 unfoldable pub IsLogFront : List Entry → Octets → Type 0
-IsLogFront list text = (whole : Octets) × IsPrefix text whole × IsLog list whole
+IsLogFront list text = (whole : Octets) × (count : ℕ) × IsPrefix text whole × IsLog list count whole
 
 -- what an output holds, if it tells: a log of the list, or, after a failed write, the beginning of one
-abbrev pub IsLogged : List Entry → Option Octets → Bool → Type 0
-IsLogged list held broken = (text : Octets) → held ≡ Some text → MatchBool broken (IsLogFront list text) (IsLog list text)
+abbrev pub IsLogged : List Entry → ℕ → Option Octets → Bool → Type 0
+IsLogged list count held broken =
+    (text : Octets) → held ≡ Some text → MatchBool broken (IsLogFront list text) (IsLog list count text)

@@ -1,5 +1,6 @@
 -- Answer: what calls under the lock answer, by the list that the lock has and that the reading has then seen.
-use Rattle.std.specs.Prelude.{⊤, ◌≡◌, ◌≤◌, ◌<◌, ◌⊎◌, ℕ, ◌-◌, ◌^◌, ◌%◌, Bool, true, List, [], length, take, slice_get, Some, None, IfSome, Result, Ok, Err}
+use Rattle.std.specs.Prelude.{⊤, ◌≡◌, ◌≤◌, ◌<◌, ◌⊎◌, ℕ, ◌-◌, ◌^◌, ◌%◌, Bool, true, List, [], length, take, slice_get}
+use Rattle.std.specs.Prelude.{Some, None, IfSome, Result, Ok, Err}
 use mathlib.Core.List.{IsPrefix}
 use Rattle.dz_name.specs.Words.{Name, Octets}
 use Rattle.dz_io.specs.declared.peer.Peer.{Peer}
@@ -9,7 +10,8 @@ use Rattle.dz_history.specs.After.{after}
 use Rattle.dz_history.specs.Ended.{ended}
 use Rattle.dz_job.specs.Job.{JobOf}
 use Rattle.dz_job.specs.declared.verdict.Verdict.{Verdict}
-use Rattle.dz_job.specs.declared.verdict.Verdict.TheVariants.{Published, Confirmed, Refused, PolicyRefused, Stale, OutOfMemory}
+use Rattle.dz_job.specs.declared.verdict.Verdict.TheVariants.{Published, Confirmed, Refused, PolicyRefused, Stale}
+use Rattle.dz_job.specs.declared.verdict.Verdict.TheVariants.{OutOfMemory}
 use Rattle.dz_job.specs.declared.verdict.Failure.{Failure}
 use Rattle.dz_job.specs.declared.verdict.Failure.TheVariants as failures
 use Rattle.dz_fleet.specs.declared.due.Due.{Due}
@@ -30,7 +32,8 @@ verdict_after list job octets = verdict_of (core_of list) job octets
 
 -- one of the primaries of a zone
 unfoldable pub HasPrimary : State → Name → Peer → Type 0
-HasPrimary s zone peer = (peers : List Peer) × (n : ℕ) × (primaries_at s zone ≡ Some peers) × (slice_get peers n ≡ Some peer)
+HasPrimary s zone peer = (peers : List Peer) × (n : ℕ) × (primaries_at s zone ≡ Some peers)
+    × (slice_get peers n ≡ Some peer)
 
 -- a count of entries, not below a place and not past a list
 abbrev pub IsBetween : ℕ → ℕ → List Entry → Type 0
@@ -41,9 +44,9 @@ IsBetween from count list = (from ≤ count) × (count ≤ length list)
 abbrev pub IsQuietAt : QuietOf → List Entry → ℕ → Type 0
 IsQuietAt q list now = (q.count ≡ length list) × (q.moment ≡ now)
 
--- a job is of an incarnation that is current there, with the version that is held of its zone and its catalog's key, and
--- names the number of entries. It asks one of the zone's primaries, for the whole zone where no version is held, and the
--- query's ID is that of its ticket
+-- a job is of an incarnation that is current there, with the version that is held of its zone and its catalog's key,
+-- and names the number of entries. It asks one of the zone's primaries, for the whole zone where no version is held,
+-- and the query's ID is that of its ticket
 pub record IsDueAt (job : JobOf) (list : List Entry) : Type 0 where
   pub begun : stands (after list) job.flight.zone job.flight.incarnation ≡ true
   pub unended : ended list job.flight.zone job.flight.incarnation ≡ None
@@ -61,7 +64,8 @@ WasDue job from list = (before : List Entry) × (from ≤ length before) × IsPr
 -- such a job, of the moment. There is none as no zone is due, or as 16 jobs are in flight or no ticket is left
 abbrev pub IsHandedAt : Result Due LogFault → List Entry → ℕ → Type 0
 IsHandedAt (Ok (due.Job job)) list now = IsDueAt job list × (job.flight.moment ≡ now)
-IsHandedAt (Ok (due.Idle q)) list now = IsQuietAt q list now × ((q.in_flight < 16) × IfSome q.earliest (λ earliest. now < earliest))
+IsHandedAt (Ok (due.Idle q)) list now =
+    IsQuietAt q list now × ((q.in_flight < 16) × IfSome q.earliest (λ earliest. now < earliest))
 IsHandedAt (Ok (due.Full q)) list now = IsQuietAt q list now × ((q.in_flight ≡ 16) ⊎ (q.drawn ≡ 2 ^ 64 - 2))
 IsHandedAt (Ok due.OutOfMemory) list now = ⊤
 IsHandedAt (Err fault) list now = ⊤
@@ -75,7 +79,8 @@ pub record IsJoined (v : Verdict) (n : ℕ) (job : JobOf) (octets : Octets) (fro
 
 -- with these octets; what isn't taken is judged by all entries
 abbrev pub IsSettledAt : Result Verdict Unmade → JobOf → Octets → ℕ → List Entry → Type 0
-IsSettledAt (Ok (Published n serial aftermath)) job octets from list = IsJoined (Published n serial aftermath) n job octets from list
+IsSettledAt (Ok (Published n serial aftermath)) job octets from list =
+    IsJoined (Published n serial aftermath) n job octets from list
 IsSettledAt (Ok (Confirmed n serial)) job octets from list = IsJoined (Confirmed n serial) n job octets from list
 IsSettledAt (Ok (Refused fault)) job octets from list = Refused fault ≡ verdict_after list job octets
 IsSettledAt (Ok (PolicyRefused standing)) job octets from list = PolicyRefused standing ≡ verdict_after list job octets

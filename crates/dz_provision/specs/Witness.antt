@@ -11,8 +11,8 @@ pub record WitnessOf : Type 0 where
   pub before : Core
   pub after : Core
 
--- it was heard after this list, by the primaries of the zone; one that is taken made its zone due, at once or as soon as
--- its job in flight ends, and any other changed nothing
+-- it was heard after this list, by the primaries of the zone; one that is taken made its zone due, at once or as soon
+-- as its job in flight ends, and any other changed nothing
 pub record IsWitnessOf (w : WitnessOf) (entries : List Entry) (peer : Peer) (zone : Name) (how : Heard) : Type 0 where
   pub list : w.before.list ≡ entries
   pub heard : how ≡ heard_of w.before peer zone

@@ -1,6 +1,7 @@
 //! What is kept of the last entry of a list.
 
-ghost use Rattle.std.specs.Prelude.{◌≡◌, ◌<◌, ◌^◌, false, ℕ, List, [], ◌∷◌, map, Some, option_map, IfErr, IfSome, IsErr, IsSome, OnOk};
+ghost use Rattle.std.specs.Prelude.{◌≡◌, ◌<◌, ◌^◌, false, ℕ, List, [], ◌∷◌, map, Some, option_map, IfErr, IfSome};
+ghost use Rattle.std.specs.Prelude.{IsErr, IsSome, OnOk};
 ghost use Rattle.std.specs.Arc.{arc_value};
 ghost use Rattle.std.specs.Option.{ForSome, option_to_list};
 ghost use Rattle.dz_disk.specs.Disk.{Leaves};
@@ -11,7 +12,8 @@ ghost use Rattle.dz_fleet.specs.Core.{state_of};
 ghost use Rattle.dz_fleet.specs.Last.{IsRefreshed, last_of};
 ghost use Rattle.dz_store.specs.Kept.{meaning_of};
 ghost use Rattle.dz_store.specs.Payload.{reads};
-ghost use Rattle.dz_provision.specs.Keeping.{forget, save, record_of, goes, gone, changes_of, membership_at, last_kept, tasks, IsLastVerdict};
+ghost use Rattle.dz_provision.specs.Keeping.{forget, save, record_of, goes, gone, changes_of, membership_at};
+ghost use Rattle.dz_provision.specs.Keeping.{last_kept, tasks, IsLastVerdict};
 ghost use Rattle.dz_provision.specs.KeepingAnswer.{IsKept, IsStopped};
 ghost use Rattle.dz_provision.specs.inner.Tasks.{kept_as, AreDone, ArePassed, LeavesTasks};
 

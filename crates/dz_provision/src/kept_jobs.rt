@@ -1,6 +1,6 @@
 //! Jobs whose transfers are kept in a store.
 
-ghost use Rattle.std.specs.Prelude.{◌≡◌, ◌<◌, ◌^◌, false, true, length, Err};
+ghost use Rattle.std.specs.Prelude.{◌≡◌, ◌<◌, ◌+◌, ◌^◌, false, true, length, Err};
 ghost use mathlib.Core.List.{IsPrefix};
 ghost use Rattle.dz_io.specs.Counts.{HasRisen};
 ghost use Rattle.dz_provision.specs.Witness.{IsWitnessOf};
@@ -8,7 +8,7 @@ ghost use Rattle.dz_history.specs.Legal.{IsLegal};
 ghost use Rattle.dz_job.specs.Job.{transfer_for};
 ghost use Rattle.dz_fleet.specs.Sound.{IsGiven};
 ghost use Rattle.dz_fleet.specs.Weighing.{is_taken};
-ghost use Rattle.dz_provision.specs.Endings.{settled_ending};
+ghost use Rattle.dz_provision.specs.Endings.{settled_ending, starved_in};
 ghost use Rattle.dz_provision.specs.Keeping.{IsLastVerdict};
 ghost use Rattle.dz_provision.specs.Receipts.{IsSettledAt};
 
@@ -27,6 +27,7 @@ use dz_name::Name;
 use dz_store::Store;
 use dz_take::Finished;
 use std::alloc::Global;
+use std::sync::ledger::Share;
 use std::sync::{Mutex, Wait};
 
 /// A provisioner behind its lock, and a store behind its own, where there is one. It hears NOTIFY, hands jobs out and ends them
@@ -51,6 +52,7 @@ impl<K: Sink, J: Naming> Provisioner<K, J> {
         alloc: Global,
         store: Option<&Mutex<Store<D>>>,
         reading: &mut Reading,
+        share: &mut Share<J>,
         job: Job,
         finished: Finished,
         now: u64,
@@ -59,6 +61,7 @@ impl<K: Sink, J: Naming> Provisioner<K, J> {
         requires own { reading.old.book ≡ J.publisher }
         requires list { reading.old.list ≡ self.old.core.list }
         requires legal { IsLegal reading.old.list }
+        requires part { 0 < share.old.parts }
         requires given { IsGiven self.old.core.list job }
         requires transfer { finished.transfer ≡ transfer_for job }
         requires moment { now < 2 ^ 40 }
@@ -69,9 +72,11 @@ impl<K: Sink, J: Naming> Provisioner<K, J> {
             (length reading.old.list) reading.new.list }
         ensures ending { result.ending
             ≡ settled_ending job finished.octets now result.answer }
+        ensures parts { share.new.parts ≡ share.old.parts }
+        ensures counted { share.new.amount ≡ share.old.amount + starved_in result.ending }
         ensures cause { result.answer ≡ Err Unmade.LogFault → (k : K) × HasRisen 0 (K.faults k) }
     {
-        let ended = self.settle_seen(rt, alloc, reading, job, finished, now);
+        let ended = self.settle_seen(rt, alloc, reading, share, job, finished, now);
         if let Ok(verdict) = &ended.answer {
             self.keep_taken(rt, alloc, store, verdict);
         }
@@ -127,6 +132,8 @@ impl<'a, K: Sink, J: Naming, D: Disk + Drop> Ear
 
 impl<'a, K: Sink, J: Naming, D: Disk + Drop> Jobs
     for Keeping<'a, Locked<Provisioner<K, J>>, Store<D>> {
+    type Counted = J;
+
     fn hand_out<R: Wait>(&self, rt: &R, reading: &mut Reading, now: u64) -> Result<Due, LogFault> {
         self.shared.hand_out(rt, reading, now)
     }
@@ -137,6 +144,7 @@ impl<'a, K: Sink, J: Naming, D: Disk + Drop> Jobs
         rt: &R,
         alloc: Global,
         reading: &mut Reading,
+        share: &mut Share<J>,
         job: Job,
         finished: Finished,
         now: u64,
@@ -144,7 +152,9 @@ impl<'a, K: Sink, J: Naming, D: Disk + Drop> Jobs
         'locks: for _ in rt.forever() {
             let mut inside = self.shared.lock.lock(rt);
             if inside.is_seen(rt, reading) {
-                return inside.settle_and_keep(rt, alloc, self.store, reading, job, finished, now);
+                return inside.settle_and_keep(
+                    rt, alloc, self.store, reading, share, job, finished, now,
+                );
             }
         }
         unreachable!()
@@ -154,7 +164,14 @@ impl<'a, K: Sink, J: Naming, D: Disk + Drop> Jobs
         self.shared.fail(rt, reading, job, now)
     }
 
-    fn starve<R: Wait>(&self, rt: &R, reading: &mut Reading, job: Job, now: u64) -> Ended<Failure> {
-        self.shared.starve(rt, reading, job, now)
+    fn starve<R: Wait>(
+        &self,
+        rt: &R,
+        reading: &mut Reading,
+        share: &mut Share<J>,
+        job: Job,
+        now: u64,
+    ) -> Ended<Failure> {
+        self.shared.starve(rt, reading, share, job, now)
     }
 }

@@ -20,7 +20,8 @@ use dz_io::Sink;
 use dz_settings::Config;
 use dz_table::Table;
 use std::alloc::{AllocError, Global};
-use std::marker::{Model, PhantomData};
+use std::marker::Model;
+use std::sync::ledger::Book;
 use std::sync::{Arc, Wait};
 
 /// A write to the log has failed.
@@ -36,14 +37,14 @@ pub enum Unmade {
     NotInFlight(Absent),
 }
 
-/// The core, the publisher of its list, and the output to which the log is written. `J` names the publisher. It is ended
-/// by [`Provisioner::close`].
+/// The core, the publisher of its list, and the output to which the log is written, with a count of its lines of want of
+/// memory, which is not kept at run time. `J` names the publisher. It is ended by [`Provisioner::close`].
 pub struct Provisioner<K: Sink, J: Naming> {
     pub(crate) fleet: Fleet,
     pub(crate) publisher: Publisher,
     pub(crate) output: K,
     pub(crate) log_failed: bool,
-    of: PhantomData<J>,
+    pub(crate) starved: Book<J>,
 }
 
 impl<K: Sink, J: Naming> Model for Provisioner<K, J> {
@@ -59,22 +60,24 @@ impl<K: Sink, J: Naming> Model for Provisioner<K, J> {
       written = K.held p.output;
       faults = K.faults p.output;
       failed = p.log_failed;
+      starved = p.starved.total;
     } };
 
     ghost invariant = { λ p. (p.fleet.list ≡ p.publisher.list)
         × (p.publisher.staged ≡ None)
         × (p.publisher.book ≡ J.publisher)
-        × IsLogged p.fleet.list (K.held p.output) p.log_failed
+        × IsLogged p.fleet.list p.starved.total (K.held p.output) p.log_failed
         × MatchBool p.log_failed (HasRisen 0 (K.faults p.output)) (K.faults p.output ≡ 0)
         × (0 < length p.fleet.list) };
 }
 
 /// What a provisioner was made of, and whether a write to the output has failed.
-pub struct Parts<K> {
+pub struct Parts<K, J: Naming> {
     pub fleet: Fleet,
     pub publisher: Publisher,
     pub output: K,
     pub log_failed: bool,
+    pub starved: Book<J>,
 }
 
 /// What a provisioner would have been made of. Memory ran out.
@@ -84,7 +87,8 @@ pub struct Unstarted<K> {
 }
 
 impl<K: Sink, J: Naming> Provisioner<K, J> {
-    /// The core of a configuration, which it publishes as the first entry. The output has no lines yet.
+    /// The core of a configuration, which it publishes as the first entry. The output has no lines yet, and the ledger
+    /// counts none.
     ///
     /// # Errors
     ///
@@ -95,16 +99,19 @@ impl<K: Sink, J: Naming> Provisioner<K, J> {
         config: Config,
         publisher: Publisher,
         output: K,
+        starved: Book<J>,
     ) -> Result<Provisioner<K, J>, Unstarted<K>>
         requires config { IsAllowed config }
         requires publisher { (publisher.list ≡ []) × (publisher.staged ≡ None)
             × (publisher.book ≡ J.publisher) }
         requires output { IfSome (K.held output) (λ text. text ≡ []) × (K.faults output ≡ 0) }
+        requires starved { starved.total ≡ 0 }
         ensures ok { IfOk result (λ p. p ≡ record {
           core = opened_core config;
           written = K.held output;
           faults = 0;
           failed = false;
+          starved = 0;
         }) }
         ensures err { IfErr result
             (λ parts. (parts.publisher ≡ publisher) × (parts.output ≡ output)) }
@@ -120,14 +127,14 @@ impl<K: Sink, J: Naming> Provisioner<K, J> {
                     publisher,
                     output,
                     log_failed: false,
-                    of: PhantomData,
+                    starved,
                 })
             }
         }
     }
 
     /// Gives back what it was made of.
-    pub fn close(self) -> Parts<K>
+    pub fn close(self) -> Parts<K, J>
         ensures fleet { result.fleet ≡ self.core }
         ensures publisher { (result.publisher.list ≡ self.core.list)
             × (result.publisher.staged ≡ None)
@@ -135,7 +142,9 @@ impl<K: Sink, J: Naming> Provisioner<K, J> {
         ensures output { (K.held result.output ≡ self.written)
             × (K.faults result.output ≡ self.faults) }
         ensures failed { result.log_failed ≡ self.failed }
-        ensures logged { IsLogged result.publisher.list (K.held result.output) result.log_failed }
+        ensures starved { result.starved.total ≡ self.starved }
+        ensures logged { IsLogged result.publisher.list self.starved
+            (K.held result.output) result.log_failed }
         ensures cause { MatchBool result.log_failed (HasRisen 0 (K.faults result.output))
             (K.faults result.output ≡ 0) }
     {
@@ -144,13 +153,14 @@ impl<K: Sink, J: Naming> Provisioner<K, J> {
             publisher,
             output,
             log_failed,
-            of: _,
+            starved,
         } = self;
         Parts {
             fleet,
             publisher,
             output,
             log_failed,
+            starved,
         }
     }
 

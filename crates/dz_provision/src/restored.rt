@@ -1,6 +1,7 @@
 //! Zones that are restored when a server starts again.
 
-ghost use Rattle.std.specs.Prelude.{◌≡◌, ◌≢◌, ◌⊎◌, ◌↔◌, ◌+◌, ◌-◌, ◌<◌, ◌≤◌, ◌^◌, ℕ, List, Option, Some, None, true, false, length, is_some, slice_get, IfOk, OnOk, option_map};
+ghost use Rattle.std.specs.Prelude.{◌≡◌, ◌≢◌, ◌⊎◌, ◌↔◌, ◌+◌, ◌-◌, ◌<◌, ◌≤◌, ◌^◌, ℕ, List, Option, Some, None, true};
+ghost use Rattle.std.specs.Prelude.{false, length, is_some, slice_get, IfOk, OnOk, option_map};
 ghost use Rattle.std.specs.Option.{ForSome};
 ghost use mathlib.Core.List.{IsPrefix};
 ghost use Rattle.dz_io.specs.Counts.{HasRisen};
@@ -12,7 +13,8 @@ ghost use Rattle.dz_store.specs.Store.{kept};
 ghost use Rattle.dz_history.specs.Legal.{IsLegal};
 ghost use Rattle.dz_fleet.specs.Core.{state_of, settled, failed_core};
 ghost use Rattle.dz_fleet.specs.Sound.{IsFlying};
-ghost use Rattle.dz_restore.specs.Restoring.{moment_of, may_return, sent_with, ended_with, restore_one, restored, told};
+ghost use Rattle.dz_restore.specs.Restoring.{moment_of, may_return, sent_with, ended_with, restore_one, restored};
+ghost use Rattle.dz_restore.specs.Restoring.{told};
 ghost use Rattle.dz_provision.specs.inner.Told.{HasStopped, HadTurn, HadTurns};
 
 use crate::naming::Naming;

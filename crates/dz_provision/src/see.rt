@@ -1,6 +1,6 @@
 //! Calls under the lock, beside a reading that is shown the list.
 
-ghost use Rattle.std.specs.Prelude.{◌≡◌, ◌<◌, ◌^◌, false, true, length, Ok, Err, IsErr, IfOk, IfSome, OnOk, MatchResult};
+ghost use Rattle.std.specs.Prelude.{◌≡◌, ◌<◌, ◌+◌, ◌^◌, false, true, length, Ok, Err, IsErr, IfOk, IfSome, OnOk};
 ghost use mathlib.Core.List.{IsPrefix};
 ghost use Rattle.dz_io.specs.Counts.{HasRisen};
 ghost use Rattle.dz_history.specs.Legal.{IsLegal};
@@ -8,9 +8,8 @@ ghost use Rattle.dz_desk.specs.Hearing.{IsHeard, IsWitnessed};
 ghost use Rattle.dz_job.specs.Job.{transfer_for};
 ghost use Rattle.dz_fleet.specs.Sound.{IsGiven, IsSound};
 ghost use Rattle.dz_fleet.specs.Weighing.{is_taken};
-ghost use Rattle.dz_report.specs.Lines.{verdict_lines};
-ghost use Rattle.dz_provision.specs.Endings.{settled_ending, failed_ending, starved_ending};
-ghost use Rattle.dz_provision.specs.Held.{IsHandedOut, IsSettledAloud, IsFailedAloud, IsStarvedAloud, IsHeardAloud, IsSaid};
+ghost use Rattle.dz_provision.specs.Endings.{settled_ending, failed_ending, starved_ending, starved_in};
+ghost use Rattle.dz_provision.specs.Held.{IsHandedOut, IsSettledAloud, IsFailedAloud, IsStarvedAloud, IsHeardAloud};
 ghost use Rattle.dz_provision.specs.Witness.{IsWitnessOf};
 ghost use Rattle.dz_provision.specs.inner.Ready.{is_want};
 ghost use Rattle.dz_provision.specs.Keeping.{IsLastVerdict};
@@ -19,7 +18,6 @@ ghost use Rattle.dz_provision.specs.Receipts.{IsHandedAt, IsSettledAt, IsFailedA
 use crate::ending::{Ended, failed, settled, starved};
 use crate::naming::Naming;
 use crate::provisioner::{LogFault, Provisioner, Unmade};
-use crate::starved::starved_line;
 use crate::witness::Witness;
 use dz_desk::{Hearing, Reading, Told};
 use dz_fleet::{Due, Failure, Job, Verdict};
@@ -29,6 +27,7 @@ use dz_take::Finished;
 use std::alloc::Global;
 use std::snapshot::Snapshot;
 use std::sync::Wait;
+use std::sync::ledger::Share;
 
 impl<K: Sink, J: Naming> Provisioner<K, J> {
     /// Shows the list to a reading: whether it has seen this list and no longer one.
@@ -60,7 +59,8 @@ impl<K: Sink, J: Naming> Provisioner<K, J> {
         ensures heard { IfSome result (λ hearing.
             IsHeard ((k : K) × HasRisen 0 (K.faults k)) reading.new.list peer.now zone.now
             hearing) }
-        ensures witnessed { IfSome result (IsWitnessed IsWitnessOf reading.new.list peer.now zone.now) }
+        ensures witnessed { IfSome result
+            (IsWitnessed IsWitnessOf reading.new.list peer.now zone.now) }
         ensures made { IfSome result (λ hearing.
             IsHeardAloud self.old peer.now zone.now hearing self.new) }
     {
@@ -100,6 +100,7 @@ impl<K: Sink, J: Naming> Provisioner<K, J> {
         rt: &R,
         alloc: Global,
         reading: &mut Reading,
+        share: &mut Share<J>,
         job: Job,
         finished: Finished,
         now: u64,
@@ -108,6 +109,7 @@ impl<K: Sink, J: Naming> Provisioner<K, J> {
         requires own { reading.old.book ≡ J.publisher }
         requires list { reading.old.list ≡ self.old.core.list }
         requires legal { IsLegal reading.old.list }
+        requires part { 0 < share.old.parts }
         requires given { IsGiven self.old.core.list job }
         requires transfer { finished.transfer ≡ transfer_for job }
         requires moment { now < 2 ^ 40 }
@@ -120,13 +122,15 @@ impl<K: Sink, J: Naming> Provisioner<K, J> {
             (λ v. IsSettledAloud self.old job finished.octets now v self.new) }
         ensures ending { result.ending
             ≡ settled_ending job finished.octets now result.answer }
+        ensures parts { share.new.parts ≡ share.old.parts }
+        ensures counted { share.new.amount ≡ share.old.amount + starved_in result.ending }
         ensures last { IfOk result.answer (λ v. is_taken v ≡ true
             → IsLastVerdict self.new.core.list v) }
         ensures cause { result.answer ≡ Err Unmade.LogFault → (k : K) × HasRisen 0 (K.faults k) }
     {
         let of = Snapshot::of(&job);
         let read = Snapshot::of(&finished);
-        let answer = self.settle_aloud(rt, alloc, reading, job, finished, now);
+        let answer = self.settle_aloud(rt, alloc, reading, share, job, finished, now);
         settled(of, read, now, answer)
     }
 
@@ -136,6 +140,7 @@ impl<K: Sink, J: Naming> Provisioner<K, J> {
         rt: &R,
         alloc: Global,
         reading: &mut Reading,
+        share: &mut Share<J>,
         job: Job,
         finished: Finished,
         now: u64,
@@ -144,6 +149,7 @@ impl<K: Sink, J: Naming> Provisioner<K, J> {
         requires own { reading.old.book ≡ J.publisher }
         requires list { reading.old.list ≡ self.old.core.list }
         requires legal { IsLegal reading.old.list }
+        requires part { 0 < share.old.parts }
         requires given { IsGiven self.old.core.list job }
         requires transfer { finished.transfer ≡ transfer_for job }
         requires moment { now < 2 ^ 40 }
@@ -156,6 +162,9 @@ impl<K: Sink, J: Naming> Provisioner<K, J> {
             (λ v. IsSettledAloud self.old job finished.octets now v self.new) }
         ensures last { IfOk result (λ v. is_taken v ≡ true
             → IsLastVerdict self.new.core.list v) }
+        ensures parts { share.new.parts ≡ share.old.parts }
+        ensures counted { share.new.amount ≡ share.old.amount
+            + starved_in (settled_ending job finished.octets now result) }
         ensures cause { result ≡ Err Unmade.LogFault → (k : K) × HasRisen 0 (K.faults k) }
     {
         let zone = *job.zone();
@@ -167,28 +176,11 @@ impl<K: Sink, J: Naming> Provisioner<K, J> {
             Ok((verdict, told)) => {
                 if is_want(&verdict) {
                     drop(told);
-                    return self.say_starved(&zone, Verdict::OutOfMemory);
+                    return self.say_starved(share, &zone, Verdict::OutOfMemory);
                 }
                 show_taken(rt, reading, &verdict, told);
                 Ok(verdict)
             }
-        }
-    }
-
-    /// Says that memory ran out for the transfer of a zone, and answers how its job ended.
-    fn say_starved<T: Drop>(&mut self, zone: &Name, how: T) -> Result<T, Unmade>
-        ensures answer { MatchResult result (λ answer. answer ≡ how)
-            (λ unmade. unmade ≡ Unmade.LogFault) }
-        ensures said { OnOk result
-            (IsSaid self.old (verdict_lines zone.now Verdict.OutOfMemory) (Ok tt) self.new) }
-        ensures cause { result ≡ Err Unmade.LogFault → (k : K) × HasRisen 0 (K.faults k) }
-    {
-        let line = starved_line(zone);
-        let said = self.say(line.as_slice());
-        let _ = &self.log_failed;
-        match said {
-            Ok(()) => Ok(how),
-            Err(_) => Err(Unmade::LogFault),
         }
     }
 
@@ -227,31 +219,38 @@ impl<K: Sink, J: Naming> Provisioner<K, J> {
     }
 
     /// Ends a job that failed for want of memory, says so, and answers by the list.
-    pub(crate) fn starve_now(&mut self, job: Job, now: u64) -> Ended<Failure>
+    pub(crate) fn starve_now(&mut self, share: &mut Share<J>, job: Job, now: u64) -> Ended<Failure>
+        requires part { 0 < share.old.parts }
         requires given { IsGiven self.old.core.list job }
         requires moment { now < 2 ^ 40 }
         ensures failed { IsFailedAt result.answer job
             (length self.old.core.list) self.old.core.list }
         ensures made { IfOk result.answer (λ f. IsStarvedAloud self.old job now f self.new) }
         ensures ending { result.ending ≡ starved_ending job now result.answer }
+        ensures parts { share.new.parts ≡ share.old.parts }
+        ensures counted { share.new.amount ≡ share.old.amount + starved_in result.ending }
         ensures cause { result.answer ≡ Err Unmade.LogFault → (k : K) × HasRisen 0 (K.faults k) }
     {
         let of = Snapshot::of(&job);
-        let answer = self.starve_aloud(job, now);
+        let answer = self.starve_aloud(share, job, now);
         starved(of, now, answer)
     }
 
     /// The failure of it. Of one that is stale nothing more is said.
-    fn starve_aloud(&mut self, job: Job, now: u64) -> Result<Failure, Unmade>
+    fn starve_aloud(&mut self, share: &mut Share<J>, job: Job, now: u64) -> Result<Failure, Unmade>
+        requires part { 0 < share.old.parts }
         requires given { IsGiven self.old.core.list job }
         requires moment { now < 2 ^ 40 }
         ensures failed { IsFailedAt result job (length self.old.core.list) self.old.core.list }
         ensures made { IfOk result (λ f. IsStarvedAloud self.old job now f self.new) }
+        ensures parts { share.new.parts ≡ share.old.parts }
+        ensures counted { share.new.amount ≡ share.old.amount
+            + starved_in (starved_ending job now result) }
         ensures cause { result ≡ Err Unmade.LogFault → (k : K) × HasRisen 0 (K.faults k) }
     {
         let zone = *job.zone();
         match self.fail_aloud(job, now) {
-            Ok(Failure::Failed) => self.say_starved(&zone, Failure::Failed),
+            Ok(Failure::Failed) => self.say_starved(share, &zone, Failure::Failed),
             Ok(Failure::Stale(position)) => Ok(Failure::Stale(position)),
             Err(unmade) => Err(unmade),
         }

@@ -15,6 +15,7 @@ use dz_name::Name;
 use dz_take::Finished;
 use std::alloc::Global;
 use std::mem::ManuallyDrop;
+use std::sync::ledger::Share;
 use std::sync::{Mutex, Wait};
 
 /// Something behind a lock, for threads to share. [`Locked::close`] takes it out.
@@ -68,6 +69,8 @@ impl<K: Sink, J: Naming> Ear for Locked<Provisioner<K, J>> {
 }
 
 impl<K: Sink, J: Naming> Jobs for Locked<Provisioner<K, J>> {
+    type Counted = J;
+
     /// Hands it out under the lock, once the reading has seen the list that is there and no longer one.
     fn hand_out<R: Wait>(&self, rt: &R, reading: &mut Reading, now: u64) -> Result<Due, LogFault> {
         'locks: for _ in rt.forever() {
@@ -84,6 +87,7 @@ impl<K: Sink, J: Naming> Jobs for Locked<Provisioner<K, J>> {
         rt: &R,
         alloc: Global,
         reading: &mut Reading,
+        share: &mut Share<J>,
         job: Job,
         finished: Finished,
         now: u64,
@@ -91,7 +95,7 @@ impl<K: Sink, J: Naming> Jobs for Locked<Provisioner<K, J>> {
         'locks: for _ in rt.forever() {
             let mut inside = self.lock.lock(rt);
             if inside.is_seen(rt, reading) {
-                return inside.settle_seen(rt, alloc, reading, job, finished, now);
+                return inside.settle_seen(rt, alloc, reading, share, job, finished, now);
             }
         }
         unreachable!()
@@ -107,11 +111,18 @@ impl<K: Sink, J: Naming> Jobs for Locked<Provisioner<K, J>> {
         unreachable!()
     }
 
-    fn starve<R: Wait>(&self, rt: &R, reading: &mut Reading, job: Job, now: u64) -> Ended<Failure> {
+    fn starve<R: Wait>(
+        &self,
+        rt: &R,
+        reading: &mut Reading,
+        share: &mut Share<J>,
+        job: Job,
+        now: u64,
+    ) -> Ended<Failure> {
         'locks: for _ in rt.forever() {
             let mut inside = self.lock.lock(rt);
             if inside.is_seen(rt, reading) {
-                return inside.starve_now(job, now);
+                return inside.starve_now(share, job, now);
             }
         }
         unreachable!()

@@ -20,7 +20,7 @@ pub(crate) struct Unkept {
 }
 
 impl<K: Sink, J: Naming> Provisioner<K, J> {
-    /// Says that a store couldn't keep or forget a zone, and why. The root stands for all zones.
+    /// Says that a store couldn't keep or forget a zone, and why. The root is for all zones.
     ///
     /// # Errors
     ///

@@ -1,5 +1,6 @@
 -- What devices and clocks tell, step by step, and how counts rise.
-use Rattle.std.proofs.Common.{inl, inr, ℕ, ◌+◌, ◌≤◌, List, [], ◌++◌, length, take, Option, None, Some, refl, sym, ap, ◌∙◌, append_assoc, length-append, arith}
+use Rattle.std.proofs.Common.{inl, inr, ℕ, ◌+◌, ◌≤◌, List, [], ◌++◌, length, take, Option, None, Some, refl, sym, ap}
+use Rattle.std.proofs.Common.{◌∙◌, append_assoc, length-append, arith}
 use Rattle.std.specs.Prelude.{IsSome, Result, Ok, Err, OnErr}
 use Rattle.std.proofs.Math.Seq.{take-length, take-append-add}
 use Rattle.std.proofs.lemmas.List.{append-nil, take-append-le}
@@ -10,11 +11,13 @@ pub gains_none : {A : Type 0} (held : Option (List A)) → Gains [] held held
 gains_none None = refl
 gains_none (Some items) = ap Some (sym (append-nil items))
 
-pub gains_more : {A : Type 0} (xs ys : List A) (before middle now : Option (List A)) → Gains xs before middle → Gains ys middle now → Gains (xs ++ ys) before now
+pub gains_more : {A : Type 0} (xs ys : List A) (before middle now : Option (List A)) → Gains xs before middle
+    → Gains ys middle now → Gains (xs ++ ys) before now
 gains_more xs ys None middle now one two = cc (one, two)
 gains_more xs ys (Some held) middle now one two = two ∙ (rw one (ap Some (append_assoc held xs ys)))
 
-pub tells_gained : {A : Type 0} (xs : List A) (before now : Option (List A)) → Tells [] before → Gains xs before now → Tells xs now
+pub tells_gained : {A : Type 0} (xs : List A) (before now : Option (List A)) → Tells [] before → Gains xs before now
+    → Tells xs now
 tells_gained xs None now none gained = rw gained tt
 tells_gained xs (Some held) now none gained = rw gained (ap (λ items. items ++ xs) none)
 
@@ -22,11 +25,14 @@ tells_gained xs (Some held) now none gained = rw gained (ap (λ items. items ++ 
 pub still_none : {A : Type 0} (told : Option (List A)) → IsSome told → Gains [] told told
 still_none told some = gains_none told
 
-told_before : {A : Type 0} (xs : List A) (before now : Option (List A)) → Gains xs before now → IsSome now → IsSome before
+told_before : {A : Type 0} (xs : List A) (before now : Option (List A)) → Gains xs before now → IsSome now
+    → IsSome before
 told_before xs None now gained some = rw gained at some
 told_before xs (Some held) now gained some = refl
 
-pub still_more : {A : Type 0} (xs ys : List A) (before middle now : Option (List A)) → (IsSome middle → Gains xs before middle) → (IsSome now → Gains ys middle now) → IsSome now → Gains (xs ++ ys) before now
+pub still_more : {A : Type 0} (xs ys : List A) (before middle now : Option (List A))
+    → (IsSome middle → Gains xs before middle) → (IsSome now → Gains ys middle now) → IsSome now
+    → Gains (xs ++ ys) before now
 still_more xs ys before middle now one two some =
     let gained = two some in
     gains_more xs ys before middle now (one (told_before ys middle now gained some)) gained
@@ -38,18 +44,22 @@ prefix_of_all xs before now gained = (length xs, omega arith, rw (take-length xs
 pub prefix_of_none : (xs : List ℕ) (held : Option (List ℕ)) → GainsPrefix xs held held
 prefix_of_none xs held = (0, omega arith, gains_none held)
 
-pub prefix_of_more : (xs ys : List ℕ) (before middle now : Option (List ℕ)) → Gains xs before middle → GainsPrefix ys middle now → GainsPrefix (xs ++ ys) before now
+pub prefix_of_more : (xs ys : List ℕ) (before middle now : Option (List ℕ)) → Gains xs before middle
+    → GainsPrefix ys middle now → GainsPrefix (xs ++ ys) before now
 prefix_of_more xs ys before middle now one two = (
   length xs + two.0,
   omega (arith, length-append xs ys, two.1),
   rw (take-append-add xs ys two.0) (gains_more xs (take two.0 ys) before middle now one two.2),
 )
 
-pub prefix_of_first : (xs ys : List ℕ) (before now : Option (List ℕ)) → GainsPrefix xs before now → GainsPrefix (xs ++ ys) before now
-prefix_of_first xs ys before now part = (part.0, omega (arith, length-append xs ys, part.1), rw (take-append-le part.0 xs ys part.1) part.2)
+pub prefix_of_first : (xs ys : List ℕ) (before now : Option (List ℕ)) → GainsPrefix xs before now
+    → GainsPrefix (xs ++ ys) before now
+prefix_of_first xs ys before now part =
+    (part.0, omega (arith, length-append xs ys, part.1), rw (take-append-le part.0 xs ys part.1) part.2)
 
 -- ---- counts
-pub rises_more : (n more before middle now : ℕ) → HasRisenBy n before middle → HasRisenBy more middle now → HasRisenBy (n + more) before now
+pub rises_more : (n more before middle now : ℕ) → HasRisenBy n before middle → HasRisenBy more middle now
+    → HasRisenBy (n + more) before now
 rises_more n more before middle now (inl h) (inl i) = inl (omega (arith, h, i))
 rises_more n more before middle now (inl h) (inr i) = inr i
 rises_more n more before middle now (inr h) (inl i) = inr (omega (arith, h, i))

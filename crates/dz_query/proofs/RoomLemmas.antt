@@ -8,5 +8,6 @@ take_twice (suc n) zero xs less = absurd (omega arith)
 take_twice (suc n) (suc m) [] less = refl
 take_twice (suc n) (suc m) (x ∷ xs) less = ap (λ ys. x ∷ ys) (take_twice n m xs (omega arith))
 
-pub front_kept : {A : Type 0} (n m : ℕ) (xs rest : List A) → n ≤ length xs → n ≤ m → take n (take m (xs ++ rest)) ≡ take n xs
+pub front_kept : {A : Type 0} (n m : ℕ) (xs rest : List A) → n ≤ length xs → n ≤ m
+    → take n (take m (xs ++ rest)) ≡ take n xs
 front_kept n m xs rest within room = take_twice n m (xs ++ rest) room ∙ take-append-le n xs rest within

@@ -1,5 +1,6 @@
 -- Judge: what a listed address gets that asks for a zone, computed by the checker.
-use Rattle.std.specs.Prelude.{◌≡◌, ℕ, true, ◌+◌, ◌-◌, ◌*◌, nat_le, List, [], ◌∷◌, flat_map, Some, None, if◌then◌else◌, refl, codes}
+use Rattle.std.specs.Prelude.{◌≡◌, ℕ, true, ◌+◌, ◌-◌, ◌*◌, nat_le, List, [], ◌∷◌, flat_map, Some, None, if◌then◌else◌}
+use Rattle.std.specs.Prelude.{refl, codes}
 use Prim.Native.String.{String}
 use Rattle.dz_name.specs.Words.{Name, Octets, Kind}
 use Rattle.dz_name.specs.Name.{wire_of}
@@ -47,7 +48,8 @@ zone = record {
   apex = example;
   records =
       rr example TYPE_NS (hex "026e7307696e76616c696400")
-      ∷ rr example TYPE_SOA (hex "026e7307696e76616c69640004686f737407696e76616c69640000000005000000640000003c000002580000001e")
+      ∷ rr example TYPE_SOA
+      (hex "026e7307696e76616c69640004686f737407696e76616c69640000000005000000640000003c000002580000001e")
       ∷ rr (codes "www" ∷ example) TYPE_A (hex "c0000250") ∷ [];
 }
 
@@ -69,7 +71,8 @@ is_one = refl
 
 -- one message: SOA, NS, A and SOA
 pub a_whole_zone : stream (sent_of_name octets asked (Some (Some zone))) ≡
-    hex "00d5009084000001000400000000076578616d706c650000fc0001076578616d706c65000006000100000e10002e026e7307696e76616c69640004686f737407696e76616c69640000000005000000640000003c000002580000001e076578616d706c65000002000100000e10000c026e7307696e76616c69640003777777076578616d706c65000001000100000e100004c0000250076578616d706c65000006000100000e10002e026e7307696e76616c69640004686f737407696e76616c69640000000005000000640000003c000002580000001e"
+    hex
+    "00d5009084000001000400000000076578616d706c650000fc0001076578616d706c65000006000100000e10002e026e7307696e76616c69640004686f737407696e76616c69640000000005000000640000003c000002580000001e076578616d706c65000002000100000e10000c026e7307696e76616c69640003777777076578616d706c65000001000100000e100004c0000250076578616d706c65000006000100000e10002e026e7307696e76616c69640004686f737407696e76616c69640000000005000000640000003c000002580000001e"
 unfolding wire_of packed size_of question_octets message_octets header_octets two four
 a_whole_zone = refl
 
@@ -78,10 +81,12 @@ pub no_member : stream (sent_of_name octets asked None) ≡ hex "001900908009000
 unfolding bare_octets head_octets header_octets opt_octets flags_number two
 no_member = refl
 
-pub not_live : stream (sent_of_name octets asked (Some None)) ≡ hex "0019009080020001000000000000076578616d706c650000fc0001"
+pub not_live : stream (sent_of_name octets asked (Some None))
+    ≡ hex "0019009080020001000000000000076578616d706c650000fc0001"
 unfolding bare_octets head_octets header_octets opt_octets flags_number two
 not_live = refl
 
 -- where no address is listed, each request gets what is due
-pub none_listed : (list : List Entry) (served : List Served) → framed [] list served ≡ stream (flat_map (sent_for list true) served)
+pub none_listed : (list : List Entry) (served : List Served)
+    → framed [] list served ≡ stream (flat_map (sent_for list true) served)
 none_listed list served = refl

@@ -63,7 +63,8 @@ links_told links sights moments = record { links = links; sights = sights; momen
 
 -- these links came back. The requests of all of them are one list, over which the beginnings never shrink. It is known
 -- whether one of them ran out of memory
-pub record AreVisits (starved : Bool) (downstream : List Octets) (may_fail : Type 0) (may_give : ℕ → Bool) (from : ℕ) (list : List Entry) (before now : LinksTold) : Type 0 where
+pub record AreVisits (starved : Bool) (downstream : List Octets) (may_fail : Type 0) (may_give : ℕ → Bool) (from : ℕ)
+    (list : List Entry) (before now : LinksTold) : Type 0 where
   pub visits : List Visit
   pub links : Gains (links_of visits) before.links now.links
   pub each : AllByRecursion (IsVisit downstream list) visits

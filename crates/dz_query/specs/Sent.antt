@@ -1,5 +1,6 @@
 -- Meaning: what is sent to a listed address that asks for a whole zone (RFC 5936 sections 2.2 and 4.1).
-use Rattle.std.specs.Prelude.{ℕ, Bool, ◌==◌, ◌&&◌, List, [], ◌∷◌, Option, Some, None, option_map, is_some, if◌then◌else◌}
+use Rattle.std.specs.Prelude.{ℕ, Bool, ◌==◌, ◌&&◌, List, [], ◌∷◌, Option, Some, None, option_map, is_some}
+use Rattle.std.specs.Prelude.{if◌then◌else◌}
 use Rattle.std.specs.List.{list_any}
 use Rattle.std.specs.Str.{bytes_eq}
 use Rattle.dz_name.specs.Words.{Name, Octets}
@@ -25,7 +26,8 @@ use Rattle.dz_history.specs.After.{after}
 
 -- a question for a whole zone: opcode QUERY, class IN, type AXFR (RFC 5936 section 2.1)
 abbrev pub is_for_zone : Asked → Bool
-is_for_zone asked = opcode_of asked.header.flags == OPCODE_QUERY && (asked.question.class == CLASS_IN && asked.question.kind == TYPE_AXFR)
+is_for_zone asked = opcode_of asked.header.flags
+    == OPCODE_QUERY && (asked.question.class == CLASS_IN && asked.question.kind == TYPE_AXFR)
 
 -- the question of a request, where it is for a whole zone, which otherwise has NOTIMP
 abbrev pub zone_asked : Request → Option Asked
@@ -74,7 +76,8 @@ held_at slots zone moment = option_map (live_version moment) (slot_of zone slots
 -- the messages that answer a request, by the list; none where it isn't for a whole zone
 abbrev pub sent_to : List Entry → Octets → ℕ → Option Asked → List Octets
 sent_to list octets moment None = []
-sent_to list octets moment (Some asked) = sent_of_name octets asked (held_at (after list).table asked.question.name moment)
+sent_to list octets moment (Some asked) =
+    sent_of_name octets asked (held_at (after list).table asked.question.name moment)
 
 -- the messages that answer a request for a whole zone, after a list of taken transfers, at a moment
 unfoldable pub sent : List Entry → Packet → ℕ → List Octets

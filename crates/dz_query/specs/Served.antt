@@ -1,5 +1,6 @@
 -- Meaning: requests that came to a worker one after the other, and what became of the replies that were due.
-use Rattle.std.specs.Prelude.{⊤, ◌≡◌, ◌≤◌, ◌+◌, ℕ, Bool, true, false, List, [], ◌∷◌, length, map, take, Option, Some, None, IsSome, if◌then◌else◌}
+use Rattle.std.specs.Prelude.{⊤, ◌≡◌, ◌≤◌, ◌+◌, ℕ, Bool, true, false, List, [], ◌∷◌, length, map, take, Option, Some}
+use Rattle.std.specs.Prelude.{None, IsSome, if◌then◌else◌}
 use Rattle.std.specs.List.{flat_map}
 use Rattle.dz_name.specs.Words.{Octets}
 use Rattle.dz_io.specs.Packets.{Packet, packet}

@@ -29,7 +29,8 @@ requests_in peer octets = map (λ message. packet message peer) (messages_in oct
 
 -- octets were read, and the whole messages in them were answered, each at the moment in its place; each had a look of
 -- its own
-pub record AreRead (may_fail : Type 0) (may_give : ℕ → Bool) (from : ℕ) (list : List Entry) (peer : Peer) (before now : Flow) (served : List Served) : Type 0 where
+pub record AreRead (may_fail : Type 0) (may_give : ℕ → Bool) (from : ℕ) (list : List Entry) (peer : Peer)
+    (before now : Flow) (served : List Served) : Type 0 where
   pub octets : Octets
   pub read : Gains octets before.read now.read
   pub are : requests served ≡ requests_in peer octets
@@ -38,19 +39,22 @@ pub record AreRead (may_fail : Type 0) (may_give : ℕ → Bool) (from : ℕ) (l
   pub sights : HasRisenBy (length served) before.sights now.sights
 
 -- all replies were written
-pub record HasEnded (downstream : List Octets) (may_fail : Type 0) (may_give : ℕ → Bool) (from : ℕ) (list : List Entry) (peer : Peer) (before now : Flow) : Type 0 where
+pub record HasEnded (downstream : List Octets) (may_fail : Type 0) (may_give : ℕ → Bool) (from : ℕ) (list : List Entry)
+    (peer : Peer) (before now : Flow) : Type 0 where
   pub served : List Served
   pub asked : AreRead may_fail may_give from list peer before now served
   pub written : Gains (framed downstream list served) before.written now.written
 
 -- a prefix of the replies was written
-pub record HasBroken (downstream : List Octets) (may_fail : Type 0) (may_give : ℕ → Bool) (from : ℕ) (list : List Entry) (peer : Peer) (before now : Flow) : Type 0 where
+pub record HasBroken (downstream : List Octets) (may_fail : Type 0) (may_give : ℕ → Bool) (from : ℕ)
+    (list : List Entry) (peer : Peer) (before now : Flow) : Type 0 where
   pub served : List Served
   pub asked : AreRead may_fail may_give from list peer before now served
   pub written : GainsPrefix (framed downstream list served) before.written now.written
 
 -- the last request asked for a whole zone, and all replies before it were written, and nothing of its own
-pub record HasStarved (downstream : List Octets) (may_fail : Type 0) (may_give : ℕ → Bool) (from : ℕ) (list : List Entry) (peer : Peer) (before now : Flow) : Type 0 where
+pub record HasStarved (downstream : List Octets) (may_fail : Type 0) (may_give : ℕ → Bool) (from : ℕ)
+    (list : List Entry) (peer : Peer) (before now : Flow) : Type 0 where
   pub served : List Served
   pub last : Served
   pub asked : AreRead may_fail may_give from list peer before now (served ++ last ∷ [])
@@ -59,9 +63,12 @@ pub record HasStarved (downstream : List Octets) (may_fail : Type 0) (may_give :
 
 -- a session over a link by its end: all replies were written, a prefix of them, or those before memory ran out
 abbrev pub IsStream : StreamEnd → List Octets → Type 0 → (ℕ → Bool) → ℕ → List Entry → Peer → Flow → Flow → Type 0
-IsStream Ended downstream may_fail may_give from list peer before now = HasEnded downstream may_fail may_give from list peer before now
-IsStream Failed downstream may_fail may_give from list peer before now = HasBroken downstream may_fail may_give from list peer before now
-IsStream OutOfMemory downstream may_fail may_give from list peer before now = HasStarved downstream may_fail may_give from list peer before now
+IsStream Ended downstream may_fail may_give from list peer before now =
+    HasEnded downstream may_fail may_give from list peer before now
+IsStream Failed downstream may_fail may_give from list peer before now =
+    HasBroken downstream may_fail may_give from list peer before now
+IsStream OutOfMemory downstream may_fail may_give from list peer before now =
+    HasStarved downstream may_fail may_give from list peer before now
 
 -- nothing is left where the link ended, and its count of faults rose where it failed
 abbrev pub EndsBy : StreamEnd → Option Octets → ℕ → ℕ → Type 0

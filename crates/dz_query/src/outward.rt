@@ -1,6 +1,7 @@
 //! Whole zones that are asked for over a link (RFC 5936).
 
-ghost use Rattle.std.specs.Prelude.{◌≡◌, ◌≤◌, ℕ, false, length, take, OnOk, OnErr, IfOk, IfSome, IfNone, Some, None, if◌then◌else◌};
+ghost use Rattle.std.specs.Prelude.{◌≡◌, ◌≤◌, ℕ, false, length, take, OnOk, OnErr, IfOk, IfSome, IfNone, Some, None};
+ghost use Rattle.std.specs.Prelude.{if◌then◌else◌};
 ghost use Rattle.std.specs.Arc.{arc_value};
 ghost use mathlib.Core.List.{IsPrefix};
 ghost use Rattle.dz_io.specs.Counts.{HasRisenBy};
@@ -14,7 +15,8 @@ ghost use Rattle.dz_message.specs.Piece.{written};
 ghost use Rattle.dz_history.specs.After.{after};
 ghost use Rattle.dz_desk.specs.Seen.{refused};
 ghost use Rattle.dz_query.specs.Answer.{answered};
-ghost use Rattle.dz_query.specs.Sent.{is_for_zone, zone_asked, is_listed, transfer_in, refusal, live_version, sent_of_name, held_at};
+ghost use Rattle.dz_query.specs.Sent.{is_for_zone, zone_asked, is_listed, transfer_in, refusal, live_version};
+ghost use Rattle.dz_query.specs.Sent.{sent_of_name, held_at};
 ghost use Rattle.dz_query.specs.inner.Sending.{held_of, Sends, IsGoing};
 
 use crate::answered::Answered;

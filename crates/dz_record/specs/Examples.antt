@@ -1,5 +1,6 @@
 -- Judge: records, their RDATA and their order, computed by the checker.
-use Rattle.std.specs.Prelude.{◌≡◌, refl, [], ◌∷◌, ◌++◌, codes, true, Err, ℕ, ◌-◌, Bool, false, List, map, replicate, Option, Some, None, Ok}
+use Rattle.std.specs.Prelude.{◌≡◌, refl, [], ◌∷◌, ◌++◌, codes, true, Err, ℕ, ◌-◌, Bool, false, List, map, replicate}
+use Rattle.std.specs.Prelude.{Option, Some, None, Ok}
 use Rattle.std.specs.declared.cmp.Ordering.TheVariants.{Less, Equal, Greater}
 use Rattle.dz_name.specs.Words.{Name, Octets, Kind}
 use Rattle.dz_name.specs.Name.{wire_of, labels_in}
@@ -8,7 +9,8 @@ use Rattle.dz_name.specs.declared.dns.TheConstants.{TYPE_A, TYPE_TXT, TYPE_AXFR,
 use Rattle.dz_record.specs.declared.fields.Field.TheVariants.{FixedLength, DomainName, Remainder}
 use Rattle.dz_record.specs.declared.rr.RrFault.TheVariants.{BadType, BadRdata}
 use Rattle.dz_record.specs.Fields.{fields_of, field_end, fits, is_rdata}
-use Rattle.dz_record.specs.Record.{Record, record_of, record_octets, record_order, same_record, is_bad_type, full_order, soa_of, target_of}
+use Rattle.dz_record.specs.Record.{Record, record_of, record_octets, record_order, same_record, is_bad_type}
+use Rattle.dz_record.specs.Record.{full_order, soa_of, target_of}
 use Rattle.dz_record.specs.Records.{distinct}
 use Rattle.dz_name.specs.Reading.{name_at, name_from, element_at, canonical_end}
 
@@ -136,7 +138,8 @@ held_nowhere = 24 ∷ 30 ∷ 38 ∷ 41 ∷ 249 ∷ 250 ∷ 251 ∷ 252 ∷ 253 �
 pub no_zone_holds_these : map is_bad_type held_nowhere ≡ replicate 11 true
 no_zone_holds_these = refl
 
-pub no_record_is_made_of_these : map (λ kind. record_of [] kind 0 (codes "x")) held_nowhere ≡ replicate 11 (Err BadType)
+pub no_record_is_made_of_these : map (λ kind. record_of [] kind 0 (codes "x")) held_nowhere
+    ≡ replicate 11 (Err BadType)
 no_record_is_made_of_these = refl
 
 pub zones_hold_their_neighbours : map is_bad_type (23 ∷ 25 ∷ 29 ∷ 31 ∷ 37 ∷ 39 ∷ 40 ∷ 42 ∷ 248 ∷ 256 ∷ [])
@@ -150,7 +153,8 @@ no_record_of_bad_rdata = refl
 -- ---- the TTL has 31 bits: with the highest bit it counts as 0 (RFC 2181 section 8), and records that differ in it
 -- alone are the same (section 5)
 abbrev lasting : ℕ → Record
-lasting ttl = record { owner = codes "a" ∷ codes "example" ∷ []; kind = TYPE_A; ttl = ttl; rdata = 10 ∷ 0 ∷ 0 ∷ 1 ∷ [] }
+lasting ttl =
+    record { owner = codes "a" ∷ codes "example" ∷ []; kind = TYPE_A; ttl = ttl; rdata = 10 ∷ 0 ∷ 0 ∷ 1 ∷ [] }
 
 pub longest_ttl : record_of (lasting 0).owner TYPE_A 0x7fffffff (lasting 0).rdata ≡ Ok (lasting 0x7fffffff)
 unfolding judged

@@ -1,7 +1,9 @@
 -- Judge: the laws of the order of records (RFC 2181 section 5, RFC 4034 section 6).
 use Rattle.std.specs.Prelude.{◌≡◌, ℕ, Bool, true, false, ◌==◌, ◌&&◌, refl}
 use Rattle.std.specs.Bool.{Decides}
-use Rattle.std.specs.Cmp.{IsTotalOrder, IsEquivalence, IsPartialEquivalence, IsPartialOrder, on_total, nat_cmp_total, eq_by_cmp_equiv, partial_equiv_from_equiv, partial_order_from_agreeing_total, tied_itself, Equal-is, unsigned_Decides}
+use Rattle.std.specs.Cmp.{IsTotalOrder, IsEquivalence, IsPartialEquivalence, IsPartialOrder, on_total, nat_cmp_total}
+use Rattle.std.specs.Cmp.{eq_by_cmp_equiv, partial_equiv_from_equiv, partial_order_from_agreeing_total, tied_itself}
+use Rattle.std.specs.Cmp.{Equal-is, unsigned_Decides}
 use Rattle.std.specs.Cmp.Lexicographic.{slice_cmp, lists_total}
 use Rattle.std.specs.FinMap.{slice_cmp-IsAntisymmetric, nat_cmp-IsAntisymmetric}
 use Rattle.std.specs.Ordering.{nat_cmp, is_eq, eq_by_cmp, as_partial_cmp, ordering_then}
@@ -18,7 +20,9 @@ use Rattle.dz_name.specs.Order.{canonical_total, same_ties as names_tie}
 use Rattle.dz_record.specs.Record.{Record, record_order, same_record}
 
 pub record_total : IsTotalOrder record_order
-record_total = then_total (then_total (on_total (λ (r : Record). r.owner) canonical_total) (on_total (λ (r : Record). r.kind) nat_cmp_total)) (on_total (λ (r : Record). r.rdata) (lists_total nat_cmp_total))
+record_total = then_total
+    (then_total (on_total (λ (r : Record). r.owner) canonical_total) (on_total (λ (r : Record). r.kind) nat_cmp_total))
+    (on_total (λ (r : Record). r.rdata) (lists_total nat_cmp_total))
 
 then_eq : (a b : Ordering) → is_eq (ordering_then a b) ≡ (is_eq a && is_eq b)
 then_eq Less b = refl
@@ -37,11 +41,13 @@ numbers_tie a b = same_from_decides (a == b) (is_eq (nat_cmp a b)) (unsigned_Dec
 octets_decide : (a b : Octets) → Decides (is_eq (slice_cmp nat_cmp a b)) (a ≡ b)
 octets_decide a b = (
   λ t. slice_cmp-IsAntisymmetric nat_cmp-IsAntisymmetric a b ((Equal-is (slice_cmp nat_cmp a b)).0 t),
-  λ e. (Equal-is (slice_cmp nat_cmp a b)).1 (subst (λ x. slice_cmp nat_cmp a x ≡ Equal) e (tied_itself (lists_total nat_cmp_total) a)),
+  λ e. (Equal-is (slice_cmp nat_cmp a b)).1
+      (subst (λ x. slice_cmp nat_cmp a x ≡ Equal) e (tied_itself (lists_total nat_cmp_total) a)),
 )
 
 octets_tie : (a b : Octets) → bytes_eq a b ≡ is_eq (slice_cmp nat_cmp a b)
-octets_tie a b = same_from_decides (bytes_eq a b) (is_eq (slice_cmp nat_cmp a b)) (bytes_eq-Decides a b) (octets_decide a b)
+octets_tie a b =
+    same_from_decides (bytes_eq a b) (is_eq (slice_cmp nat_cmp a b)) (bytes_eq-Decides a b) (octets_decide a b)
 
 and_regroup : (a b c : Bool) → (a && (b && c)) ≡ ((a && b) && c)
 and_regroup true b c = refl
@@ -56,7 +62,8 @@ same_ties a b =
     ap (λ t. t && (a.kind == b.kind && bytes_eq a.rdata b.rdata)) (names_tie a.owner b.owner)
     ∙ (ap (λ t. is_eq x && (t && bytes_eq a.rdata b.rdata)) (numbers_tie a.kind b.kind)
     ∙ (ap (λ t. is_eq x && (is_eq y && t)) (octets_tie a.rdata b.rdata)
-    ∙ (and_regroup (is_eq x) (is_eq y) (is_eq z) ∙ sym (then_eq (ordering_then x y) z ∙ ap (λ t. t && is_eq z) (then_eq x y)))))
+    ∙ (and_regroup (is_eq x) (is_eq y) (is_eq z)
+    ∙ sym (then_eq (ordering_then x y) z ∙ ap (λ t. t && is_eq z) (then_eq x y)))))
 
 pub records_equal : IsEquivalence same_record
 records_equal = subst IsEquivalence (λ i a b. sym (same_ties a b) i) (eq_by_cmp_equiv record_total)

@@ -1,5 +1,6 @@
 -- Meaning: resource records of class IN (RFC 1035 section 3.2.1, RFC 2181 section 8).
-use Rattle.std.specs.Prelude.{◌≡◌, ℕ, ◌-◌, ◌<◌, ◌^◌, Bool, true, false, ◌==◌, ◌&&◌, ◌||◌, nat_le, nat_lt, ◌++◌, length, drop, Option, Some, None, Result, Ok, Err, if◌then◌else◌}
+use Rattle.std.specs.Prelude.{◌≡◌, ℕ, ◌-◌, ◌<◌, ◌^◌, Bool, true, false, ◌==◌, ◌&&◌, ◌||◌, nat_le, nat_lt, ◌++◌, length}
+use Rattle.std.specs.Prelude.{drop, Option, Some, None, Result, Ok, Err, if◌then◌else◌}
 use Rattle.std.specs.Str.{bytes_eq}
 use Rattle.std.specs.Ordering.{nat_cmp, on, then_cmp}
 use Rattle.std.specs.Cmp.Lexicographic.{slice_cmp}
@@ -11,7 +12,8 @@ use Rattle.dz_record.specs.declared.rr.Soa.{Soa}
 use Rattle.dz_record.specs.declared.rr.RrFault.{RrFault}
 use Rattle.dz_record.specs.declared.rr.RrFault.TheVariants.{BadRdata, BadType}
 use Rattle.dz_name.specs.Words.{Name, Octets, Kind}
-use Rattle.dz_name.specs.declared.dns.TheConstants.{TYPE_NS, TYPE_CNAME, TYPE_SOA, TYPE_PTR, TYPE_SIG, TYPE_NXT, TYPE_A6, TYPE_DNAME, TYPE_OPT, TYPE_TKEY, TYPE_ANY, CLASS_IN}
+use Rattle.dz_name.specs.declared.dns.TheConstants.{TYPE_NS, TYPE_CNAME, TYPE_SOA, TYPE_PTR, TYPE_SIG, TYPE_NXT}
+use Rattle.dz_name.specs.declared.dns.TheConstants.{TYPE_A6, TYPE_DNAME, TYPE_OPT, TYPE_TKEY, TYPE_ANY, CLASS_IN}
 
 -- a record: owner name, type number, TTL in seconds, and RDATA (RFC 1035 section 3.2.1)
 pub record Record : Type 0 where
@@ -22,7 +24,8 @@ pub record Record : Type 0 where
 
 -- types that no zone holds: SIG, NXT, A6, OPT, and the QTYPEs and Meta-TYPEs from 249 to 255 (RFC 6895 section 3.1)
 abbrev pub is_bad_type : Kind → Bool
-is_bad_type kind = kind == TYPE_SIG || (kind == TYPE_NXT || (kind == TYPE_A6 || (kind == TYPE_OPT || (nat_le TYPE_TKEY kind && nat_le kind TYPE_ANY))))
+is_bad_type kind = kind == TYPE_SIG
+    || (kind == TYPE_NXT || (kind == TYPE_A6 || (kind == TYPE_OPT || (nat_le TYPE_TKEY kind && nat_le kind TYPE_ANY))))
 
 -- a record that a zone may hold: its owner is a name, its type a 16-bit number, its TTL below 2^31 (RFC 2181 section
 -- 8), its RDATA in canonical form
@@ -50,7 +53,8 @@ same_record a b = same_name a.owner b.owner && (a.kind == b.kind && bytes_eq a.r
 
 -- the order of a zone's records: owner, type and RDATA (RFC 4034 sections 6.1 and 6.3)
 abbrev pub record_order : Record → Record → Ordering
-record_order = then_cmp (then_cmp (on (λ r. r.owner) canonical_order) (on (λ r. r.kind) nat_cmp)) (on (λ r. r.rdata) (slice_cmp nat_cmp))
+record_order = then_cmp (then_cmp (on (λ r. r.owner) canonical_order) (on (λ r. r.kind) nat_cmp))
+    (on (λ r. r.rdata) (slice_cmp nat_cmp))
 
 -- the order of owner, type, RDATA, and then TTL
 abbrev pub full_order : Record → Record → Ordering

@@ -1,6 +1,7 @@
 //! The fields of RDATA, type by type.
 
-ghost use Rattle.std.specs.Prelude.{◌≡◌, ◌≤◌, ◌+◌, ◌-◌, length, slice_index, nat_lt, Some, None, IfSome, if◌then◌else◌};
+ghost use Rattle.std.specs.Prelude.{◌≡◌, ◌≤◌, ◌+◌, ◌-◌, length, slice_index, nat_lt, Some, None, IfSome};
+ghost use Rattle.std.specs.Prelude.{if◌then◌else◌};
 ghost use Rattle.dz_record.specs.Fields.{fields_of, field_end, fits, is_rdata};
 
 use dz_name::canonical_name_end;

@@ -1,11 +1,13 @@
 //! Resource records.
 
-ghost use Rattle.std.specs.Prelude.{◌≡◌, ◌<◌, ◌≤◌, ◌⊎◌, length, ◌++◌, IsTrue, IfOk, OnOk, OnErr, IfErr, Ok, Err, true, false, is_ok, if◌then◌else◌};
+ghost use Rattle.std.specs.Prelude.{◌≡◌, ◌<◌, ◌≤◌, ◌⊎◌, length, ◌++◌, IsTrue, IfOk, OnOk, OnErr, IfErr, Ok, Err, true};
+ghost use Rattle.std.specs.Prelude.{false, is_ok, if◌then◌else◌};
 ghost use Rattle.dz_record.specs.inner.Kept.{octets_of};
 ghost use Rattle.dz_name.specs.Name.{wire_of, is_within, same_name, canonical_order};
 ghost use Rattle.std.specs.Ordering.{nat_cmp};
 ghost use Rattle.dz_record.specs.Fields.{is_rdata};
-ghost use Rattle.dz_record.specs.Record.{Record, IsRecord, same_record, record_order, full_order, record_octets, soa_numbers, soa_of, target_of, has_target, is_bad_type, ttl_of, record_of};
+ghost use Rattle.dz_record.specs.Record.{Record, IsRecord, same_record, record_order, full_order, record_octets};
+ghost use Rattle.dz_record.specs.Record.{soa_numbers, soa_of, target_of, has_target, is_bad_type, ttl_of, record_of};
 ghost use Rattle.dz_record.specs.Answers.{Makes};
 ghost use Rattle.dz_name.specs.Numbers.{two};
 

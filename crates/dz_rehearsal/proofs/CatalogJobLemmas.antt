@@ -1,5 +1,6 @@
 -- The two jobs of the catalog, its first transfer and its change: what is known of the core before and after each.
-use Rattle.std.proofs.Common.{◌≡◌, ◌≢◌, ℕ, zero, suc, ◌+◌, ◌^◌, ◌<◌, ◌≤◌, true, false, List, [], ◌∷◌, map, length, refl, sym, ◌∙◌, ap, subst, arith, Option, Some, None, length-append}
+use Rattle.std.proofs.Common.{◌≡◌, ◌≢◌, ℕ, zero, suc, ◌+◌, ◌^◌, ◌<◌, ◌≤◌, true, false, List, [], ◌∷◌, map, length}
+use Rattle.std.proofs.Common.{refl, sym, ◌∙◌, ap, subst, arith, Option, Some, None, length-append}
 use Rattle.std.specs.Prelude.{◌%◌, ◌==◌, slice_get, slice_index_or, if◌then◌else◌}
 use Rattle.std.proofs.lemmas.Bool.Decides.{nat_tests}
 use Rattle.dz_name.specs.Words.{Name, Octets}
@@ -29,14 +30,16 @@ use Rattle.dz_gen.specs.Outcomes.{first_of, next_of, catalog_version, changed_ve
 use Rattle.dz_gen.specs.Reading.{cat_test}
 use Rattle.dz_gen.proofs.CatalogLemmas.{catalog_is, catalog_comes}
 use Rattle.dz_gen.proofs.ChangedLemmas.{catalog_changes as catalog_changed}
-use Rattle.dz_rehearsal.specs.Life.{config, first_nodes, changed_nodes, member_of, reset_member, member_after, first_fold, changed_fold, Makes}
+use Rattle.dz_rehearsal.specs.Life.{config, first_nodes, changed_nodes, member_of, reset_member, member_after}
+use Rattle.dz_rehearsal.specs.Life.{first_fold, changed_fold, Makes}
 use Rattle.dz_rehearsal.proofs.LifeLemmas.{Life, with, with_other}
 use Rattle.dz_rehearsal.proofs.CatalogRefreshLemmas.{catalog_refresh, changed_refresh}
 use Rattle.dz_rehearsal.proofs.UsedLemmas.{catalog_octets, catalog_used, change_is}
 use Rattle.dz_rehearsal.proofs.ListsLemmas.{lists}
 use Rattle.dz_rehearsal.proofs.MembersLemmas.{members}
 use Rattle.dz_rehearsal.proofs.FirstLemmas.{first_is}
-use Rattle.dz_rehearsal.proofs.SeatLemmas.{HasSeats, seats_of, seat_count, first_named, after_named, member_there, member_is, place_is, stood, begun_empty}
+use Rattle.dz_rehearsal.proofs.SeatLemmas.{HasSeats, seats_of, seat_count, first_named, after_named, member_there}
+use Rattle.dz_rehearsal.proofs.SeatLemmas.{member_is, place_is, stood, begun_empty}
 use Rattle.dz_rehearsal.proofs.CatalogTurnLemmas.{asked, HasTurn, HasListing, HadTurn, had_turn, later}
 
 -- ---- the catalog's first transfer

@@ -21,7 +21,8 @@ use Rattle.dz_producer.proofs.CatalogLemmas.{find_kept}
 use Rattle.dz_gen.proofs.ReadingLemmas.{zones}
 use Rattle.dz_gen.proofs.SpelledLemmas.{four_digits, moved_is}
 use Rattle.dz_gen.proofs.CanonicalLemmas.{Respects, canonical_filter, same_parts}
-use Rattle.dz_gen.proofs.CatalogLemmas.{none_kept, all_filter, cat, IsBeside, catalog_is, below, no_more, first, server, version_beside, server_beside, members_beside}
+use Rattle.dz_gen.proofs.CatalogLemmas.{none_kept, all_filter, cat, IsBeside, catalog_is, below, no_more, first}
+use Rattle.dz_gen.proofs.CatalogLemmas.{server, version_beside, server_beside, members_beside}
 use Rattle.dz_gen.proofs.ChangedLemmas.{one_zone}
 
 -- ---- the SOA of a version

@@ -1,5 +1,6 @@
 -- The catalog's job, from a core in which no job is in flight and the catalog is due first to its publication.
-use Rattle.std.proofs.Common.{◌≡◌, ◌≢◌, ℕ, suc, ◌+◌, ◌^◌, ◌<◌, ◌≤◌, true, false, cond, set, take, drop, List, [], ◌∷◌, ◌++◌, map, length, get_or, refl, sym, ◌∙◌, ap, subst, arith, inl, Option, Some, None, Ok}
+use Rattle.std.proofs.Common.{◌≡◌, ◌≢◌, ℕ, suc, ◌+◌, ◌^◌, ◌<◌, ◌≤◌, true, false, cond, set, take, drop, List, [], ◌∷◌}
+use Rattle.std.proofs.Common.{◌++◌, map, length, get_or, refl, sym, ◌∙◌, ap, subst, arith, inl, Option, Some, None, Ok}
 use Rattle.std.specs.Prelude.{◌%◌, ◌==◌, slice_index_or, slice_get}
 use Rattle.std.proofs.lemmas.Bool.{eq-eqb}
 use Rattle.std.proofs.lemmas.List.{get_or-map}
@@ -22,7 +23,8 @@ use Rattle.dz_timer.specs.Values.{ValuesOf, fresh, departed, succeeded, turned_b
 use Rattle.dz_history.specs.declared.aftermath.Aftermath.{Aftermath}
 use Rattle.dz_history.specs.declared.aftermath.Aftermath.TheVariants.{Changes}
 use Rattle.dz_history.specs.State.{State, catalog_at, member_at, held_at, policy_at, stands}
-use Rattle.dz_history.specs.After.{after, step, decision_of, aftermath_of, counted, relisted, with_version, taken, listing_aftermath}
+use Rattle.dz_history.specs.After.{after, step, decision_of, aftermath_of, counted, relisted, with_version, taken}
+use Rattle.dz_history.specs.After.{listing_aftermath}
 use Rattle.dz_history.specs.Signed.{tsig_in}
 use Rattle.dz_history.specs.Places.{Seat, seats, place_at, catalog_seat, member_seat}
 use Rattle.dz_history.specs.declared.entry.Entry.{Entry}
@@ -34,8 +36,10 @@ use Rattle.dz_history.proofs.StandsLemmas.{catalog_step}
 use Rattle.dz_history.proofs.StateLemmas.{taken_catalog, listed_ok, held_catalog, aftermath_catalog, policy_catalog}
 use Rattle.dz_job.specs.Job.{JobOf, transfer_for, taken_for, refresh_in}
 use Rattle.dz_fleet.specs.declared.due.Due.TheVariants as due
-use Rattle.dz_fleet.specs.Values.{value_at, value_in, changed, values_after, relisted_values, carried, carried_from, kept, same_primaries}
-use Rattle.dz_fleet.specs.Core.{Core, state_of, first_place, ask_of, due_of, job_for, after_due, ended_of, settled, after_success, tsig_of, is_accepted, used_of, entry_for, succeeded_in}
+use Rattle.dz_fleet.specs.Values.{value_at, value_in, changed, values_after, relisted_values, carried, carried_from}
+use Rattle.dz_fleet.specs.Values.{kept, same_primaries}
+use Rattle.dz_fleet.specs.Core.{Core, state_of, first_place, ask_of, due_of, job_for, after_due, ended_of, settled}
+use Rattle.dz_fleet.specs.Core.{after_success, tsig_of, is_accepted, used_of, entry_for, succeeded_in}
 use Rattle.dz_fleet.specs.Sound.{IsAmong, IsFlying}
 use Rattle.dz_fleet.proofs.EventLemmas.{IsWell, well_due, well_settled}
 use Rattle.dz_fleet.proofs.GivenLemmas.{given_now}

@@ -1,5 +1,6 @@
 -- The core between the script's jobs (`Life`), and a job that leads from one such core to the next (`Makes`).
-use Rattle.std.proofs.Common.{◌≡◌, ℕ, ◌<◌, ◌≤◌, ◌==◌, Bool, true, false, List, [], ◌∷◌, ◌++◌, map, Option, Some, refl, sym, ap, ◌∙◌, inl, inr, eq-eqb, ne_eqb}
+use Rattle.std.proofs.Common.{◌≡◌, ℕ, ◌<◌, ◌≤◌, ◌==◌, Bool, true, false, List, [], ◌∷◌, ◌++◌, map, Option, Some, refl}
+use Rattle.std.proofs.Common.{sym, ap, ◌∙◌, inl, inr, eq-eqb, ne_eqb}
 use Rattle.std.specs.Prelude.{if◌then◌else◌}
 use Rattle.std.proofs.lemmas.Bool.{cases_eq}
 use Rattle.dz_name.specs.Words.{Octets}
@@ -71,7 +72,8 @@ pub either : {X : Type 0} (P : X → Type 0) (b : Bool) (x y : X) → P x → P 
 either P true x y p q = p
 either P false x y p q = q
 
--- a relation of cores, by the lines that lead from one to the other, that holds of a job and of more one after the other
+-- a relation of cores, by the lines that lead from one to the other, that holds of a job and of more one after the
+-- other
 pub record HoldsOfJobs (Goes : Core → List Line → Core → Type 0) : Type 0 where
   pub none : (c : Core) → Goes c [] c
   pub both : (c d e : Core) (xs ys : List Line) → Goes c xs d → Goes d ys e → Goes c (xs ++ ys) e

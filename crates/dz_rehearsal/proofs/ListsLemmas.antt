@@ -1,5 +1,6 @@
 -- The generated catalog lists the nodes that it is meant to list.
-use Rattle.std.proofs.Common.{◌≡◌, ℕ, zero, suc, ◌<◌, ◌≤◌, Bool, true, false, List, [], ◌∷◌, ◌++◌, map, length, Some, None, Ok, refl, sym, ◌∙◌, ap, subst, arith, inl, inr, is_lt, append-nil}
+use Rattle.std.proofs.Common.{◌≡◌, ℕ, zero, suc, ◌<◌, ◌≤◌, Bool, true, false, List, [], ◌∷◌, ◌++◌, map, length, Some}
+use Rattle.std.proofs.Common.{None, Ok, refl, sym, ◌∙◌, ap, subst, arith, inl, inr, is_lt, append-nil}
 use Rattle.std.specs.Prelude.{codes, filter, flat_map, ◌==◌, nat_lt, if◌then◌else◌}
 use Rattle.std.specs.List.{AllByRecursion, list_any, range_with_len}
 use Rattle.std.specs.List.Sorted.{ties}
@@ -47,7 +48,8 @@ use Rattle.dz_rehearsal.specs.Life.{node_of, renamed, first_nodes, changed_nodes
 use Rattle.dz_rehearsal.proofs.LifeLemmas.{either}
 use Rattle.dz_rehearsal.proofs.MembersLemmas.{nodes_are}
 use Rattle.dz_rehearsal.proofs.PlainLemmas.{tells, bare, plain, listing_plain}
-use Rattle.dz_rehearsal.proofs.RiseLemmas.{zone_less, label_of, label_less, label_greater, moved_last, Rising, range_rising, range_zones, sorted_stays, goes_last}
+use Rattle.dz_rehearsal.proofs.RiseLemmas.{zone_less, label_of, label_less, label_greater, moved_last, Rising}
+use Rattle.dz_rehearsal.proofs.RiseLemmas.{range_rising, range_zones, sorted_stays, goes_last}
 
 -- ---- what the producer would make of nodes
 all_kept : (p : Record → Bool) (rs : List Record) → AllByRecursion (λ r. p r ≡ true) rs → filter p rs ≡ rs

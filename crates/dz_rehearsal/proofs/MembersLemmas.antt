@@ -1,5 +1,6 @@
 -- The generated listings make the members that they are meant to make.
-use Rattle.std.proofs.Common.{◌≡◌, ℕ, zero, suc, ◌+◌, ◌-◌, ◌<◌, ◌≤◌, Bool, true, false, List, [], ◌∷◌, ◌++◌, map, Option, Some, None, refl, sym, ◌∙◌, ap, arith, is_lt}
+use Rattle.std.proofs.Common.{◌≡◌, ℕ, zero, suc, ◌+◌, ◌-◌, ◌<◌, ◌≤◌, Bool, true, false, List, [], ◌∷◌, ◌++◌, map}
+use Rattle.std.proofs.Common.{Option, Some, None, refl, sym, ◌∙◌, ap, arith, is_lt}
 use Rattle.std.specs.Prelude.{◌==◌, codes, if◌then◌else◌}
 use Rattle.std.specs.List.{AllByRecursion, find, filter_map, cons_option, range_with_len}
 use Rattle.std.specs.Option.{option_eq}
@@ -24,8 +25,10 @@ use Rattle.dz_gen.specs.Reading.{cat_test}
 use Rattle.dz_gen.proofs.ChangedLemmas.{one_zone}
 use Rattle.dz_gen.proofs.MessageLemmas.{IsZone}
 use Rattle.dz_gen.proofs.SpelledLemmas.{four_digits, zone_is}
-use Rattle.dz_rehearsal.specs.Life.{config, node_of, renamed, first_nodes, changed_nodes, member_of, reset_member, member_after, first_fold, changed_fold, Members}
-use Rattle.dz_rehearsal.proofs.RiseLemmas.{zone_less, zone_greater, Rising, range_rising, range_zones, keys_rise, sorted_stays, comes_first}
+use Rattle.dz_rehearsal.specs.Life.{config, node_of, renamed, first_nodes, changed_nodes, member_of, reset_member}
+use Rattle.dz_rehearsal.specs.Life.{member_after, first_fold, changed_fold, Members}
+use Rattle.dz_rehearsal.proofs.RiseLemmas.{zone_less, zone_greater, Rising, range_rising, range_zones, keys_rise}
+use Rattle.dz_rehearsal.proofs.RiseLemmas.{sorted_stays, comes_first}
 
 -- ---- lists of what may be there
 abbrev there : {X : Type 0} → List (Option X) → List X
@@ -155,7 +158,7 @@ process_first n few =
     ∙ walk_first (numbers n) zs up) refl
 
 -- ---- the change
--- the zones behind the first, and what rises with them
+-- the zones after the first, and what rises with them
 behind_first : (k n : ℕ) → 1 < k → k + n ≤ 1001
     → AllByRecursion (λ j. is_lt (canonical_order (zone 1) (zone j)) ≡ true) (range_with_len k n)
 behind_first k zero above few = tt

@@ -1,5 +1,6 @@
 -- What a catalog lists is a matter of its PTR and TXT records alone, whatever their TTLs.
-use Rattle.std.proofs.Common.{◌≡◌, ℕ, Bool, true, false, List, [], ◌∷◌, map, length, refl, sym, ◌∙◌, ap, inl, inr, is_gt}
+use Rattle.std.proofs.Common.{◌≡◌, ℕ, Bool, true, false, List, [], ◌∷◌, map, length, refl, sym, ◌∙◌, ap, inl, inr}
+use Rattle.std.proofs.Common.{is_gt}
 use Rattle.std.specs.Prelude.{filter, not, ◌==◌, ◌&&◌, ◌||◌, count_by, slice_get, Option, None, if◌then◌else◌}
 use Rattle.std.specs.Option.{option_map, option_and_then}
 use Rattle.std.specs.List.{filter_map, cons_option, list_any}
@@ -19,7 +20,8 @@ use Rattle.dz_lookup.specs.Runs.{of_type, records_of}
 use Rattle.dz_member.specs.declared.listing.Node.{Node}
 use Rattle.dz_catalog.specs.Broken.{is_version, twins, version_2, broken_records}
 use Rattle.dz_catalog.specs.Listing.{listing_of}
-use Rattle.dz_catalog.specs.Member.{is_node, is_coo, is_member, node_of, nodes_of, coo_of, groups_of, coo_name, group_name}
+use Rattle.dz_catalog.specs.Member.{is_node, is_coo, is_member, node_of, nodes_of, coo_of, groups_of, coo_name}
+use Rattle.dz_catalog.specs.Member.{group_name}
 use Rattle.dz_producer.proofs.ListingLemmas.{two_filters}
 use Rattle.dz_producer.proofs.OwnerLemmas.{no_pointer_first, no_pointer_second}
 use Rattle.dz_gen.proofs.CanonicalLemmas.{Respects, same_parts, canonical_filter}
@@ -28,7 +30,7 @@ use Rattle.dz_gen.proofs.CanonicalLemmas.{Respects, same_parts, canonical_filter
 abbrev pub tells : Record → Bool
 tells r = r.kind == 12 || r.kind == 16
 
--- a filter keeps the same behind another one that drops nothing of it
+-- a filter keeps the same after another one that drops nothing of it
 inner : {X : Type 0} (p q : X → Bool) → ((x : X) → q x ≡ false → p x ≡ false) → (xs : List X) → filter p (filter q xs)
     ≡ filter p xs
 inner p q none [] = refl

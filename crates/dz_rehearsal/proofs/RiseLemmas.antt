@@ -1,5 +1,6 @@
 -- The numbers of zones are in the order of their digits.
-use Rattle.std.proofs.Common.{◌≡◌, ℕ, zero, suc, ◌+◌, ◌<◌, ◌≤◌, Bool, true, false, map, List, [], ◌∷◌, ◌++◌, length, drop, refl, sym, ◌∙◌, ap, arith, inl, inr, Ordering, Less, Equal, Greater}
+use Rattle.std.proofs.Common.{◌≡◌, ℕ, zero, suc, ◌+◌, ◌<◌, ◌≤◌, Bool, true, false, map, List, [], ◌∷◌, ◌++◌, length}
+use Rattle.std.proofs.Common.{drop, refl, sym, ◌∙◌, ap, arith, inl, inr, Ordering, Less, Equal, Greater}
 use Rattle.std.specs.Prelude.{codes, decimal}
 use Rattle.std.specs.Cmp.{nat_cmp_is}
 use Rattle.std.specs.Cmp.Lexicographic.{slice_cmp}
@@ -175,7 +176,7 @@ module _ {X : Type 0} (lt : X → X → Bool) (f : ℕ → X) (later : (j k : �
   sorted_stays (k ∷ ks) zs up = ap (insert_by lt (f k)) (sorted_stays ks zs.1 up.1) ∙ stays_first k zs.0 ks zs.1 up.0
 
   module _ (x : X) where
-    -- an element that comes before all, behind them
+    -- an element that comes before all, after them
     pub comes_first : (ks : List ℕ) → AllByRecursion IsZone ks → Rising ks
         → AllByRecursion (λ k. lt x (f k) ≡ true) ks → sorted_by lt (map f ks ++ x ∷ []) ≡ x ∷ map f ks
     comes_first [] zs up first = refl

@@ -1,5 +1,6 @@
 -- All transfers of the script, one phase after the other.
-use Rattle.std.proofs.Common.{◌≡◌, ℕ, ◌+◌, ◌/◌, ◌<◌, ◌≤◌, ◌==◌, false, List, [], ◌∷◌, ◌++◌, filter, length, refl, sym, ◌∙◌, ap, subst, arith, inl, inr, Some, None}
+use Rattle.std.proofs.Common.{◌≡◌, ℕ, ◌+◌, ◌/◌, ◌<◌, ◌≤◌, ◌==◌, false, List, [], ◌∷◌, ◌++◌, filter, length, refl, sym}
+use Rattle.std.proofs.Common.{◌∙◌, ap, subst, arith, inl, inr, Some, None}
 use Rattle.std.specs.Prelude.{flat_map}
 use Rattle.std.proofs.lemmas.Bool.{cases_Bool, eqb-true}
 use Rattle.dz_settings.specs.declared.config.Policy.TheVariants.{Present}
@@ -14,7 +15,8 @@ use Rattle.dz_gen.specs.Messages.{whole_of, catalog_changes}
 use Rattle.dz_gen.specs.Outcomes.{catalog_version, changed_version, first_version}
 use Rattle.dz_gen.specs.Reading.{catalog_lines, first_lines, next_lines, reset_lines, change_lines, job_lines}
 use Rattle.dz_gen.specs.Script.{numbers, is_tenth, is_changed, catalog_ticket, reset_ticket}
-use Rattle.dz_rehearsal.specs.Life.{config, first_nodes, changed_nodes, member_of, member_after, Makes, Asked, AreMade, lines_of_jobs, TransfersHappen}
+use Rattle.dz_rehearsal.specs.Life.{config, first_nodes, changed_nodes, member_of, member_after, Makes, Asked, AreMade}
+use Rattle.dz_rehearsal.specs.Life.{lines_of_jobs, TransfersHappen}
 use Rattle.dz_rehearsal.proofs.LifeLemmas.{either, Life, with, life_same, HoldsOfJobs}
 use Rattle.dz_rehearsal.proofs.SeatLemmas.{after_named}
 use Rattle.dz_rehearsal.proofs.StepLemmas.{IsNext}
@@ -23,7 +25,10 @@ use Rattle.dz_rehearsal.proofs.CatalogJobLemmas.{first_job, change_job}
 use Rattle.dz_rehearsal.proofs.UsedLemmas.{catalog_octets}
 use Rattle.dz_rehearsal.proofs.PhaseLemmas.{each_goes, some_go}
 use Rattle.dz_rehearsal.proofs.UptoLemmas.{upto, upto_done, upto_todo}
-use Rattle.dz_rehearsal.proofs.ZonePhaseLemmas.{after_first, first_hold, first_wait, again_hold, again_wait, again_tickets, again_waits, change_hold, change_wait, reset_wait, change_tickets, Firsts, Agains, Changed, first_step, again_step, again_pass, change_step, change_pass}
+use Rattle.dz_rehearsal.proofs.ZonePhaseLemmas.{after_first, first_hold, first_wait, again_hold, again_wait}
+use Rattle.dz_rehearsal.proofs.ZonePhaseLemmas.{again_tickets, again_waits, change_hold, change_wait, reset_wait}
+use Rattle.dz_rehearsal.proofs.ZonePhaseLemmas.{change_tickets, Firsts, Agains, Changed, first_step, again_step}
+use Rattle.dz_rehearsal.proofs.ZonePhaseLemmas.{again_pass, change_step, change_pass}
 
 module _ (Goes : Core → List Line → Core → Type 0) (holds : HoldsOfJobs Goes)
     (n : ℕ) (some : 0 < n) (limit : n ≤ 1000) where
@@ -43,7 +48,8 @@ module _ (Goes : Core → List Line → Core → Type 0) (holds : HoldsOfJobs Go
 
   -- ---- the first transfers
   -- the catalog is transferred, and all its zones are new members
-  catalog_begun : Gets (Firsts Goes holds n limit (first_nodes n) own 1) (catalog_lines (numbers n)) (opened_core config)
+  catalog_begun : Gets (Firsts Goes holds n limit (first_nodes n) own 1) (catalog_lines (numbers n))
+      (opened_core config)
   catalog_begun =
       let made = first_job n some limit in (
         made.0,
@@ -59,7 +65,8 @@ module _ (Goes : Core → List Line → Core → Type 0) (holds : HoldsOfJobs Go
       → Gets (Agains Goes holds n limit (first_nodes n) own 1) (flat_map first_lines (numbers n)) c
   all_first c life =
       let made =
-      each_goes Goes holds n (Firsts Goes holds n limit (first_nodes n) own) first_lines (first_step Goes holds n limit (first_nodes n) own) c life
+      each_goes Goes holds n (Firsts Goes holds n limit (first_nodes n) own) first_lines
+      (first_step Goes holds n limit (first_nodes n) own) c life
       in (
         made.0,
         made.1,
@@ -83,7 +90,8 @@ module _ (Goes : Core → List Line → Core → Type 0) (holds : HoldsOfJobs Go
       → Gets AllHeld (flat_map (next_lines n) (filter is_tenth (numbers n))) c
   all_again c life =
       let made = some_go Goes holds n (Agains Goes holds n limit (first_nodes n) own) (next_lines n) is_tenth
-      (again_step Goes holds n limit (first_nodes n) own) (again_pass Goes holds n limit (first_nodes n) own) c life in (
+      (again_step Goes holds n limit (first_nodes n) own)
+      (again_pass Goes holds n limit (first_nodes n) own) c life in (
         made.0,
         made.1,
         life_same n member_of (first_nodes n) own after_first _ again_hold _ again_wait (again_tickets n (n + 1))
@@ -98,7 +106,8 @@ module _ (Goes : Core → List Line → Core → Type 0) (holds : HoldsOfJobs Go
 
   abbrev Began : Core → Type 0
   Began c =
-      (position : ℕ) × Changed Goes holds n position limit (changed_nodes n) (changed_version n) own_later refl (omega arith) 1 c
+      (position : ℕ)
+      × Changed Goes holds n position limit (changed_nodes n) (changed_version n) own_later refl (omega arith) 1 c
 
   abbrev waits : ℕ → ValuesOf
   waits = with again_wait 1 fresh
@@ -163,14 +172,17 @@ module _ (Goes : Core → List Line → Core → Type 0) (holds : HoldsOfJobs Go
   -- each other zone changes
   all_changed : (c : Core) → Began c → Gets AnyCore (flat_map (change_lines n) (filter is_changed (numbers n))) c
   all_changed c began =
-      let made = some_go Goes holds n (Changed Goes holds n began.0 limit (changed_nodes n) (changed_version n) own_later refl (omega arith))
+      let made = some_go Goes holds n
+      (Changed Goes holds n began.0 limit (changed_nodes n) (changed_version n) own_later refl (omega arith))
       (change_lines n) is_changed
       (change_step Goes holds n began.0 limit (changed_nodes n) (changed_version n) own_later refl (omega arith))
-      (change_pass Goes holds n began.0 limit (changed_nodes n) (changed_version n) own_later refl (omega arith)) c began.1 in
+      (change_pass Goes holds n began.0 limit (changed_nodes n) (changed_version n) own_later refl (omega arith))
+      c began.1 in
       (made.0, made.1, tt)
 
   -- all transfers of the script go on, from the core of the configuration on
-  pub transfers_go : (d : Core) × Goes (opened_core config) ((((catalog_lines (numbers n) ++ flat_map first_lines (numbers n)) ++
+  pub transfers_go : (d : Core)
+      × Goes (opened_core config) ((((catalog_lines (numbers n) ++ flat_map first_lines (numbers n)) ++
       flat_map (next_lines n) (filter is_tenth (numbers n))) ++ reset_lines n) ++ flat_map (change_lines n)
       (filter is_changed (numbers n))) d
   transfers_go =

@@ -1,5 +1,6 @@
 -- A core in which the script's zones are the members: their places, memberships, policies, primaries and keys.
-use Rattle.std.proofs.Common.{◌≡◌, ℕ, zero, suc, ◌+◌, ◌<◌, ◌≤◌, Bool, true, List, ◌++◌, length, map, Option, Some, None, refl, sym, ap, subst, ◌∙◌, arith, inl, inr, eqb-true}
+use Rattle.std.proofs.Common.{◌≡◌, ℕ, zero, suc, ◌+◌, ◌<◌, ◌≤◌, Bool, true, List, ◌++◌, length, map, Option, Some}
+use Rattle.std.proofs.Common.{None, refl, sym, ap, subst, ◌∙◌, arith, inl, inr, eqb-true}
 use Rattle.std.specs.Option.{option_map, option_map_or, option_and_then}
 use Rattle.std.specs.Prelude.{codes, position, slice_get, ◌==◌, if◌then◌else◌}
 use Rattle.std.specs.Str.{bytes_eq}
@@ -148,7 +149,7 @@ module _ (n : ℕ) (member : ℕ → MemberOf) (s : State) (has : HasSeats n mem
         length-map-range_with_len member 1 n,
       )
 
-  -- zone k's seat is behind that of the catalog
+  -- zone k's seat is after that of the catalog
   pub seat_there : (k : ℕ) → 0 < k → k ≤ n → slice_get (seats s) k ≡ Some (member_seat (member k))
   seat_there zero some few = absurd (omega arith)
   seat_there (suc j) some few =

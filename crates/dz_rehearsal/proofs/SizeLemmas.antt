@@ -1,5 +1,6 @@
 -- The script of at most 1,000 zones is within the limit of a script.
-use Rattle.std.proofs.Common.{◌≡◌, ℕ, ◌+◌, ◌*◌, ◌<◌, ◌≤◌, ◌^◌, Bool, true, false, List, [], ◌∷◌, ◌++◌, filter, length, refl, arith, inl, inr, length-append}
+use Rattle.std.proofs.Common.{◌≡◌, ℕ, ◌+◌, ◌*◌, ◌<◌, ◌≤◌, ◌^◌, Bool, true, false, List, [], ◌∷◌, ◌++◌, filter, length}
+use Rattle.std.proofs.Common.{refl, arith, inl, inr, length-append}
 use Rattle.std.specs.Prelude.{flat_map, codes, ◌==◌, decimal, if◌then◌else◌}
 use Rattle.std.specs.List.{AllByRecursion}
 use Rattle.std.proofs.lemmas.Bool.{cases_Bool}
@@ -21,7 +22,9 @@ use Rattle.dz_fleet.proofs.FlightLemmas.{all_filter}
 use Rattle.dz_gen.specs.Texts.{named, transfer, ask_line, job_line, take_line}
 use Rattle.dz_gen.specs.Records.{www}
 use Rattle.dz_gen.specs.Messages.{question, message, query, part_of, whole_of, changes_of, catalog_changes}
-use Rattle.dz_gen.specs.Script.{numbers, is_tenth, is_changed, again_ticket, change_ticket, catalog_ticket, reset_ticket, script, settings, catalog_text, first_transfer, next_transfer, reset, change_transfer, asked, transfers, questions}
+use Rattle.dz_gen.specs.Script.{numbers, is_tenth, is_changed, again_ticket, change_ticket, catalog_ticket}
+use Rattle.dz_gen.specs.Script.{reset_ticket, script, settings, catalog_text, first_transfer, next_transfer, reset}
+use Rattle.dz_gen.specs.Script.{change_transfer, asked, transfers, questions}
 use Rattle.dz_gen.proofs.MessageLemmas.{IsZone, length_header, www_short, other_short}
 use Rattle.dz_gen.proofs.ReadingLemmas.{zones}
 use Rattle.dz_rehearsal.proofs.UsedLemmas.{change_is, catalog_octets, catalog_size}

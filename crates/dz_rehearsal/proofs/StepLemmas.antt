@@ -1,5 +1,6 @@
 -- The job of a member zone, from the moment at which it is due to its end: refused, or published.
-use Rattle.std.proofs.Common.{◌≡◌, ℕ, zero, suc, ◌+◌, ◌^◌, ◌<◌, ◌≤◌, Bool, true, false, List, [], ◌∷◌, ◌++◌, length, set, Option, Some, None, refl, sym, ap, subst, ◌∙◌, arith}
+use Rattle.std.proofs.Common.{◌≡◌, ℕ, zero, suc, ◌+◌, ◌^◌, ◌<◌, ◌≤◌, Bool, true, false, List, [], ◌∷◌, ◌++◌, length}
+use Rattle.std.proofs.Common.{set, Option, Some, None, refl, sym, ap, subst, ◌∙◌, arith}
 use Rattle.std.specs.Prelude.{◌%◌}
 use Rattle.std.proofs.lemmas.List.{length-set, get_or-set_same, get_or-set_other}
 use Rattle.dz_name.specs.Words.{Octets}
@@ -30,7 +31,9 @@ use Rattle.dz_history.proofs.StepLemmas.{step_by}
 use Rattle.dz_job.specs.Job.{JobOf, transfer_for, taken_for, refresh_in, retry_in}
 use Rattle.dz_fleet.specs.declared.due.Due.TheVariants as due
 use Rattle.dz_fleet.specs.Values.{value_at, changed}
-use Rattle.dz_fleet.specs.Core.{Core, state_of, ask_of, first_place, due_of, job_for, job_at, after_due, ended_of, others, primaries_of, tsig_of, used_of, settled, after_success, after_refusal, entry_for, is_accepted}
+use Rattle.dz_fleet.specs.Core.{Core, state_of, ask_of, first_place, due_of, job_for, job_at, after_due, ended_of}
+use Rattle.dz_fleet.specs.Core.{others, primaries_of, tsig_of, used_of, settled, after_success, after_refusal}
+use Rattle.dz_fleet.specs.Core.{entry_for, is_accepted}
 use Rattle.dz_fleet.specs.Sound.{IsFlying}
 use Rattle.dz_fleet.proofs.EventLemmas.{IsWell, well_due, well_settled}
 use Rattle.dz_fleet.proofs.HandLemmas.{job_is, handed_flies}
@@ -40,7 +43,8 @@ use Rattle.dz_gen.specs.Records.{zone}
 use Rattle.dz_rehearsal.proofs.FirstLemmas.{first_is, due_at, no_others}
 use Rattle.dz_rehearsal.specs.Life.{Makes}
 use Rattle.dz_rehearsal.proofs.LifeLemmas.{Life, with, with_each}
-use Rattle.dz_rehearsal.proofs.SeatLemmas.{no_key, one_primary, HasSeats, seats_of, seat_count, seat_there, place_is, stood, apart_is, other_zone}
+use Rattle.dz_rehearsal.proofs.SeatLemmas.{no_key, one_primary, HasSeats, seats_of, seat_count, seat_there, place_is}
+use Rattle.dz_rehearsal.proofs.SeatLemmas.{stood, apart_is, other_zone}
 
 -- zone k is due first: no timer is due earlier, and those of the catalog and of the zones before it are due later
 pub record IsNext (n : ℕ) (first : ValuesOf) (value : ℕ → ValuesOf) (k : ℕ) : Type 0 where

@@ -1,5 +1,7 @@
 -- All octets of the catalog's transfers are used, and how many they are.
-use Rattle.std.proofs.Common.{◌≡◌, ℕ, suc, ◌+◌, ◌*◌, ◌<◌, ◌≤◌, ◌^◌, false, List, [], ◌∷◌, ◌++◌, map, length, take, refl, sym, ◌∙◌, ap, subst, arith, append-nil, append_assoc, length-append, Option, Some, None}
+use Rattle.std.proofs.Common.{◌≡◌, ℕ, suc, ◌+◌, ◌*◌, ◌<◌, ◌≤◌, ◌^◌, false, List, [], ◌∷◌, ◌++◌, map, length, take}
+use Rattle.std.proofs.Common.{refl, sym, ◌∙◌, ap, subst, arith, append-nil, append_assoc, length-append, Option, Some}
+use Rattle.std.proofs.Common.{None}
 use Rattle.std.specs.Prelude.{codes, flat_map, is_some, not, ◌==◌, if◌then◌else◌}
 use Rattle.std.specs.List.{AllByRecursion}
 use Rattle.std.proofs.lemmas.Bool.Decides.{nat_tests}
@@ -23,14 +25,18 @@ use Rattle.dz_take.proofs.TakingLemmas.{messages_back, stream_push}
 use Rattle.dz_gen.specs.Texts.{named}
 use Rattle.dz_gen.specs.Script.{numbers}
 use Rattle.dz_gen.specs.Records.{hourly, soa, catalog, zone, version_property, node, group, member}
-use Rattle.dz_gen.specs.Messages.{question, message, response, catalog_begins, catalog_member, catalog_ends, catalog_changes}
+use Rattle.dz_gen.specs.Messages.{question, message, response, catalog_begins, catalog_member, catalog_ends}
+use Rattle.dz_gen.specs.Messages.{catalog_changes}
 use Rattle.dz_gen.specs.Outcomes.{first_of}
 use Rattle.dz_gen.proofs.MessageLemmas.{IsZone}
 use Rattle.dz_gen.proofs.ReadingLemmas.{zones}
 use Rattle.dz_gen.proofs.SentLemmas.{IsSmall, fits, judged, answered, frame_size, asks, question_is}
-use Rattle.dz_gen.proofs.SmallLemmas.{catalog_named, version_named, moved_named, soa_small, invalid_small, pointer_small, text_small}
+use Rattle.dz_gen.proofs.SmallLemmas.{catalog_named, version_named, moved_named, soa_small, invalid_small}
+use Rattle.dz_gen.proofs.SmallLemmas.{pointer_small, text_small}
 use Rattle.dz_gen.proofs.SpelledLemmas.{four_digits, moved_is}
-use Rattle.dz_gen.proofs.CatalogLemmas.{each_more, all_append, cat, IsBeside, catalog_is, first_is, first, server, first_small, version_beside, server_beside, node_small, group_small, zone_name, member_small, member_beside, few_members}
+use Rattle.dz_gen.proofs.CatalogLemmas.{each_more, all_append, cat, IsBeside, catalog_is, first_is, first, server}
+use Rattle.dz_gen.proofs.CatalogLemmas.{first_small, version_beside, server_beside, node_small, group_small, zone_name}
+use Rattle.dz_gen.proofs.CatalogLemmas.{member_small, member_beside, few_members}
 use Rattle.dz_gen.proofs.ChangedLemmas.{one_zone}
 use Rattle.dz_rehearsal.proofs.LifeLemmas.{either}
 

@@ -1,5 +1,6 @@
 -- The phases of the zones' transfers: the first ones, those of tenth zones once more, and the changes.
-use Rattle.std.proofs.Common.{◌≡◌, ℕ, ◌+◌, ◌-◌, ◌/◌, ◌<◌, ◌≤◌, ◌==◌, true, false, List, refl, sym, ◌∙◌, ap, subst, arith, inl, inr, Option, Some, None}
+use Rattle.std.proofs.Common.{◌≡◌, ℕ, ◌+◌, ◌-◌, ◌/◌, ◌<◌, ◌≤◌, ◌==◌, true, false, List, refl, sym, ◌∙◌, ap, subst}
+use Rattle.std.proofs.Common.{arith, inl, inr, Option, Some, None}
 use Rattle.std.specs.Prelude.{nat_lt, not, ◌&&◌, if◌then◌else◌}
 use Rattle.std.proofs.lemmas.Bool.{cases_Bool, eqb-true}
 use Rattle.std.proofs.lemmas.Bool.Decides.{nat_tests}
@@ -17,7 +18,8 @@ use Rattle.dz_rehearsal.specs.Life.{member_of, member_after, Makes}
 use Rattle.dz_rehearsal.proofs.LifeLemmas.{Life, life_same, either, HoldsOfJobs}
 use Rattle.dz_rehearsal.proofs.SeatLemmas.{first_named, after_named}
 use Rattle.dz_rehearsal.proofs.StepLemmas.{IsNext}
-use Rattle.dz_rehearsal.proofs.UptoLemmas.{upto, upto_done, upto_todo, upto_each, upto_with, upto_same, tenth_next, other_next, Changes, changes_what, changed_ticket}
+use Rattle.dz_rehearsal.proofs.UptoLemmas.{upto, upto_done, upto_todo, upto_each, upto_with, upto_same, tenth_next}
+use Rattle.dz_rehearsal.proofs.UptoLemmas.{other_next, Changes, changes_what, changed_ticket}
 use Rattle.dz_rehearsal.proofs.ZoneStepLemmas.{first_accepted, policy_first, step_part, step_whole, step_changes}
 
 -- ---- a zone's timer: after its first transfer, after one that broke off, after the whole one that followed it, after

@@ -34,7 +34,7 @@ module _ (m : Octets) (same : bytes_eq m m ≡ true) (tie : slice_cmp nat_cmp m 
   abbrev e : Record
   e = hourly (codes "mail" ∷ apex) 1 other
 
-  -- an SOA behind a record of another kind
+  -- an SOA after a record of another kind
   found : (serial : ℕ) (rs : List Record) → refresh_in
       (Some (record { apex = apex; records = hourly apex 2 name ∷ soa apex serial ∷ rs })) ≡ 100
   unfolding name_of_text items labels_from with_label wire_of four number_of_four

@@ -8,10 +8,12 @@ use Rattle.dz_zone.specs.Version.{zone_of}
 use Rattle.dz_zonemd.specs.Digested.{digested}
 use Rattle.dz_name.specs.declared.dns.TheConstants.{TYPE_AXFR, TYPE_IXFR}
 use Rattle.dz_gen.specs.Texts.{digits, named, numbered}
-use Rattle.dz_gen.specs.Records.{soa, zone, www, mail, is_strict, first_records, second_records, first_digest, second_digest}
+use Rattle.dz_gen.specs.Records.{soa, zone, www, mail, is_strict, first_records, second_records, first_digest}
+use Rattle.dz_gen.specs.Records.{second_digest}
 use Rattle.dz_gen.specs.Messages.{part_of, whole_of, changes_of}
 use Rattle.dz_gen.proofs.SentLemmas.{IsSmall, small_append}
-use Rattle.dz_gen.proofs.SmallLemmas.{zone_named, www_named, mail_named, soa_small, server_small, address_small, zonemd_small}
+use Rattle.dz_gen.proofs.SmallLemmas.{zone_named, www_named, mail_named, soa_small, server_small, address_small}
+use Rattle.dz_gen.proofs.SmallLemmas.{zonemd_small}
 use Rattle.dz_gen.proofs.SpelledLemmas.{IsFour, four_digits, zone_is, www_is, mail_is}
 use Rattle.dz_rehearsal.proofs.LifeLemmas.{either}
 use Rattle.dz_rehearsal.proofs.UsedLemmas.{IsOne, response_is}

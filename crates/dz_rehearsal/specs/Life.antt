@@ -1,5 +1,6 @@
 -- Judge: what the generated catalog lists (RFC 9432), which members that makes, and that no line of the script is bad.
-use Rattle.std.specs.Prelude.{◌≡◌, ◌≤◌, ◌<◌, ◌-◌, ℕ, ◌++◌, ◌==◌, List, [], ◌∷◌, length, map, filter, flat_map, codes, Some, None, Ok, if◌then◌else◌}
+use Rattle.std.specs.Prelude.{◌≡◌, ◌≤◌, ◌<◌, ◌-◌, ℕ, ◌++◌, ◌==◌, List, [], ◌∷◌, length, map, filter, flat_map, codes}
+use Rattle.std.specs.Prelude.{Some, None, Ok, if◌then◌else◌}
 use Rattle.std.specs.List.{range_with_len}
 use Rattle.dz_name.specs.Words.{Octets}
 use Rattle.dz_settings.specs.declared.config.Policy.TheVariants.{Present, Require}
@@ -18,7 +19,8 @@ use Rattle.dz_gen.specs.Texts.{digits}
 use Rattle.dz_gen.specs.Records.{zone, is_strict}
 use Rattle.dz_gen.specs.Script.{numbers, is_tenth, is_changed, script}
 use Rattle.dz_gen.specs.Outcomes.{catalog_version, changed_version}
-use Rattle.dz_gen.specs.Reading.{cat_test, host, job_lines, catalog_lines, first_lines, next_lines, reset_lines, change_lines}
+use Rattle.dz_gen.specs.Reading.{cat_test, host, job_lines, catalog_lines, first_lines, next_lines, reset_lines}
+use Rattle.dz_gen.specs.Reading.{change_lines}
 
 -- the configuration that the script's settings make
 abbrev pub config : List CatalogSettings
@@ -130,7 +132,8 @@ job_lines_of n =
 -- they are those of jobs that are made one after the other, from the core of the configuration on
 abbrev pub TransfersHappen : ℕ → Type 0
 TransfersHappen n = 0 < n → n ≤ 1000
-    → (jobs : List Asked) × (end : Core) × (job_lines_of n ≡ lines_of_jobs jobs) × AreMade (opened_core config) jobs end
+    → (jobs : List Asked) × (end : Core) × (job_lines_of n ≡ lines_of_jobs jobs)
+    × AreMade (opened_core config) jobs end
 
 -- ---- the script
 -- the script isn't longer than a script may be

@@ -1,6 +1,7 @@
 -- Every reply that is written reads back.
 use Rattle.dz_record.specs.Record.{IsRecord}
-use Rattle.std.proofs.Common.{inl, inr, ◌≡◌, ℕ, ◌<◌, ◌^◌, Bool, List, [], ◌∷◌, length, take, drop, get_or, refl, ◌∙◌, ap, subst, arith, Option, Some, None}
+use Rattle.std.proofs.Common.{inl, inr, ◌≡◌, ℕ, ◌<◌, ◌^◌, Bool, List, [], ◌∷◌, length, take, drop, get_or, refl, ◌∙◌}
+use Rattle.std.proofs.Common.{ap, subst, arith, Option, Some, None}
 use Rattle.std.specs.Prelude.{map}
 use Rattle.std.specs.List.{AllByRecursion, All}
 use Rattle.std.proofs.lemmas.Bool.{cases_Bool}
@@ -46,19 +47,24 @@ each_lower (raw ∷ raws) each = (lower_label raw each.0.some each.0.short, each
 
 -- the question's name is a name
 echo_name : (echo : List ℕ) (q : Question) → IsEcho echo q → IsName q.name
-echo_name echo q is = rw is.name_is record { each = each_lower is.raws is.each; short = omega (arith, is.short, length_wire_lower is.raws) }
+echo_name echo q is = rw is.name_is
+    record { each = each_lower is.raws is.each; short = omega (arith, is.short, length_wire_lower is.raws) }
 
 -- a reply without records
 none_held : (code : ℕ) → AreHeld (bare code)
 none_held code = record { answer = tt; authority = tt; additional = tt }
 
 -- what answers shows records that are records
-version_held : (dnssec : Bool) (version : Option Zone) (name : List (List ℕ)) (kind : ℕ) → ((v : Zone) → version ≡ Some v → All IsRecord v.records) → IsName name → AreHeld (at_version dnssec version name kind)
+version_held : (dnssec : Bool) (version : Option Zone) (name : List (List ℕ)) (kind : ℕ)
+    → ((v : Zone) → version ≡ Some v → All IsRecord v.records) → IsName name
+    → AreHeld (at_version dnssec version name kind)
 version_held dnssec None name kind held is = none_held 2
-version_held dnssec (Some zone) name kind held is = for_held dnssec zone name kind (each_held zone.records (held zone refl)) is
+version_held dnssec (Some zone) name kind held is =
+    for_held dnssec zone name kind (each_held zone.records (held zone refl)) is
 
 -- the same of the zone that answers at a moment
-slot_held : (dnssec : Bool) (slot : Option SlotOf) (moment : ℕ) (name : List (List ℕ)) (kind : ℕ) → AnswersHeld slot moment → IsName name → AreHeld (at_slot dnssec slot moment name kind)
+slot_held : (dnssec : Bool) (slot : Option SlotOf) (moment : ℕ) (name : List (List ℕ)) (kind : ℕ)
+    → AnswersHeld slot moment → IsName name → AreHeld (at_slot dnssec slot moment name kind)
 slot_held dnssec None moment name kind held is = none_held 5
 slot_held dnssec (Some slot) moment name kind held is = elim (cases_Bool (is_live slot moment)) [
   | inl t ↦ rw t (version_held dnssec slot.version name kind (held t) is)
@@ -70,40 +76,54 @@ text_is : (a b : List ℕ) → ◌≡◌ {A = Reply} (written a) (written b) →
 text_is a b e = cc
 
 -- a header that was read has an ID of 16 bits
-id_small : (octets : List ℕ) (header : Header) → number_of_two octets < 2 ^ 16 → header ≡ header_in octets → header.id < 2 ^ 16
+id_small : (octets : List ℕ) (header : Header) → number_of_two octets < 2 ^ 16 → header ≡ header_in octets
+    → header.id < 2 ^ 16
 unfolding header_in
 id_small octets header small is = rw is small
 
 -- the reply to a request reads back, by what the request asks for
-reads_back_for : (slots : List SlotOf) (octets : List ℕ) (moment : ℕ) (tcp : Bool) (r : Request) (text : List ℕ) → number_of_two octets < 2 ^ 16 → EchoesIn octets r → AnswersHeldFor slots moment r
+reads_back_for : (slots : List SlotOf) (octets : List ℕ) (moment : ℕ) (tcp : Bool) (r : Request) (text : List ℕ)
+    → number_of_two octets < 2 ^ 16 → EchoesIn octets r → AnswersHeldFor slots moment r
     → reply_for slots octets moment tcp r ≡ written text → ReadsBackFor slots octets moment tcp r text
 unfolding reply_for
 reads_back_for slots octets moment tcp Silent text small echo held is = tt
 reads_back_for slots octets moment tcp (Curt header code) text small echo held is =
-    subst (λ m. SpellsCurt header (number_of code) m) (text_is _ text is) (curt_spells header (number_of code) (id_small octets header small echo))
+    subst (λ m. SpellsCurt header (number_of code) m) (text_is _ text is)
+    (curt_spells header (number_of code) (id_small octets header small echo))
 reads_back_for slots octets moment tcp (NewerEdns asked) text small echo held is =
     let code : ℕ = number_of BadVers in
-    subst (λ m. SpellsReply tcp (query_of octets asked) asked.question (bare code) m) (text_is _ text is) (reply_spells tcp (query_of octets asked) asked.question (bare code) (id_small octets asked.header small echo.header) echo.echo refl (none_held code))
+    subst (λ m. SpellsReply tcp (query_of octets asked) asked.question (bare code) m)
+    (text_is _ text is) (reply_spells tcp (query_of octets asked) asked.question (bare code)
+    (id_small octets asked.header small echo.header) echo.echo refl (none_held code))
 reads_back_for slots octets moment tcp (NotImp asked) text small echo held is =
     let code : ℕ = number_of codes.NotImp in
-    subst (λ m. SpellsReply tcp (query_of octets asked) asked.question (bare code) m) (text_is _ text is) (reply_spells tcp (query_of octets asked) asked.question (bare code) (id_small octets asked.header small echo.header) echo.echo refl (none_held code))
+    subst (λ m. SpellsReply tcp (query_of octets asked) asked.question (bare code) m)
+    (text_is _ text is) (reply_spells tcp (query_of octets asked) asked.question (bare code)
+    (id_small octets asked.header small echo.header) echo.echo refl (none_held code))
 reads_back_for slots octets moment tcp (Notify asked) text small echo held is = tt
 reads_back_for slots octets moment tcp (Asks asked) text small echo held is =
     let name : List (List ℕ) = asked.question.name in
-    let s : Sections = at_slot (asks_dnssec asked.edns) (closest_for slots name asked.question.kind) moment name asked.question.kind in
-    let are : AreHeld s = slot_held (asks_dnssec asked.edns) (closest_for slots name asked.question.kind) moment name asked.question.kind held (echo_name (take asked.size (drop 12 octets)) asked.question echo.echo) in
-    subst (λ m. SpellsReply tcp (query_of octets asked) asked.question s m) (text_is _ text is) (reply_spells tcp (query_of octets asked) asked.question s (id_small octets asked.header small echo.header) echo.echo refl are)
+    let s : Sections = at_slot (asks_dnssec asked.edns)
+    (closest_for slots name asked.question.kind) moment name asked.question.kind in
+    let are : AreHeld s = slot_held (asks_dnssec asked.edns) (closest_for slots name asked.question.kind) moment name
+    asked.question.kind held (echo_name (take asked.size (drop 12 octets)) asked.question echo.echo) in
+    subst (λ m. SpellsReply tcp (query_of octets asked) asked.question s m) (text_is _ text is) (reply_spells tcp
+    (query_of octets asked) asked.question s (id_small octets asked.header small echo.header) echo.echo refl are)
 
 -- what was written is the reply
-was_written : (w : Writing) (reply : Reply) (text : List ℕ) (turn : Turn) → IsReply turn w reply → w.octets ≡ Some text → turn ≡ Written (length text) → reply ≡ written text
+was_written : (w : Writing) (reply : Reply) (text : List ℕ) (turn : Turn) → IsReply turn w reply → w.octets ≡ Some text
+    → turn ≡ Written (length text) → reply ≡ written text
 was_written w reply text turn is some e =
     let there : IsReply (Written (length text)) w reply = rw e at is in
     let same : there.0 ≡ text = cc (there.1) in
     there.3 ∙ ap written same
 
 -- every reply that is written reads back
-pub reads_back : (slots : List SlotOf) (octets : List ℕ) (moment : ℕ) (tcp : Bool) (turn : Turn) (w : Writing) (text : List ℕ) → ((i : ℕ) → get_or octets i 0 < 256) → AnswersHeldFor slots moment (request octets)
-    → IsReply turn w (reply_of slots octets moment tcp) → w.octets ≡ Some text → turn ≡ Written (length text) → ReadsBack slots octets moment tcp text
+pub reads_back : (slots : List SlotOf) (octets : List ℕ) (moment : ℕ) (tcp : Bool) (turn : Turn) (w : Writing)
+    (text : List ℕ) → ((i : ℕ) → get_or octets i 0 < 256) → AnswersHeldFor slots moment (request octets)
+    → IsReply turn w (reply_of slots octets moment tcp) → w.octets ≡ Some text → turn ≡ Written (length text)
+    → ReadsBack slots octets moment tcp text
 unfolding reply_of ReadsBack
 reads_back slots octets moment tcp turn w text bytes held is some e =
-    reads_back_for slots octets moment tcp (request octets) text (number_small octets bytes) (request_echo octets) held (was_written w (reply_for slots octets moment tcp (request octets)) text turn is some e)
+    reads_back_for slots octets moment tcp (request octets) text (number_small octets bytes) (request_echo octets) held
+    (was_written w (reply_for slots octets moment tcp (request octets)) text turn is some e)

@@ -1,5 +1,7 @@
 -- Whole replies read back: header, question, and the sections one after the other.
-use Rattle.std.proofs.Common.{inl, inr, ◌≡◌, ℕ, ◌+◌, ◌<◌, ◌≤◌, ◌^◌, Bool, true, false, List, [], ◌∷◌, ◌++◌, length, drop, refl, sym, ◌∙◌, ap, subst, arith, append_assoc, length-append, length-drop, Option, Some, None}
+use Rattle.std.proofs.Common.{inl, inr, ◌≡◌, ℕ, ◌+◌, ◌<◌, ◌≤◌, ◌^◌, Bool, true, false, List, [], ◌∷◌, ◌++◌, length}
+use Rattle.std.proofs.Common.{drop, refl, sym, ◌∙◌, ap, subst, arith, append_assoc, length-append, length-drop, Option}
+use Rattle.std.proofs.Common.{Some, None}
 use Rattle.std.specs.List.{AllByRecursion}
 use Rattle.std.proofs.lemmas.List.{append-nil, drop-drop}
 use Rattle.std.proofs.lemmas.Bool.Decides.{leb_tells}
@@ -40,23 +42,37 @@ drop_front (a ∷ []) more h = absurd (omega arith)
 drop_front (a ∷ b ∷ xs) more h = refl
 
 -- the question of a reply
-stands : (m echo rest : List ℕ) (q : Question) → IsEcho echo q → drop 12 m ≡ echo ++ rest → (end : ℕ) × StandsAsked m q.name end × (end ≤ 12 + length echo) × IsQuestion m 12 q (12 + length echo)
+stands : (m echo rest : List ℕ) (q : Question) → IsEcho echo q → drop 12 m ≡ echo ++ rest
+    → (end : ℕ) × StandsAsked m q.name end × (end ≤ 12 + length echo) × IsQuestion m 12 q (12 + length echo)
 stands m echo rest q is there =
-    let split : drop 12 m ≡ wire_of is.raws ++ (is.tail ++ rest) = there ∙ ap (λ xs. xs ++ rest) is.echo_is ∙ append_assoc (wire_of is.raws) is.tail rest in
+    let split : drop 12 m ≡ wire_of is.raws ++ (is.tail ++ rest) =
+    there ∙ ap (λ xs. xs ++ rest) is.echo_is ∙ append_assoc (wire_of is.raws) is.tail rest in
     let reads = reads_raw m is.raws (is.tail ++ rest) 12 0 12 is.each (omega (arith, is.short)) split in
     let b : ℕ = 12 + length (wire_of is.raws) in
-    let d0 : drop b m ≡ is.tail ++ rest = drop_there m 12 (length (wire_of is.raws)) (wire_of is.raws) (is.tail ++ rest) split refl in
-    let d2 : drop (b + 2) m ≡ drop 2 is.tail ++ rest = sym (drop-drop 2 b m) ∙ ap (drop 2) d0 ∙ drop_front is.tail rest (omega (arith, is.four)) in
-    let size : length echo ≡ length (wire_of is.raws) + 4 = omega (arith, ap length is.echo_is, length-append (wire_of is.raws) is.tail, is.four) in
+    let d0 : drop b m ≡ is.tail ++ rest =
+    drop_there m 12 (length (wire_of is.raws)) (wire_of is.raws) (is.tail ++ rest) split refl in
+    let d2 : drop (b + 2) m ≡ drop 2 is.tail ++ rest =
+    sym (drop-drop 2 b m) ∙ ap (drop 2) d0 ∙ drop_front is.tail rest (omega (arith, is.four)) in
+    let size : length echo ≡ length (wire_of is.raws) + 4 =
+    omega (arith, ap length is.echo_is, length-append (wire_of is.raws) is.tail, is.four) in
     let count = length_there m b is.tail rest d0 in (
       b,
-      record { raws = is.raws; more = is.tail ++ rest; there = split; name_is = is.name_is; each = is.each; short = is.short; end_is = refl },
+      record {
+        raws = is.raws;
+        more = is.tail ++ rest;
+        there = split;
+        name_is = is.name_is;
+        each = is.each;
+        short = is.short;
+        end_is = refl;
+      },
       omega (arith, size),
       record {
         behind = b;
         name = rw is.name_is reads;
         kind = is.kind_is ∙ sym (ap number_of_two d0 ∙ front_number is.tail rest (omega (arith, is.four)));
-        class = is.class_is ∙ sym (ap number_of_two d2 ∙ front_number (drop 2 is.tail) rest (omega (arith, is.four, length-drop 2 is.tail)));
+        class = is.class_is ∙ sym
+            (ap number_of_two d2 ∙ front_number (drop 2 is.tail) rest (omega (arith, is.four, length-drop 2 is.tail)));
         next_is = omega (arith, size);
         within = omega (arith, size, count, is.four);
       },
@@ -71,19 +87,24 @@ record HeadThere (m : List ℕ) (query : Query) (flags a b c : ℕ) (rest : List
   behind : drop 12 m ≡ query.echo ++ rest
 
 -- the flags have 16 bits (RFC 1035 section 4.1.1)
-flags_small : (asked code : ℕ) (authoritative truncated : Bool) → reply_flags asked code authoritative truncated < 2 ^ 16
+flags_small : (asked code : ℕ) (authoritative truncated : Bool)
+    → reply_flags asked code authoritative truncated < 2 ^ 16
 flags_small asked code authoritative truncated = (read_back _).small
 
 -- the header that is written is the header that is read, and the question follows it
-head_there : (m : List ℕ) (query : Query) (code : ℕ) (aa tc : Bool) (a b c : ℕ) (rest : List ℕ) → query.id < 2 ^ 16 → a < 2 ^ 16 → b < 2 ^ 16 → c < 2 ^ 16
-    → m ≡ head_octets query code aa tc a b c ++ rest → HeadThere m query (reply_flags query.flags code aa tc) a b c rest
+head_there : (m : List ℕ) (query : Query) (code : ℕ) (aa tc : Bool) (a b c : ℕ) (rest : List ℕ) → query.id < 2 ^ 16
+    → a < 2 ^ 16 → b < 2 ^ 16 → c < 2 ^ 16
+    → m ≡ head_octets query code aa tc a b c ++ rest
+    → HeadThere m query (reply_flags query.flags code aa tc) a b c rest
 unfolding head_octets
 head_there m query code aa tc a b c rest id_small a_small b_small c_small is =
     let flags : ℕ = reply_flags query.flags code aa tc in
     let header : Header = record { id = query.id; flags = flags; counts = 1 ∷ a ∷ b ∷ c ∷ [] } in
     let small = flags_small query.flags code aa tc in
-    let held : IsHeader header = record { id = id_small; flags = small; counts = (omega arith, (a_small, (b_small, (c_small, tt)))) } in
-    let there = header_there m header 1 a b c (query.echo ++ rest) held refl (is ∙ append_assoc (header_octets header) query.echo rest) in
+    let held : IsHeader header =
+    record { id = id_small; flags = small; counts = (omega arith, (a_small, (b_small, (c_small, tt)))) } in
+    let there = header_there m header 1 a b c (query.echo ++ rest) held refl
+    (is ∙ append_assoc (header_octets header) query.echo rest) in
     record {
       id = ap (λ h. h.id) (sym there.is);
       flags_are = ap (λ h. h.flags) (sym there.is);
@@ -93,24 +114,35 @@ head_there m query code aa tc a b c rest id_small a_small b_small c_small is =
     }
 
 -- a reply's octets, section by section, spell the sections
-spells : (m : List ℕ) (query : Query) (q : Question) (code : ℕ) (aa tc : Bool) (a b c : List Record) → query.id < 2 ^ 16 → IsEcho query.echo q → query.name ≡ q.name
-    → AllByRecursion IsRecord a → AllByRecursion IsRecord b → AllByRecursion IsRecord c → length a < 2 ^ 16 → length b < 2 ^ 16 → length c + opt_count query.edns < 2 ^ 16
-    → m ≡ head_octets query code aa tc (length a) (length b) (length c + opt_count query.edns) ++ (entries_octets query.name a ++ (entries_octets query.name b ++ (entries_octets query.name c ++ opt_octets code query.edns)))
-    → HeadThere m query (reply_flags query.flags code aa tc) (length a) (length b) (length c + opt_count query.edns) (entries_octets query.name a ++ (entries_octets query.name b ++ (entries_octets query.name c ++ opt_octets code query.edns)))
+spells : (m : List ℕ) (query : Query) (q : Question) (code : ℕ) (aa tc : Bool) (a b c : List Record)
+    → query.id < 2 ^ 16 → IsEcho query.echo q → query.name ≡ q.name
+    → AllByRecursion IsRecord a → AllByRecursion IsRecord b → AllByRecursion IsRecord c → length a < 2 ^ 16
+    → length b < 2 ^ 16 → length c + opt_count query.edns < 2 ^ 16
+    → m ≡ head_octets query code aa tc (length a) (length b) (length c + opt_count query.edns) ++ (entries_octets
+    query.name a ++ (entries_octets query.name b ++ (entries_octets query.name c ++ opt_octets code query.edns)))
+    → HeadThere m query (reply_flags query.flags code aa tc) (length a)
+    (length b) (length c + opt_count query.edns) (entries_octets query.name a
+    ++ (entries_octets query.name b ++ (entries_octets query.name c ++ opt_octets code query.edns)))
     × SpellsSections m q query.edns code a b c
 spells m query q code aa tc a b c id_small echo same held_a held_b held_c small_a small_b small_c is =
     let name = query.name in
     let opt = opt_octets code query.edns in
-    let head = head_there m query code aa tc (length a) (length b) (length c + opt_count query.edns) (entries_octets name a ++ (entries_octets name b ++ (entries_octets name c ++ opt))) id_small small_a small_b small_c is in
-    let question = stands m query.echo (entries_octets name a ++ (entries_octets name b ++ (entries_octets name c ++ opt))) q echo head.behind in
+    let head = head_there m query code aa tc (length a) (length b) (length c + opt_count query.edns)
+    (entries_octets name a ++ (entries_octets name b ++ (entries_octets name c ++ opt))) id_small small_a small_b
+    small_c is in
+    let question = stands m query.echo
+    (entries_octets name a ++ (entries_octets name b ++ (entries_octets name c ++ opt))) q echo head.behind in
     let stood : StandsAsked m name question.0 = subst (λ n. StandsAsked m n question.0) (sym same) question.1 in
     let p0 : ℕ = 12 + length query.echo in
     let p1 : ℕ = p0 + length (entries_octets name a) in
     let p2 : ℕ = p1 + length (entries_octets name b) in
     let p3 : ℕ = p2 + length (entries_octets name c) in
-    let d0 : drop p0 m ≡ entries_octets name a ++ (entries_octets name b ++ (entries_octets name c ++ opt)) = drop_there m 12 (length query.echo) query.echo _ head.behind refl in
-    let d1 : drop p1 m ≡ entries_octets name b ++ (entries_octets name c ++ opt) = drop_there m p0 (length (entries_octets name a)) (entries_octets name a) _ d0 refl in
-    let d2 : drop p2 m ≡ entries_octets name c ++ opt = drop_there m p1 (length (entries_octets name b)) (entries_octets name b) _ d1 refl in
+    let d0 : drop p0 m ≡ entries_octets name a ++ (entries_octets name b ++ (entries_octets name c ++ opt)) =
+    drop_there m 12 (length query.echo) query.echo _ head.behind refl in
+    let d1 : drop p1 m ≡ entries_octets name b ++ (entries_octets name c ++ opt) =
+    drop_there m p0 (length (entries_octets name a)) (entries_octets name a) _ d0 refl in
+    let d2 : drop p2 m ≡ entries_octets name c ++ opt =
+    drop_there m p1 (length (entries_octets name b)) (entries_octets name b) _ d1 refl in
     let d3 : drop p3 m ≡ opt = drop_there m p2 (length (entries_octets name c)) (entries_octets name c) _ d2 refl in
     let end = question.2 in (
       head,
@@ -141,7 +173,8 @@ pub record AreHeld (s : Sections) : Type 0 where
   pub additional : AllByRecursion IsRecord s.additional
 
 -- a whole reply spells the three sections: as it fits, their counts have 16 bits
-whole_spells : (tcp : Bool) (query : Query) (q : Question) (s : Sections) → query.id < 2 ^ 16 → IsEcho query.echo q → query.name ≡ q.name → AreHeld s
+whole_spells : (tcp : Bool) (query : Query) (q : Question) (s : Sections) → query.id < 2 ^ 16 → IsEcho query.echo q
+    → query.name ≡ q.name → AreHeld s
     → length (whole_octets query s) ≤ limit_of tcp query.edns → SpellsReply tcp query q s (whole_octets query s)
 unfolding whole_octets
 whole_spells tcp query q s id_small echo same held fits =
@@ -150,8 +183,13 @@ whole_spells tcp query q s id_small echo same held fits =
     let b = entries_octets name s.authority in
     let c = entries_octets name s.additional in
     let opt = opt_octets s.code query.edns in
-    let head = head_octets query s.code s.authoritative false (length s.answer) (length s.authority) (length s.additional + opt_count query.edns) in
-    let long : 12 ≤ length head = omega (arith, length_head query s.code s.authoritative false (length s.answer) (length s.authority) (length s.additional + opt_count query.edns)) in
+    let head = head_octets query s.code s.authoritative false (length s.answer) (length s.authority)
+    (length s.additional + opt_count query.edns) in
+    let long : 12 ≤ length head = omega (
+      arith,
+      length_head query s.code s.authoritative false (length s.answer)
+          (length s.authority) (length s.additional + opt_count query.edns),
+    ) in
     let e0 = length-append head (a ++ (b ++ (c ++ opt))) in
     let e1 = length-append a (b ++ (c ++ opt)) in
     let e2 = length-append b (c ++ opt) in
@@ -161,38 +199,52 @@ whole_spells tcp query q s id_small echo same held fits =
     let few_c = few_records name s.additional in
     let most = most_limit tcp query.edns in
     let opts = few_opts query.edns in
-    let is = spells (head ++ (a ++ (b ++ (c ++ opt)))) query q s.code s.authoritative false s.answer s.authority s.additional id_small echo same held.answer held.authority held.additional
-    (omega (arith, fits, most, long, e0, e1, e2, e3, few_a, few_b, few_c)) (omega (arith, fits, most, long, e0, e1, e2, e3, few_a, few_b, few_c)) (omega (arith, fits, most, long, e0, e1, e2, e3, few_a, few_b, few_c, opts)) refl in
+    let is = spells (head ++ (a ++ (b ++ (c ++ opt)))) query q s.code s.authoritative false s.answer s.authority
+    s.additional id_small echo same held.answer held.authority held.additional
+    (omega (arith, fits, most, long, e0, e1, e2, e3, few_a, few_b, few_c))
+    (omega (arith, fits, most, long, e0, e1, e2, e3, few_a, few_b, few_c))
+    (omega (arith, fits, most, long, e0, e1, e2, e3, few_a, few_b, few_c, opts)) refl in
     record { truncated = false; id = is.0.id; flags = is.0.flags_are; sections = (fits, is.1) }
 
 -- a reply past its limit spells three empty sections
-cut_spells : (tcp : Bool) (query : Query) (q : Question) (s : Sections) → query.id < 2 ^ 16 → IsEcho query.echo q → query.name ≡ q.name
-    → limit_of tcp query.edns < length (whole_octets query s) → SpellsReply tcp query q s (cut_octets query s.code s.authoritative)
+cut_spells : (tcp : Bool) (query : Query) (q : Question) (s : Sections) → query.id < 2 ^ 16 → IsEcho query.echo q
+    → query.name ≡ q.name
+    → limit_of tcp query.edns < length (whole_octets query s)
+    → SpellsReply tcp query q s (cut_octets query s.code s.authoritative)
 unfolding cut_octets entries_octets
 cut_spells tcp query q s id_small echo same long =
     let opts = few_opts query.edns in
     let none : length {A = Record} [] + opt_count query.edns ≡ opt_count query.edns = omega arith in
-    let is = spells (cut_octets query s.code s.authoritative) query q s.code s.authoritative true [] [] [] id_small echo same tt tt tt (omega arith) (omega arith) (omega (arith, opts)) (rw none refl) in
+    let is = spells (cut_octets query s.code s.authoritative) query q s.code s.authoritative true [] [] [] id_small
+    echo same tt tt tt (omega arith) (omega arith) (omega (arith, opts)) (rw none refl) in
     record { truncated = true; id = is.0.id; flags = is.0.flags_are; sections = (long, is.1) }
 
 -- the octets of a reply spell the reply
-pub reply_spells : (tcp : Bool) (query : Query) (q : Question) (s : Sections) → query.id < 2 ^ 16 → IsEcho query.echo q → query.name ≡ q.name → AreHeld s
+pub reply_spells : (tcp : Bool) (query : Query) (q : Question) (s : Sections) → query.id < 2 ^ 16 → IsEcho query.echo q
+    → query.name ≡ q.name → AreHeld s
     → SpellsReply tcp query q s (octets_of tcp query s)
 unfolding octets_of within_limit
-reply_spells tcp query q s id_small echo same held = elim (leb_tells (length (whole_octets query s)) (limit_of tcp query.edns)) [
-  | inl w ↦ rw w.0 (whole_spells tcp query q s id_small echo same held w.1)
-  | inr w ↦ rw w.0 (cut_spells tcp query q s id_small echo same w.1)
-]
+reply_spells tcp query q s id_small echo same held =
+    elim (leb_tells (length (whole_octets query s)) (limit_of tcp query.edns)) [
+      | inl w ↦ rw w.0 (whole_spells tcp query q s id_small echo same held w.1)
+      | inr w ↦ rw w.0 (cut_spells tcp query q s id_small echo same w.1)
+    ]
 
 -- the octets of a reply that is a header alone spell it
-pub curt_spells : (request : Header) (code : ℕ) → request.id < 2 ^ 16 → SpellsCurt request code (curt_octets request code)
+pub curt_spells : (request : Header) (code : ℕ) → request.id < 2 ^ 16
+    → SpellsCurt request code (curt_octets request code)
 unfolding curt_octets
 curt_spells request code id_small =
     let flags : ℕ = reply_flags request.flags code false false in
     let header : Header = record { id = request.id; flags = flags; counts = 0 ∷ 0 ∷ 0 ∷ 0 ∷ [] } in
     let small = flags_small request.flags code false false in
-    let held : IsHeader header = record { id = id_small; flags = small; counts = (omega arith, (omega arith, (omega arith, (omega arith, tt)))) } in
-    let there = header_there (header_octets header) header 0 0 0 0 [] held refl (sym (append-nil (header_octets header))) in
+    let held : IsHeader header = record {
+      id = id_small;
+      flags = small;
+      counts = (omega arith, (omega arith, (omega arith, (omega arith, tt))));
+    } in
+    let there =
+    header_there (header_octets header) header 0 0 0 0 [] held refl (sym (append-nil (header_octets header))) in
     record {
       alone = length_header request.id flags 0 0 0 0;
       id = ap (λ h. h.id) (sym there.is);

@@ -1,6 +1,7 @@
 -- Meaning: what a reply says of a question (RFC 1034 section 4.3.2, RFC 2308 sections 2 and 3, RFC 6604 section 3, RFC
 -- 6672 section 3), and its octets.
-use Rattle.std.specs.Prelude.{◌≡◌, ℕ, ◌+◌, Bool, true, false, ◌==◌, min, not, List, [], ◌∷◌, ◌++◌, length, Option, Some, None, if◌then◌else◌}
+use Rattle.std.specs.Prelude.{◌≡◌, ℕ, ◌+◌, Bool, true, false, ◌==◌, min, not, List, [], ◌∷◌, ◌++◌, length, Option}
+use Rattle.std.specs.Prelude.{Some, None, if◌then◌else◌}
 use Rattle.std.specs.List.{flat_map, list_any}
 use Rattle.std.specs.Option.{option_map_or}
 use Rattle.dz_name.specs.Words.{Name, Octets, Kind}
@@ -34,7 +35,8 @@ bare code = record { code = code; authoritative = false; answer = []; authority 
 -- the CNAME that is made of a DNAME: it leads from a name to the name that the DNAME gives it, and has its TTL (RFC
 -- 6672 section 3.1)
 abbrev pub cname_to : Name → ℕ → Option Name → Record
-cname_to name ttl target = record { owner = name; kind = TYPE_CNAME; ttl = ttl; rdata = wire_of (option_map_or (λ n. n) target []) }
+cname_to name ttl target =
+    record { owner = name; kind = TYPE_CNAME; ttl = ttl; rdata = wire_of (option_map_or (λ n. n) target []) }
 
 -- a DNAME under the name of its owner, unless the chain has it already
 abbrev pub dname_entries : Trail → Record → List Record
@@ -76,13 +78,15 @@ soa_entries zone = soa_under zone.apex (apex_soa zone)
 
 -- the name server that an NS record names, where it is within the zone
 abbrev pub inner_target : Zone → Record → Option Name
-inner_target zone server = elim (target_of server) [ None ↦ None | Some name ↦ if is_within name zone.apex then Some name else None ]
+inner_target zone server =
+    elim (target_of server) [ None ↦ None | Some name ↦ if is_within name zone.apex then Some name else None ]
 
 -- the addresses of a name: A records and then AAAA records
 unfoldable pub addresses_of : Zone → Option Name → List Record
 addresses_of zone None = []
 addresses_of zone (Some name) =
-    entries name (of_type TYPE_A (records_of zone.records name)) ++ entries name (of_type TYPE_AAAA (records_of zone.records name))
+    entries name (of_type TYPE_A (records_of zone.records name))
+    ++ entries name (of_type TYPE_AAAA (records_of zone.records name))
 
 -- the addresses of one name server, where its name is within the zone
 unfoldable pub glue_of : Zone → Record → List Record
@@ -96,22 +100,46 @@ glue zone servers = flat_map (glue_of zone) servers
 -- a chain that leads no further: its records alone
 abbrev pub only_trail : Trail → Sections
 only_trail trail =
-    record { code = number_of NoError; authoritative = true; answer = trail_entries trail; authority = []; additional = [] }
+    record {
+      code = number_of NoError;
+      authoritative = true;
+      answer = trail_entries trail;
+      authority = [];
+      additional = [];
+    }
 
 -- a DNAME that would give the last name more than 255 octets: YXDOMAIN (RFC 6672 section 3.2)
 abbrev pub with_renamer : Trail → Record → Sections
 with_renamer trail r =
-    record { code = number_of YxDomain; authoritative = true; answer = trail_entries trail ++ dname_entries trail r; authority = []; additional = [] }
+    record {
+      code = number_of YxDomain;
+      authoritative = true;
+      answer = trail_entries trail ++ dname_entries trail r;
+      authority = [];
+      additional = [];
+    }
 
 -- a chain, and the records that answer for its last name
 abbrev pub with_records : Trail → Name → List Record → Sections
 with_records trail name rs =
-    record { code = number_of NoError; authoritative = true; answer = trail_entries trail ++ entries name rs; authority = []; additional = [] }
+    record {
+      code = number_of NoError;
+      authoritative = true;
+      answer = trail_entries trail ++ entries name rs;
+      authority = [];
+      additional = [];
+    }
 
 -- a chain whose last name has a negative answer: NODATA or NXDOMAIN (RFC 2308 section 2)
 abbrev pub with_soa : Zone → Trail → ℕ → Sections
 with_soa zone trail code =
-    record { code = code; authoritative = true; answer = trail_entries trail; authority = soa_entries zone; additional = [] }
+    record {
+      code = code;
+      authoritative = true;
+      answer = trail_entries trail;
+      authority = soa_entries zone;
+      additional = [];
+    }
 
 -- a referral after a chain (RFC 1034 section 4.3.2); it is authoritative where a chain led to it, since its answer
 -- section isn't empty then
@@ -124,7 +152,8 @@ with_servers zone trail servers = record {
   additional = glue zone servers;
 }
 
--- what a chain and what is found for its last name say; the response code is that of the last name (RFC 6604 section 3)
+-- what a chain and what is found for its last name say; the response code is that of the last name (RFC 6604 section
+-- 3)
 unfoldable pub at_end : Zone → Trail → Found → Name → Sections
 at_end zone trail (here rs) name = with_records trail name rs
 at_end zone trail no_data name = with_soa zone trail (number_of NoError)
@@ -150,7 +179,8 @@ sections_of zone name kind = of_chain zone (chain_of zone.apex zone.records name
 -- the whole reply: header, question, the three sections and OPT (RFC 1035 section 4.1, RFC 6891 section 6.1.1)
 unfoldable pub whole_octets : Query → Sections → Octets
 whole_octets query s =
-    head_octets query s.code s.authoritative false (length s.answer) (length s.authority) (length s.additional + opt_count query.edns)
+    head_octets query s.code s.authoritative false (length s.answer) (length s.authority)
+    (length s.additional + opt_count query.edns)
     ++ (entries_octets query.name s.answer
     ++ (entries_octets query.name s.authority
     ++ (entries_octets query.name s.additional ++ opt_octets s.code query.edns)))

@@ -39,11 +39,14 @@ at_slot dnssec (Some slot) moment name kind =
 unfoldable pub reply_for : List SlotOf → Octets → ℕ → Bool → Request → Reply
 reply_for slots octets moment tcp Silent = nothing
 reply_for slots octets moment tcp (Curt header code) = written (curt_octets header (number_of code))
-reply_for slots octets moment tcp (NewerEdns asked) = written (octets_of tcp (query_of octets asked) (bare (number_of BadVers)))
-reply_for slots octets moment tcp (NotImp asked) = written (octets_of tcp (query_of octets asked) (bare (number_of codes.NotImp)))
+reply_for slots octets moment tcp (NewerEdns asked) =
+    written (octets_of tcp (query_of octets asked) (bare (number_of BadVers)))
+reply_for slots octets moment tcp (NotImp asked) =
+    written (octets_of tcp (query_of octets asked) (bare (number_of codes.NotImp)))
 reply_for slots octets moment tcp (Notify asked) = notify asked.question.name
 reply_for slots octets moment tcp (Asks asked) =
-    written (octets_of tcp (query_of octets asked) (at_slot (asks_dnssec asked.edns) (closest_for slots asked.question.name asked.question.kind) moment asked.question.name asked.question.kind))
+    written (octets_of tcp (query_of octets asked) (at_slot (asks_dnssec asked.edns)
+    (closest_for slots asked.question.name asked.question.kind) moment asked.question.name asked.question.kind))
 
 -- the reply of these slots at a moment, over TCP or UDP
 unfoldable pub reply_of : List SlotOf → Octets → ℕ → Bool → Reply
@@ -52,7 +55,8 @@ reply_of slots octets moment tcp = reply_for slots octets moment tcp (request oc
 -- what a call answers and what it wrote are the reply
 abbrev pub IsReply : Turn → Writing → Reply → Type 0
 IsReply turns.Silent w reply = reply ≡ nothing
-IsReply (turns.Written count) w reply = (text : Octets) × (w.octets ≡ Some text) × (count ≡ length text) × (reply ≡ written text)
+IsReply (turns.Written count) w reply =
+    (text : Octets) × (w.octets ≡ Some text) × (count ≡ length text) × (reply ≡ written text)
 IsReply (turns.Notify name) w reply = reply ≡ notify name
 
 -- what was written fits in a buffer of 65,537 octets

@@ -1,5 +1,6 @@
 -- Meaning: the sections of a reply with records of DNSSEC, where the request has DO (RFC 3225, RFC 4035 section 3.1).
-use Rattle.std.specs.Prelude.{ℕ, Bool, true, false, ◌==◌, ◌||◌, not, List, [], ◌∷◌, ◌++◌, map, length, Option, Some, None, if◌then◌else◌}
+use Rattle.std.specs.Prelude.{ℕ, Bool, true, false, ◌==◌, ◌||◌, not, List, [], ◌∷◌, ◌++◌, map, length, Option, Some}
+use Rattle.std.specs.Prelude.{None, if◌then◌else◌}
 use Rattle.std.specs.List.{flat_map, list_any}
 use Rattle.dz_name.specs.Words.{Name, Kind}
 use Rattle.dz_name.specs.Name.{same_name}
@@ -43,7 +44,8 @@ secure_step zone bare before a =
 -- the steps of a chain with their signatures, after those before them
 unfoldable pub secure_trail : List Record → Bool → Trail → Trail → List Record
 secure_trail zone bare before [] = []
-secure_trail zone bare before (a ∷ rest) = secure_step zone bare before a ++ secure_trail zone bare (before ++ a ∷ []) rest
+secure_trail zone bare before (a ∷ rest) =
+    secure_step zone bare before a ++ secure_trail zone bare (before ++ a ∷ []) rest
 
 -- the RRset begins with this record
 abbrev pub begins_with : Record → List Record → Bool
@@ -114,7 +116,8 @@ last_sets zone found name = last_wildcard zone found name ∷ (proof zone name f
 
 -- the RRsets of the authority section but for the SOA, each once
 abbrev pub authority_sets : List Record → Trail → Found → Name → List (List Record)
-authority_sets zone trail found name = gain_all (gain_all (gain [] (servers_of found)) (wildcard_proofs zone trail)) (last_sets zone found name)
+authority_sets zone trail found name =
+    gain_all (gain_all (gain [] (servers_of found)) (wildcard_proofs zone trail)) (last_sets zone found name)
 
 -- an RRset of the authority section under its owner, and its RRSIG records
 unfoldable pub own_signed : List Record → List Record → List Record
@@ -168,8 +171,10 @@ servers_with zone kind trail servers sets = record {
 -- without DO
 unfoldable pub secure_of_ending : Zone → Kind → Trail → Ending → Sections → Sections
 secure_of_ending zone kind trail (ended found name) plain = record plain {
-  answer = secure_trail zone.records (is_bare kind) [] trail ++ answer_set zone.records (is_bare kind) name (records_here found);
-  authority = soa_of_found zone found ++ flat_map (own_signed zone.records) (authority_sets zone.records trail found name);
+  answer = secure_trail zone.records (is_bare kind) [] trail
+      ++ answer_set zone.records (is_bare kind) name (records_here found);
+  authority =
+      soa_of_found zone found ++ flat_map (own_signed zone.records) (authority_sets zone.records trail found name);
 }
 secure_of_ending zone kind trail stopped plain = record plain {
   answer = secure_trail zone.records (is_bare kind) [] trail;
@@ -192,4 +197,5 @@ asks_dnssec (Some edns) = edns.dnssec_ok
 -- the answer of a zone to a name and a type, with DO or without it
 unfoldable pub sections_for : Bool → Zone → Name → Kind → Sections
 sections_for false zone name kind = sections_of zone name kind
-sections_for true zone name kind = secure_of_chain zone kind (chain_of zone.apex zone.records name kind) (sections_of zone name kind)
+sections_for true zone name kind =
+    secure_of_chain zone kind (chain_of zone.apex zone.records name kind) (sections_of zone name kind)

@@ -3,7 +3,8 @@ use Rattle.std.specs.Prelude.{◌≡◌, true, List, [], ◌∷◌, ◌++◌, ma
 use Rattle.dz_name.specs.Words.{Name, Kind, Octets}
 use Rattle.dz_name.specs.Name.{wire_of, labels_in, upward}
 use Rattle.dz_name.specs.Numbers.{two, four, number_of_four}
-use Rattle.dz_name.specs.declared.dns.TheConstants.{TYPE_A, TYPE_AAAA, TYPE_DS, TYPE_NS, TYPE_NSEC, TYPE_RRSIG, TYPE_SOA}
+use Rattle.dz_name.specs.declared.dns.TheConstants.{TYPE_A, TYPE_AAAA, TYPE_DS, TYPE_NS, TYPE_NSEC, TYPE_RRSIG}
+use Rattle.dz_name.specs.declared.dns.TheConstants.{TYPE_SOA}
 use Rattle.dz_record.specs.Record.{Record}
 use Rattle.dz_record.specs.Records.{in_order, insertion}
 use Rattle.dz_zone.specs.Version.{Zone}
@@ -11,8 +12,10 @@ use Rattle.dz_lookup.specs.Found.{found, topmost}
 use Rattle.dz_lookup.specs.Chain.{chain_of, chain_from}
 use Rattle.dz_secure.specs.Secure.{last_owner, proof}
 use Rattle.dz_reply.specs.Layout.{entries, entry}
-use Rattle.dz_reply.specs.Answer.{Sections, step_entries, entries_behind, trail_entries, own_entries, soa_entries, addresses_of, glue_of, glue, at_end, of_ending, of_chain, sections_of}
-use Rattle.dz_reply.specs.Secure.{own_signed, answer_set, gain, secure_step, secure_trail, gain_all, secure_of_ending, sections_for}
+use Rattle.dz_reply.specs.Answer.{Sections, step_entries, entries_behind, trail_entries, own_entries, soa_entries}
+use Rattle.dz_reply.specs.Answer.{addresses_of, glue_of, glue, at_end, of_ending, of_chain, sections_of}
+use Rattle.dz_reply.specs.Secure.{own_signed, answer_set, gain, secure_step, secure_trail, gain_all, secure_of_ending}
+use Rattle.dz_reply.specs.Secure.{sections_for}
 
 -- `example.`
 abbrev pub example : Name
@@ -35,7 +38,8 @@ abbrev pub zone : Zone
 zone = record {
   apex = example;
   records =
-      rr example TYPE_SOA (wire_of (codes "ns" ∷ []) ++ (wire_of (codes "host" ∷ []) ++ (four 5 ++ (four 100 ++ (four 60 ++ (four 600 ++ four 30))))))
+      rr example TYPE_SOA (wire_of (codes "ns" ∷ [])
+      ++ (wire_of (codes "host" ∷ []) ++ (four 5 ++ (four 100 ++ (four 60 ++ (four 600 ++ four 30))))))
       ∷ rr example TYPE_NS (wire_of (codes "ns" ∷ []))
       ∷ sig example TYPE_SOA
       ∷ rr example TYPE_NSEC []
@@ -55,15 +59,20 @@ shown rs = map (λ r. (r.owner, r.kind)) rs
 
 -- under this one name all that computes the sections
 computed : Name → Kind → Sections
-unfolding sections_for sections_of of_chain of_ending at_end chain_of chain_from found topmost upward in_order insertion labels_in wire_of two four number_of_four entries entry step_entries entries_behind trail_entries own_entries soa_entries addresses_of glue_of glue own_signed gain answer_set secure_step secure_trail gain_all secure_of_ending last_owner proof
+unfolding sections_for sections_of of_chain of_ending at_end chain_of chain_from found topmost upward in_order
+    insertion labels_in wire_of two four number_of_four entries entry step_entries entries_behind trail_entries
+    own_entries soa_entries addresses_of glue_of glue own_signed gain answer_set secure_step secure_trail gain_all
+    secure_of_ending last_owner proof
 computed name kind = sections_for true zone name kind
 
-pub address : shown (sections_for true zone (below (codes "www")) TYPE_A).answer ≡ (below (codes "www"), TYPE_A) ∷ (below (codes "www"), TYPE_RRSIG) ∷ []
+pub address : shown (sections_for true zone (below (codes "www")) TYPE_A).answer
+    ≡ (below (codes "www"), TYPE_A) ∷ (below (codes "www"), TYPE_RRSIG) ∷ []
 unfolding computed
 address = refl
 
 pub no_data : shown (sections_for true zone (below (codes "www")) TYPE_AAAA).authority
-    ≡ (example, TYPE_SOA) ∷ (example, TYPE_RRSIG) ∷ (below (codes "www"), TYPE_NSEC) ∷ (below (codes "www"), TYPE_RRSIG) ∷ []
+    ≡ (example, TYPE_SOA) ∷ (example, TYPE_RRSIG) ∷ (below (codes "www"), TYPE_NSEC)
+    ∷ (below (codes "www"), TYPE_RRSIG) ∷ []
 unfolding computed
 no_data = refl
 
@@ -72,7 +81,8 @@ pub no_name : shown (sections_for true zone (below (codes "b")) TYPE_A).authorit
 unfolding computed
 no_name = refl
 
-pub referred : shown (sections_for true zone (codes "x" ∷ below (codes "sub")) TYPE_A).authority ≡ (below (codes "sub"), TYPE_NS) ∷ (below (codes "sub"), TYPE_DS) ∷ []
+pub referred : shown (sections_for true zone (codes "x" ∷ below (codes "sub")) TYPE_A).authority
+    ≡ (below (codes "sub"), TYPE_NS) ∷ (below (codes "sub"), TYPE_DS) ∷ []
 unfolding computed
 referred = refl
 

@@ -11,7 +11,9 @@ ghost use Rattle.dz_record.specs.Record.{Record};
 ghost use Rattle.dz_name.specs.Words.{Name, Kind};
 ghost use Rattle.std.specs.Prelude.{◌≤◌};
 ghost use Rattle.dz_reply.specs.Layout.{entries_octets};
-ghost use Rattle.dz_reply.specs.Answer.{Replies, dname_entries, step_entries, trail_entries, own_entries, soa_entries, negative_ttl, only_trail, with_renamer, with_records, with_soa, with_servers, at_end, sections_of};
+ghost use Rattle.dz_reply.specs.Answer.{Replies, dname_entries, step_entries, trail_entries, own_entries, soa_entries};
+ghost use Rattle.dz_reply.specs.Answer.{negative_ttl, only_trail, with_renamer, with_records, with_soa, with_servers};
+ghost use Rattle.dz_reply.specs.Answer.{at_end, sections_of};
 ghost use Rattle.dz_reply.specs.Secure.{asks_dnssec, sections_for};
 
 use crate::glue::Glue;

@@ -4,7 +4,8 @@ ghost use Rattle.std.specs.Prelude.{◌≡◌, ◌+◌, ◌<◌, ◌≤◌, List
 ghost use Rattle.dz_record.specs.Record.{Record};
 ghost use Rattle.dz_reply.specs.inner.Alone.{IsAlone};
 ghost use Rattle.dz_lookup.specs.Found.{meaning, found};
-ghost use Rattle.dz_reply.specs.Secure.{gain_all, servers_of, wildcard_set, wildcard_proofs, first_wildcard, last_wildcard, authority_sets};
+ghost use Rattle.dz_reply.specs.Secure.{gain_all, servers_of, wildcard_set, wildcard_proofs, first_wildcard};
+ghost use Rattle.dz_reply.specs.Secure.{last_wildcard, authority_sets};
 
 use crate::authority::Authority;
 use crate::counted::{covering, proof};

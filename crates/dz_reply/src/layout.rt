@@ -7,7 +7,8 @@ ghost use Rattle.dz_name.specs.Numbers.{two};
 ghost use Rattle.dz_reply.specs.inner.Owner.{owner_shown};
 ghost use Rattle.dz_name.specs.Name.{wire_of};
 ghost use Rattle.dz_reply.specs.Answer.{own_entries};
-ghost use Rattle.dz_reply.specs.Layout.{pointer_to, owner_octets, entry_octets, entries_octets, least_ttl, entry_ttl, entry, entries};
+ghost use Rattle.dz_reply.specs.Layout.{pointer_to, owner_octets, entry_octets, entries_octets, least_ttl, entry_ttl};
+ghost use Rattle.dz_reply.specs.Layout.{entry, entries};
 
 use dz_header::Writer;
 use dz_index::labels_apart;

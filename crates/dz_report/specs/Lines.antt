@@ -8,10 +8,12 @@ use Rattle.dz_zone.specs.Version.{Zone}
 use Rattle.dz_zonemd.specs.declared.acceptance.Standing.{Standing}
 use Rattle.dz_zonemd.specs.declared.acceptance.Standing.TheVariants.{Absent, Unsupported, Good, Bad}
 use Rattle.dz_member.specs.declared.listing.Broken.{Broken as Reason}
-use Rattle.dz_member.specs.declared.listing.Broken.TheVariants.{NoVersion, VersionTwice, OtherVersion, MemberTwice, CooTwice, TooManyMembers, ZoneTwice}
+use Rattle.dz_member.specs.declared.listing.Broken.TheVariants.{NoVersion, VersionTwice, OtherVersion, MemberTwice}
+use Rattle.dz_member.specs.declared.listing.Broken.TheVariants.{CooTwice, TooManyMembers, ZoneTwice}
 use Rattle.dz_member.specs.declared.change.Change.{Change}
 use Rattle.dz_member.specs.declared.change.What.{What}
-use Rattle.dz_member.specs.declared.change.What.TheVariants.{Added, Removed, Reset, Moved, MovedReset, Clash, Regrouped}
+use Rattle.dz_member.specs.declared.change.What.TheVariants.{Added, Removed, Reset, Moved, MovedReset, Clash}
+use Rattle.dz_member.specs.declared.change.What.TheVariants.{Regrouped}
 use Rattle.dz_notify.specs.declared.notify.Heard.{Heard}
 use Rattle.dz_notify.specs.declared.notify.Heard.TheVariants.{Taken, Stranger, NotOurs}
 use Rattle.dz_take.specs.declared.ask.Ask.{Ask}
@@ -19,7 +21,8 @@ use Rattle.dz_take.specs.declared.ask.Ask.TheVariants.{Axfr, Ixfr}
 use Rattle.dz_history.specs.declared.aftermath.Aftermath.{Aftermath}
 use Rattle.dz_history.specs.declared.aftermath.Aftermath.TheVariants.{Member, Broken, Changes}
 use Rattle.dz_job.specs.declared.verdict.Verdict.{Verdict}
-use Rattle.dz_job.specs.declared.verdict.Verdict.TheVariants.{Published, Confirmed, Refused, PolicyRefused, Stale, OutOfMemory}
+use Rattle.dz_job.specs.declared.verdict.Verdict.TheVariants.{Published, Confirmed, Refused, PolicyRefused, Stale}
+use Rattle.dz_job.specs.declared.verdict.Verdict.TheVariants.{OutOfMemory}
 use Rattle.dz_job.specs.declared.verdict.Failure.{Failure}
 use Rattle.dz_job.specs.declared.verdict.Failure.TheVariants as failures
 use Rattle.dz_job.specs.Job.{JobOf, serial_in}
@@ -41,7 +44,8 @@ behind text mark number = text ++ (mark ∷ decimal number)
 abbrev pub peer_text : Peer → Octets
 peer_text peer =
     let a = peer.address in
-    behind (behind (behind (behind (decimal (slice_index a 0)) 46 (slice_index a 1)) 46 (slice_index a 2)) 46 (slice_index a 3)) 58 peer.port
+    behind (behind (behind (behind (decimal (slice_index a 0)) 46 (slice_index a 1)) 46 (slice_index a 2)) 46
+    (slice_index a 3)) 58 peer.port
 
 -- what is asked for, and for differences from which serial
 abbrev pub ask_text : Ask → Option Zone → Octets
@@ -52,7 +56,8 @@ ask_text Ixfr held = also (codes "ixfr") (decimal (serial_in held))
 abbrev pub job_line : JobOf → Octets
 job_line job =
     let f = job.flight in
-    end (also (also (also (also (also (also (also (codes "job") (decimal f.ticket)) (text_of f.zone)) (ask_text f.ask job.held)) (codes "id")) (decimal f.id)) (codes "at")) (peer_text f.primary))
+    end (also (also (also (also (also (also (also (codes "job") (decimal f.ticket)) (text_of f.zone))
+    (ask_text f.ask job.held)) (codes "id")) (decimal f.id)) (codes "at")) (peer_text f.primary))
 
 -- `failed <zone>`, or `stale <zone> <position>`
 abbrev pub failure_line : Name → Failure → Octets
@@ -97,7 +102,8 @@ change_text zone (Added catalog) = also (also (codes "added") (text_of zone)) (t
 change_text zone (Removed catalog) = also (also (codes "removed") (text_of zone)) (text_of catalog)
 change_text zone (Reset catalog) = also (also (codes "reset") (text_of zone)) (text_of catalog)
 change_text zone (Moved old new) = also (also (also (codes "moved") (text_of zone)) (text_of old)) (text_of new)
-change_text zone (MovedReset old new) = also (also (also (codes "moved-reset") (text_of zone)) (text_of old)) (text_of new)
+change_text zone (MovedReset old new) =
+    also (also (also (codes "moved-reset") (text_of zone)) (text_of old)) (text_of new)
 change_text zone (Clash holder) = also (also (codes "clash") (text_of zone)) (holder_text holder)
 change_text zone (Regrouped catalog) = also (also (codes "regrouped") (text_of zone)) (text_of catalog)
 
@@ -114,9 +120,12 @@ aftermath_lines zone (Changes changes) = flat_map change_line changes
 -- the lines of a verdict about a zone
 unfoldable pub verdict_lines : Name → Verdict → Octets
 verdict_lines zone (Published position serial aftermath) =
-    end (also (also (also (codes "published") (decimal position)) (text_of zone)) (decimal serial)) ++ aftermath_lines zone aftermath
-verdict_lines zone (Confirmed position serial) = end (also (also (also (codes "confirmed") (decimal position)) (text_of zone)) (decimal serial))
+    end (also (also (also (codes "published") (decimal position)) (text_of zone)) (decimal serial))
+    ++ aftermath_lines zone aftermath
+verdict_lines zone (Confirmed position serial) =
+    end (also (also (also (codes "confirmed") (decimal position)) (text_of zone)) (decimal serial))
 verdict_lines zone (Refused fault) = end (also (also (codes "refused") (text_of zone)) (reason_of fault))
-verdict_lines zone (PolicyRefused standing) = end (also (also (codes "policy") (text_of zone)) (standing_word standing))
+verdict_lines zone (PolicyRefused standing) =
+    end (also (also (codes "policy") (text_of zone)) (standing_word standing))
 verdict_lines zone (Stale position) = end (also (also (codes "stale") (text_of zone)) (decimal position))
 verdict_lines zone OutOfMemory = end (also (codes "nomemory") (text_of zone))

@@ -3,12 +3,15 @@ use Rattle.std.specs.Prelude.{◌++◌, ℕ, codes, decimal}
 use Rattle.dz_name.specs.Words.{Octets}
 use Rattle.dz_message.specs.Fault.{fault_number}
 use Rattle.dz_xfr.specs.declared.fault.ShapeFault.{ShapeFault}
-use Rattle.dz_xfr.specs.declared.fault.ShapeFault.TheVariants.{NotSoaFirst, AfterEnd, SerialGap, DeleteMissing, AddPresent}
+use Rattle.dz_xfr.specs.declared.fault.ShapeFault.TheVariants.{NotSoaFirst, AfterEnd, SerialGap, DeleteMissing}
+use Rattle.dz_xfr.specs.declared.fault.ShapeFault.TheVariants.{AddPresent}
 use Rattle.dz_zone.specs.declared.fault.ZoneFault.{ZoneFault}
-use Rattle.dz_zone.specs.declared.fault.ZoneFault.TheVariants.{NoSoa, SoaTwice, SoaBelow, NoNs, OutOfZone, CnameBeside, CnameTwice, DnameTwice, TooMany}
+use Rattle.dz_zone.specs.declared.fault.ZoneFault.TheVariants.{NoSoa, SoaTwice, SoaBelow, NoNs, OutOfZone, CnameBeside}
+use Rattle.dz_zone.specs.declared.fault.ZoneFault.TheVariants.{CnameTwice, DnameTwice, TooMany}
 use Rattle.dz_tsig.specs.Fault.{number_of}
 use Rattle.dz_take.specs.declared.outcome.TakeFault.{TakeFault}
-use Rattle.dz_take.specs.declared.outcome.TakeFault.TheVariants.{Incomplete, Message, WrongId, WrongQuestion, Rcode, Shape, Zone, OldSerial, TooLong, Tsig}
+use Rattle.dz_take.specs.declared.outcome.TakeFault.TheVariants.{Incomplete, Message, WrongId, WrongQuestion, Rcode}
+use Rattle.dz_take.specs.declared.outcome.TakeFault.TheVariants.{Shape, Zone, OldSerial, TooLong, Tsig}
 
 -- the word for what is wrong with the records' form
 abbrev pub shape_word : ShapeFault → Octets

@@ -3,7 +3,8 @@
 ghost use Rattle.std.specs.Prelude.{◌≡◌, ◌++◌, codes, decimal, is_ok, if◌then◌else◌, IfOk, OnOk};
 ghost use Rattle.std.specs.List.{flat_map};
 ghost use Rattle.dz_name.specs.Text.{text_of};
-ghost use Rattle.dz_report.specs.Lines.{also, end, standing_word, broken_word, holder_text, change_text, change_line, aftermath_lines, verdict_lines};
+ghost use Rattle.dz_report.specs.Lines.{also, end, standing_word, broken_word, holder_text, change_text, change_line};
+ghost use Rattle.dz_report.specs.Lines.{aftermath_lines, verdict_lines};
 
 use crate::reason::reason_of;
 use dz_history::Aftermath;

@@ -1,5 +1,6 @@
 -- The frame of a reply, one piece after another.
-use Rattle.std.proofs.Common.{inl, inr, ◌≡◌, ℕ, ◌+◌, ◌-◌, ◌≤◌, ◌%◌, ◌/◌, Bool, true, false, List, [], ◌∷◌, ◌++◌, length, refl, sym, ◌∙◌, ap, arith, length-append, Option, Some, None, if◌then◌else◌}
+use Rattle.std.proofs.Common.{inl, inr, ◌≡◌, ℕ, ◌+◌, ◌-◌, ◌≤◌, ◌%◌, ◌/◌, Bool, true, false, List, [], ◌∷◌, ◌++◌}
+use Rattle.std.proofs.Common.{length, refl, sym, ◌∙◌, ap, arith, length-append, Option, Some, None, if◌then◌else◌}
 use Rattle.std.specs.Prelude.{nat_le, not, is_some}
 use Rattle.std.proofs.lemmas.Bool.Decides.{nat_tests, leb_tells}
 use Rattle.dz_name.specs.Numbers.{two}
@@ -11,7 +12,8 @@ use Rattle.dz_header.specs.declared.header.Header.{Header}
 use Rattle.dz_header.proofs.WriterLemmas.{also_append}
 use Rattle.dz_header.specs.Code.{number_of}
 use Rattle.dz_request.specs.declared.frame.Heading.{Heading}
-use Rattle.dz_request.specs.Frame.{Query, limit_of, reply_flags, head_octets, opening, cut_octets, within_limit, bare_octets, curt_octets}
+use Rattle.dz_request.specs.Frame.{Query, limit_of, reply_flags, head_octets, opening, cut_octets, within_limit}
+use Rattle.dz_request.specs.Frame.{bare_octets, curt_octets}
 
 pub two_low : (count more : ℕ) → more ≤ 1 → two ((count % 65536 + more) % 65536) ≡ two (count + more)
 unfolding two
@@ -21,12 +23,14 @@ two_low count more h =
     cc
 
 -- octets that are written alone
-pub alone : (limit : ℕ) (octets : List ℕ) → also (empty limit) octets ≡ record { limit = limit; octets = if nat_le (length octets) limit then Some octets else None }
+pub alone : (limit : ℕ) (octets : List ℕ) → also (empty limit) octets
+    ≡ record { limit = limit; octets = if nat_le (length octets) limit then Some octets else None }
 unfolding also octets_with
 alone limit octets = let e : limit - 0 ≡ limit = omega arith in rw e refl
 
 -- what fits is there alone
-pub alone_fits : (limit : ℕ) (octets : List ℕ) → length octets ≤ limit → also (empty limit) octets ≡ writing_of limit octets
+pub alone_fits : (limit : ℕ) (octets : List ℕ) → length octets ≤ limit
+    → also (empty limit) octets ≡ writing_of limit octets
 alone_fits limit octets fits =
     let t : nat_le (length octets) limit ≡ true = grind (arith, nat_tests) in alone limit octets ∙ rw t refl
 
@@ -37,7 +41,10 @@ pub whole_fits : (tcp : Bool) (query : Query) (code : ℕ) (authoritative : Bool
 unfolding within_limit
 whole_fits tcp query code authoritative front opt w w1 is is1 fits =
     let limit : ℕ = limit_of tcp query.edns in
-    let e : w1 ≡ record { limit = limit; octets = if nat_le (length (front ++ opt)) limit then Some (front ++ opt) else None } =
+    let e : w1 ≡ record {
+      limit = limit;
+      octets = if nat_le (length (front ++ opt)) limit then Some (front ++ opt) else None;
+    } =
     is1 ∙ (ap (λ x. also x opt) is ∙ (sym (also_append (empty limit) front opt) ∙ alone limit (front ++ opt))) in
     elim (leb_tells (length (front ++ opt)) limit) [
       | inl v ↦ rw v.0 at e ∙ rw v.0 refl
@@ -45,7 +52,8 @@ whole_fits tcp query code authoritative front opt w w1 is is1 fits =
     ]
 
 -- a header has twelve octets
-pub length_header : (id flags a b c d : ℕ) → length (header_octets (record { id = id; flags = flags; counts = a ∷ b ∷ c ∷ d ∷ [] })) ≡ 12
+pub length_header : (id flags a b c d : ℕ)
+    → length (header_octets (record { id = id; flags = flags; counts = a ∷ b ∷ c ∷ d ∷ [] })) ≡ 12
 unfolding header_octets two
 length_header id flags a b c d = refl
 
@@ -53,8 +61,16 @@ pub length_head : (query : Query) (code : ℕ) (authoritative truncated : Bool) 
     → length (head_octets query code authoritative truncated a b c) ≡ 12 + length query.echo
 unfolding head_octets
 length_head query code authoritative truncated a b c =
-    let h = header_octets (record { id = query.id; flags = reply_flags query.flags code authoritative truncated; counts = 1 ∷ a ∷ b ∷ c ∷ [] }) in
-    omega (arith, length-append h query.echo, length_header query.id (reply_flags query.flags code authoritative truncated) 1 a b c)
+    let h = header_octets (record {
+      id = query.id;
+      flags = reply_flags query.flags code authoritative truncated;
+      counts = 1 ∷ a ∷ b ∷ c ∷ [];
+    }) in
+    omega (
+      arith,
+      length-append h query.echo,
+      length_header query.id (reply_flags query.flags code authoritative truncated) 1 a b c,
+    )
 
 pub length_opt : (code : ℕ) (edns : Option Edns) → length (opt_octets code edns) ≤ 11
 unfolding opt_octets two
@@ -71,12 +87,14 @@ most_limit true edns = omega arith
 most_limit false None = omega arith
 most_limit false (Some edns) = omega arith
 
-pub cut_fits : (tcp : Bool) (query : Query) (code : ℕ) (authoritative : Bool) → length query.echo ≤ 259 → length (cut_octets query code authoritative) ≤ limit_of tcp query.edns
+pub cut_fits : (tcp : Bool) (query : Query) (code : ℕ) (authoritative : Bool) → length query.echo ≤ 259
+    → length (cut_octets query code authoritative) ≤ limit_of tcp query.edns
 unfolding cut_octets
 cut_fits tcp query code authoritative short =
     omega (
       arith,
-      length-append (head_octets query code authoritative true 0 0 (opt_count query.edns)) (opt_octets code query.edns),
+      length-append (head_octets query code authoritative true 0 0 (opt_count query.edns))
+          (opt_octets code query.edns),
       length_head query code authoritative true 0 0 (opt_count query.edns),
       length_opt code query.edns,
       least_limit tcp query.edns,
@@ -84,19 +102,26 @@ cut_fits tcp query code authoritative short =
 
 -- a reply past its limit
 pub cut_short : (tcp : Bool) (query : Query) (code : ℕ) (authoritative : Bool) (front : List ℕ) (w w1 w2 w3 : Writing)
-    → w ≡ also (empty (limit_of tcp query.edns)) front → w1 ≡ also w (opt_octets code query.edns) → not (is_some w1.octets) ≡ true → length query.echo ≤ 259
-    → w2 ≡ also (empty (limit_of tcp query.edns)) (head_octets query code authoritative true 0 0 (0 + opt_count query.edns)) → w3 ≡ also w2 (opt_octets code query.edns)
-    → w3 ≡ writing_of (limit_of tcp query.edns) (within_limit tcp query code authoritative (front ++ opt_octets code query.edns))
+    → w ≡ also (empty (limit_of tcp query.edns)) front → w1 ≡ also w (opt_octets code query.edns)
+    → not (is_some w1.octets) ≡ true → length query.echo ≤ 259
+    → w2 ≡ also (empty (limit_of tcp query.edns)) (head_octets query code authoritative true 0 0
+    (0 + opt_count query.edns)) → w3 ≡ also w2 (opt_octets code query.edns)
+    → w3 ≡ writing_of (limit_of tcp query.edns)
+    (within_limit tcp query code authoritative (front ++ opt_octets code query.edns))
 unfolding within_limit cut_octets
 cut_short tcp query code authoritative front w w1 w2 w3 is is1 over short is2 is3 =
     let limit : ℕ = limit_of tcp query.edns in
     let opt : List ℕ = opt_octets code query.edns in
     let head : List ℕ = head_octets query code authoritative true 0 0 (opt_count query.edns) in
     let zero : 0 + opt_count query.edns ≡ opt_count query.edns = omega arith in
-    let e : w1 ≡ record { limit = limit; octets = if nat_le (length (front ++ opt)) limit then Some (front ++ opt) else None } =
+    let e : w1 ≡ record {
+      limit = limit;
+      octets = if nat_le (length (front ++ opt)) limit then Some (front ++ opt) else None;
+    } =
     is1 ∙ (ap (λ x. also x opt) is ∙ (sym (also_append (empty limit) front opt) ∙ alone limit (front ++ opt))) in
     let cut : w3 ≡ writing_of limit (head ++ opt) =
-    is3 ∙ (ap (λ x. also x opt) (rw zero at is2) ∙ (sym (also_append (empty limit) head opt) ∙ alone_fits limit (head ++ opt) (cut_fits tcp query code authoritative short))) in
+    is3 ∙ (ap (λ x. also x opt) (rw zero at is2) ∙ (sym (also_append (empty limit) head opt)
+    ∙ alone_fits limit (head ++ opt) (cut_fits tcp query code authoritative short))) in
     elim (leb_tells (length (front ++ opt)) limit) [
       | inl v ↦ let f = rw v.0 at e in let g = rw f at over in absurd (cc)
       | inr v ↦ rw v.0 cut
@@ -104,28 +129,40 @@ cut_short tcp query code authoritative front w w1 w2 w3 is is1 over short is2 is
 
 -- counts that are the same modulo 65536 make the same header
 pub same_header : (id flags a b c a' b' c' : ℕ) → two a ≡ two a' → two b ≡ two b' → two c ≡ two c'
-    → header_octets (record { id = id; flags = flags; counts = 1 ∷ a ∷ b ∷ c ∷ [] }) ≡ header_octets (record { id = id; flags = flags; counts = 1 ∷ a' ∷ b' ∷ c' ∷ [] })
+    → header_octets (record { id = id; flags = flags; counts = 1 ∷ a ∷ b ∷ c ∷ [] })
+    ≡ header_octets (record { id = id; flags = flags; counts = 1 ∷ a' ∷ b' ∷ c' ∷ [] })
 unfolding header_octets
 same_header id flags a b c a' b' c' e f g = rw (e, f, g) refl
 
 -- header and question of a reply
 pub opening_by : (tcp : Bool) (query : Query) (heading : Heading) (header : List ℕ) (w w1 w2 : Writing)
-    → header ≡ header_octets (record { id = query.id; flags = reply_flags query.flags (number_of heading.code) heading.authoritative heading.truncated; counts = 1 ∷ heading.answer ∷ heading.authority ∷ (heading.additional + opt_count query.edns) ∷ [] })
-    → w ≡ empty (limit_of tcp query.edns) → w1 ≡ also w header → w2 ≡ also w1 query.echo → w2 ≡ opening tcp query heading
+    → header ≡ header_octets (record {
+      id = query.id;
+      flags = reply_flags query.flags (number_of heading.code) heading.authoritative heading.truncated;
+      counts = 1 ∷ heading.answer ∷ heading.authority ∷ (heading.additional + opt_count query.edns) ∷ [];
+    })
+    → w ≡ empty (limit_of tcp query.edns) → w1 ≡ also w header → w2 ≡ also w1 query.echo
+    → w2 ≡ opening tcp query heading
 unfolding head_octets
 opening_by tcp query heading header w w1 w2 is e0 e1 e2 =
     let limit : ℕ = limit_of tcp query.edns in
-    e2 ∙ ap (λ x. also x query.echo) (e1 ∙ ap (λ x. also x header) e0) ∙ sym (also_append (empty limit) header query.echo)
+    e2 ∙ ap (λ x. also x query.echo) (e1 ∙ ap (λ x. also x header) e0)
+    ∙ sym (also_append (empty limit) header query.echo)
     ∙ ap (λ octets. also (empty limit) (octets ++ query.echo)) is
 
-pub bare_is : (query : Query) (code : ℕ) → head_octets query code false false 0 0 (0 + opt_count query.edns) ++ opt_octets code query.edns ≡ bare_octets query code
+pub bare_is : (query : Query) (code : ℕ) → head_octets query code false false 0 0 (0 + opt_count query.edns)
+    ++ opt_octets code query.edns ≡ bare_octets query code
 unfolding bare_octets
 bare_is query code = let zero : 0 + opt_count query.edns ≡ opt_count query.edns = omega arith in rw zero refl
 
-pub curt_fits : (header : Header) (code : ℕ) → also (empty 512) (curt_octets header code) ≡ writing_of 512 (curt_octets header code)
+pub curt_fits : (header : Header) (code : ℕ)
+    → also (empty 512) (curt_octets header code) ≡ writing_of 512 (curt_octets header code)
 unfolding curt_octets
-curt_fits header code = alone_fits 512 (curt_octets header code) (omega (arith, length_header header.id (reply_flags header.flags code false false) 0 0 0 0))
+curt_fits header code = alone_fits 512 (curt_octets header code)
+    (omega (arith, length_header header.id (reply_flags header.flags code false false) 0 0 0 0))
 
 -- a reply without records
-pub bare_within : (tcp : Bool) (query : Query) (code : ℕ) → within_limit tcp query code false (bare_octets query code) ≡ within_limit tcp query code false (head_octets query code false false 0 0 (0 + opt_count query.edns) ++ opt_octets code query.edns)
+pub bare_within : (tcp : Bool) (query : Query) (code : ℕ)
+    → within_limit tcp query code false (bare_octets query code) ≡ within_limit tcp query code false
+    (head_octets query code false false 0 0 (0 + opt_count query.edns) ++ opt_octets code query.edns)
 bare_within tcp query code = ap (within_limit tcp query code false) (sym (bare_is query code))

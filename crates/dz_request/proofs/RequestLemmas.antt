@@ -1,5 +1,6 @@
 -- Steps of reading a request, written as the code's loop takes them; and what a reply takes from its request.
-use Rattle.std.proofs.Common.{◌≡◌, ℕ, ◌+◌, ◌-◌, ◌<◌, ◌≤◌, Bool, true, false, suc, List, length, take, drop, refl, subst, arith, Option, Some, None, Result, Ok, Err, if◌then◌else◌}
+use Rattle.std.proofs.Common.{◌≡◌, ℕ, ◌+◌, ◌-◌, ◌<◌, ◌≤◌, Bool, true, false, suc, List, length, take, drop, refl}
+use Rattle.std.proofs.Common.{subst, arith, Option, Some, None, Result, Ok, Err, if◌then◌else◌}
 use Rattle.std.specs.Prelude.{nat_lt, not, ◌==◌, ◌&&◌, slice_index}
 use Rattle.std.proofs.lemmas.Bool.{cases_Bool}
 use Rattle.std.proofs.lemmas.Bool.Decides.{nat_tests}
@@ -20,13 +21,16 @@ use Rattle.dz_request.specs.declared.request.Request.{Request}
 use Rattle.dz_request.specs.declared.request.Request.TheVariants.{Silent, Curt, NewerEdns, NotImp, Notify, Asks}
 use Rattle.dz_header.specs.Shape.{◌>>=◌, shape_of}
 use Rattle.dz_header.specs.declared.edns.Edns.{Edns}
-use Rattle.dz_request.specs.Request.{is_in_place, without_pointer, question_in, opt_in, add_shape, asked_in, asked_of, is_newer, is_unasked, asked_for, readable, with_header, request}
+use Rattle.dz_request.specs.Request.{is_in_place, without_pointer, question_in, opt_in, add_shape, asked_in, asked_of}
+use Rattle.dz_request.specs.Request.{is_newer, is_unasked, asked_for, readable, with_header, request}
 
-pub opt_step : (count i : ℕ) (octets : List ℕ) (found : Option Edns) → i < count → opt_in (count - i) octets found ≡ (shape_of octets >>= λ shape. add_shape shape.0 found >>= λ now. opt_in (count - (i + 1)) shape.2 now)
+pub opt_step : (count i : ℕ) (octets : List ℕ) (found : Option Edns) → i < count → opt_in (count - i) octets found
+    ≡ (shape_of octets >>= λ shape. add_shape shape.0 found >>= λ now. opt_in (count - (i + 1)) shape.2 now)
 unfolding opt_in
 opt_step count i octets found h = let e : count - i ≡ suc (count - (i + 1)) = omega arith in rw e refl
 
-pub opt_done : (count i : ℕ) (octets : List ℕ) (found : Option Edns) → count ≤ i → opt_in (count - i) octets found ≡ Some found
+pub opt_done : (count i : ℕ) (octets : List ℕ) (found : Option Edns) → count ≤ i
+    → opt_in (count - i) octets found ≡ Some found
 unfolding opt_in
 opt_done count i octets found h = let e : count - i ≡ 0 = omega arith in rw e refl
 
@@ -48,7 +52,8 @@ EchoesIn octets (Asks asked) = IsTakenFrom octets asked
 abbrev IsFoundIn : List ℕ → Question × ℕ → Type 0
 IsFoundIn octets found = IsEcho (take (found.1 - 12) (drop 12 octets)) found.0
 
-found_echo : (octets : List ℕ) (r : Result (Question × ℕ) WireFault) (found : Question × ℕ) → question_at octets 12 ≡ r → without_pointer r ≡ Some found → IsFoundIn octets found
+found_echo : (octets : List ℕ) (r : Result (Question × ℕ) WireFault) (found : Question × ℕ) → question_at octets 12 ≡ r
+    → without_pointer r ≡ Some found → IsFoundIn octets found
 found_echo octets (Err fault) found is h = absurd (cc)
 found_echo octets (Ok read) found is h = elim (cases_Bool (is_in_place read)) [
   | inr other ↦ let p = rw other at h in absurd (cc)
@@ -59,7 +64,8 @@ found_echo octets (Ok read) found is h = elim (cases_Bool (is_in_place read)) [
       subst (IsFoundIn octets) e (question_echo octets 12 read.1 read.0 is end)
 ]
 
-pub question_in_echo : (octets : List ℕ) (found : Question × ℕ) → question_in octets ≡ Some found → IsEcho (take (found.1 - 12) (drop 12 octets)) found.0
+pub question_in_echo : (octets : List ℕ) (found : Question × ℕ) → question_in octets ≡ Some found
+    → IsEcho (take (found.1 - 12) (drop 12 octets)) found.0
 unfolding question_in
 question_in_echo octets found is = found_echo octets (question_at octets 12) found refl is
 
@@ -68,17 +74,22 @@ some_is : {A : Type 0} (a b : A) → ◌≡◌ {A = Option A} (Some a) (Some b) 
 some_is a b e = cc
 
 -- a request that can be read has the question that was found
-asked_echo : (octets : List ℕ) (o : Option (Question × ℕ)) (asked : Asked) → ((found : Question × ℕ) → o ≡ Some found → IsFoundIn octets found)
+asked_echo : (octets : List ℕ) (o : Option (Question × ℕ)) (asked : Asked)
+    → ((found : Question × ℕ) → o ≡ Some found → IsFoundIn octets found)
     → asked_in octets (header_in octets) o ≡ Some asked → IsTakenFrom octets asked
 unfolding asked_in
 asked_echo octets None asked each h = absurd (cc)
 asked_echo octets (Some found) asked each h =
     let header : Header = header_in octets in
-    option_and_then_some (λ rest. opt_in (slice_index header.counts 3) rest None >>= λ edns. Some (record { header = header; question = found.0; size = found.1 - 12; edns = edns }))
+    option_and_then_some (λ rest. opt_in (slice_index header.counts 3) rest None >>= λ edns.
+    Some (record { header = header; question = found.0; size = found.1 - 12; edns = edns }))
     (behind_records (slice_index header.counts 1 + slice_index header.counts 2) (drop found.1 octets)) asked h
-    (λ rest _ h2. option_and_then_some (λ edns. Some (record { header = header; question = found.0; size = found.1 - 12; edns = edns })) (opt_in (slice_index header.counts 3) rest None) asked h2
+    (λ rest _ h2. option_and_then_some
+    (λ edns. Some (record { header = header; question = found.0; size = found.1 - 12; edns = edns }))
+    (opt_in (slice_index header.counts 3) rest None) asked h2
     (λ edns _ h3.
-    let e : record { header = header; question = found.0; size = found.1 - 12; edns = edns } ≡ asked = some_is _ asked h3 in
+    let e : record { header = header; question = found.0; size = found.1 - 12; edns = edns } ≡ asked =
+    some_is _ asked h3 in
     subst (IsTakenFrom octets) e (record { header = refl; echo = each found refl })))
 
 -- what holds of both cases holds of a choice
@@ -86,7 +97,8 @@ either : (P : Request → Type 0) (b : Bool) (x y : Request) → P x → P y →
 either P true x y p q = p
 either P false x y p q = q
 
-asked_for_echo : (octets : List ℕ) (opcode : ℕ) (asked : Asked) → IsTakenFrom octets asked → EchoesIn octets (asked_for opcode asked)
+asked_for_echo : (octets : List ℕ) (opcode : ℕ) (asked : Asked) → IsTakenFrom octets asked
+    → EchoesIn octets (asked_for opcode asked)
 unfolding asked_for
 asked_for_echo octets opcode asked is =
     either (EchoesIn octets) (is_newer asked.edns) _ _ is
@@ -95,7 +107,8 @@ asked_for_echo octets opcode asked is =
     (either (EchoesIn octets) (asked.question.kind == 6) _ _ is is)))
 
 -- the same where the question may not be readable
-readable_echo : (octets : List ℕ) (o : Option Asked) → ((asked : Asked) → o ≡ Some asked → IsTakenFrom octets asked) → EchoesIn octets (readable (header_in octets) o)
+readable_echo : (octets : List ℕ) (o : Option Asked) → ((asked : Asked) → o ≡ Some asked → IsTakenFrom octets asked)
+    → EchoesIn octets (readable (header_in octets) o)
 readable_echo octets None h = refl
 readable_echo octets (Some asked) h = asked_for_echo octets (opcode_of (header_in octets).flags) asked (h asked refl)
 
@@ -111,6 +124,8 @@ request_echo octets =
     let header : Header = header_in octets in
     either (EchoesIn octets) (nat_lt (length octets) 12) Silent _ tt
     (either (EchoesIn octets) (is_response header.flags) Silent _ tt
-    (either (EchoesIn octets) (not (opcode_of header.flags == 0) && not (opcode_of header.flags == 4)) (Curt header codes.NotImp) _ refl
+    (either (EchoesIn octets) (not (opcode_of header.flags == 0) && not (opcode_of header.flags == 4))
+    (Curt header codes.NotImp) _ refl
     (readable_echo octets (asked_of octets header (question_in octets))
-    (λ asked h. asked_echo octets (question_in octets) asked (question_in_echo octets) (asked_if (slice_index header.counts 0 == 1) (asked_in octets header (question_in octets)) asked h)))))
+    (λ asked h. asked_echo octets (question_in octets) asked (question_in_echo octets)
+    (asked_if (slice_index header.counts 0 == 1) (asked_in octets header (question_in octets)) asked h)))))

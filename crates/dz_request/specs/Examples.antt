@@ -33,18 +33,21 @@ asked = record {
 
 -- the query is read, with the name in lower case
 pub a_query : request query ≡ Asks asked
-unfolding request with_header asked_for asked_in question_in question_at name_at name_from element_at wire_of opt_in behind_records header_in number_of_two
+unfolding request with_header asked_for asked_in question_in question_at name_at name_from element_at wire_of opt_in
+    behind_records header_in number_of_two
 a_query = refl
 
 -- REFUSED, with the question spelled as in the request
-pub refused : within_limit false (query_of query asked) 5 false (bare_octets (query_of query asked) 5) ≡ 0 ∷ 19 ∷ 129 ∷ 5 ∷ 0 ∷ 1 ∷ 0 ∷ 0 ∷ 0 ∷ 0 ∷ 0 ∷ 0 ∷ 3 ∷ 111 ∷ 82 ∷ 103 ∷ 0 ∷ 0 ∷ 1 ∷ 0 ∷ 1 ∷ []
+pub refused : within_limit false (query_of query asked) 5 false (bare_octets (query_of query asked) 5)
+    ≡ 0 ∷ 19 ∷ 129 ∷ 5 ∷ 0 ∷ 1 ∷ 0 ∷ 0 ∷ 0 ∷ 0 ∷ 0 ∷ 0 ∷ 3 ∷ 111 ∷ 82 ∷ 103 ∷ 0 ∷ 0 ∷ 1 ∷ 0 ∷ 1 ∷ []
 unfolding within_limit bare_octets head_octets header_octets flags_number opt_octets two
 refused = refl
 
 -- a pointer in the question: FORMERR
 pub a_pointer : request (0 ∷ 19 ∷ 1 ∷ 0 ∷ 0 ∷ 1 ∷ 0 ∷ 0 ∷ 0 ∷ 0 ∷ 0 ∷ 0 ∷ 192 ∷ 0 ∷ 0 ∷ 1 ∷ 0 ∷ 1 ∷ [])
     ≡ Curt (record { id = 19; flags = 256; counts = 1 ∷ 0 ∷ 0 ∷ 0 ∷ [] }) responses.FormErr
-unfolding request with_header asked_for asked_in question_in question_at name_at name_from element_at wire_of opt_in behind_records header_in number_of_two
+unfolding request with_header asked_for asked_in question_in question_at name_at name_from element_at wire_of opt_in
+    behind_records header_in number_of_two
 a_pointer = refl
 
 -- ---- what requests ask for, in a word
@@ -82,7 +85,8 @@ kind_of octets = word_of (request octets)
 
 -- all that computes it: whoever unfolds `read` unfolds its whole list
 read : Octets → Request
-unfolding request with_header asked_for asked_in question_in question_at name_at name_from element_at wire_of opt_in add_shape behind_records shape_of behind_owner behind_head head_in header_in number_of_two number_of_four
+unfolding request with_header asked_for asked_in question_in question_at name_at name_from element_at wire_of opt_in
+    add_shape behind_records shape_of behind_owner behind_head head_in header_in number_of_two number_of_four
 read octets = request octets
 
 -- ---- what can't be read is a format error
@@ -92,13 +96,15 @@ pub two_questions : kind_of (0 ∷ 116 ∷ 0 ∷ 0 ∷ 0 ∷ 2 ∷ 0 ∷ 0 ∷ 0
 unfolding read
 two_questions = refl
 
-pub a_class_of_one_octet : kind_of (0 ∷ 116 ∷ 0 ∷ 0 ∷ 0 ∷ 1 ∷ 0 ∷ 0 ∷ 0 ∷ 0 ∷ 0 ∷ 0 ∷ 7 ∷ codes "example" ++ 0 ∷ 0 ∷ 6 ∷
+pub a_class_of_one_octet : kind_of
+    (0 ∷ 116 ∷ 0 ∷ 0 ∷ 0 ∷ 1 ∷ 0 ∷ 0 ∷ 0 ∷ 0 ∷ 0 ∷ 0 ∷ 7 ∷ codes "example" ++ 0 ∷ 0 ∷ 6 ∷
     0 ∷ [])
     ≡ formerr_curtly
 unfolding read
 a_class_of_one_octet = refl
 
-pub a_pointer_in_the_question : kind_of (0 ∷ 116 ∷ 0 ∷ 0 ∷ 0 ∷ 1 ∷ 0 ∷ 0 ∷ 0 ∷ 0 ∷ 0 ∷ 0 ∷ 3 ∷ codes "www" ++ 192 ∷ 12 ∷
+pub a_pointer_in_the_question : kind_of
+    (0 ∷ 116 ∷ 0 ∷ 0 ∷ 0 ∷ 1 ∷ 0 ∷ 0 ∷ 0 ∷ 0 ∷ 0 ∷ 0 ∷ 3 ∷ codes "www" ++ 192 ∷ 12 ∷
     0 ∷ 6 ∷ 0 ∷ 1 ∷ [])
     ≡ formerr_curtly
 unfolding read
@@ -124,7 +130,8 @@ pub no_answer : kind_of (0 ∷ 116 ∷ 0 ∷ 0 ∷ 0 ∷ 1 ∷ 0 ∷ 1 ∷ 0 ∷
 unfolding read
 no_answer = refl
 
-pub no_authority : kind_of (0 ∷ 116 ∷ 0 ∷ 0 ∷ 0 ∷ 1 ∷ 0 ∷ 0 ∷ 0 ∷ 1 ∷ 0 ∷ 0 ∷ 7 ∷ codes "example" ++ 0 ∷ 0 ∷ 6 ∷ 0 ∷ 1 ∷
+pub no_authority : kind_of
+    (0 ∷ 116 ∷ 0 ∷ 0 ∷ 0 ∷ 1 ∷ 0 ∷ 0 ∷ 0 ∷ 1 ∷ 0 ∷ 0 ∷ 7 ∷ codes "example" ++ 0 ∷ 0 ∷ 6 ∷ 0 ∷ 1 ∷
     [])
     ≡ formerr_curtly
 unfolding read
@@ -148,7 +155,8 @@ pub two_opt : kind_of (0 ∷ 116 ∷ 0 ∷ 0 ∷ 0 ∷ 1 ∷ 0 ∷ 0 ∷ 0 ∷ 0
 unfolding read
 two_opt = refl
 
-pub two_opt_of_version_1 : kind_of (0 ∷ 116 ∷ 0 ∷ 0 ∷ 0 ∷ 1 ∷ 0 ∷ 0 ∷ 0 ∷ 0 ∷ 0 ∷ 2 ∷ 7 ∷ codes "example" ++ 0 ∷ 0 ∷ 6 ∷
+pub two_opt_of_version_1 : kind_of
+    (0 ∷ 116 ∷ 0 ∷ 0 ∷ 0 ∷ 1 ∷ 0 ∷ 0 ∷ 0 ∷ 0 ∷ 0 ∷ 2 ∷ 7 ∷ codes "example" ++ 0 ∷ 0 ∷ 6 ∷
     0 ∷ 1 ∷ 0 ∷ 0 ∷ 41 ∷ 16 ∷ 0 ∷ 0 ∷ 1 ∷ 0 ∷ 0 ∷ 0 ∷ 0 ∷ 0 ∷ 0 ∷ 41 ∷ 16 ∷ 0 ∷ 0 ∷ 1 ∷ 0 ∷ 0 ∷ 0 ∷ 0 ∷ [])
     ≡ formerr_curtly
 unfolding read
@@ -163,7 +171,8 @@ an_opt_below_the_root = refl
 -- ---- responses come first, then other opcodes, what can't be read, the version of EDNS, and class and type
 -- a query with RD for a type in two octets, of class IN
 abbrev query_of_kind : ℕ → ℕ → Octets
-query_of_kind upper lower = 0 ∷ 117 ∷ 1 ∷ 0 ∷ 0 ∷ 1 ∷ 0 ∷ 0 ∷ 0 ∷ 0 ∷ 0 ∷ 0 ∷ 7 ∷ codes "example" ++ 0 ∷ upper ∷ lower ∷
+query_of_kind upper lower =
+    0 ∷ 117 ∷ 1 ∷ 0 ∷ 0 ∷ 1 ∷ 0 ∷ 0 ∷ 0 ∷ 0 ∷ 0 ∷ 0 ∷ 7 ∷ codes "example" ++ 0 ∷ upper ∷ lower ∷
     0 ∷ 1 ∷ []
 
 -- A, SOA, SINK, APL, the number before TKEY, and ANY
@@ -197,7 +206,8 @@ pub class_of_chaos : kind_of (0 ∷ 117 ∷ 0 ∷ 0 ∷ 0 ∷ 1 ∷ 0 ∷ 0 ∷ 
 unfolding read
 class_of_chaos = refl
 
-pub class_none : kind_of (0 ∷ 117 ∷ 0 ∷ 0 ∷ 0 ∷ 1 ∷ 0 ∷ 0 ∷ 0 ∷ 0 ∷ 0 ∷ 0 ∷ 7 ∷ codes "example" ++ 0 ∷ 0 ∷ 6 ∷ 0 ∷ 254 ∷
+pub class_none : kind_of
+    (0 ∷ 117 ∷ 0 ∷ 0 ∷ 0 ∷ 1 ∷ 0 ∷ 0 ∷ 0 ∷ 0 ∷ 0 ∷ 0 ∷ 7 ∷ codes "example" ++ 0 ∷ 0 ∷ 6 ∷ 0 ∷ 254 ∷
     [])
     ≡ notimp
 unfolding read
@@ -227,7 +237,8 @@ pub notify_of_ns : kind_of (0 ∷ 117 ∷ 36 ∷ 0 ∷ 0 ∷ 1 ∷ 0 ∷ 0 ∷ 0
 unfolding read
 notify_of_ns = refl
 
-pub notify_of_chaos : kind_of (0 ∷ 117 ∷ 36 ∷ 0 ∷ 0 ∷ 1 ∷ 0 ∷ 0 ∷ 0 ∷ 0 ∷ 0 ∷ 0 ∷ 7 ∷ codes "example" ++ 0 ∷ 0 ∷ 6 ∷ 0 ∷
+pub notify_of_chaos : kind_of
+    (0 ∷ 117 ∷ 36 ∷ 0 ∷ 0 ∷ 1 ∷ 0 ∷ 0 ∷ 0 ∷ 0 ∷ 0 ∷ 0 ∷ 7 ∷ codes "example" ++ 0 ∷ 0 ∷ 6 ∷ 0 ∷
     3 ∷ [])
     ≡ notimp
 unfolding read

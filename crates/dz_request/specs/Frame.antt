@@ -1,6 +1,7 @@
 -- Meaning: what surrounds the records of a reply, header, question and OPT, and the limit of the whole (RFC 1035
 -- sections 4.1.1, 4.1.2 and 4.2, RFC 6891 sections 6.1 and 6.2.5).
-use Rattle.std.specs.Prelude.{◌≡◌, ℕ, ◌+◌, nat_le, Bool, true, false, min, max, [], ◌∷◌, ◌++◌, length, take, drop, Option, Some, None, if◌then◌else◌}
+use Rattle.std.specs.Prelude.{◌≡◌, ℕ, ◌+◌, nat_le, Bool, true, false, min, max, [], ◌∷◌, ◌++◌, length, take, drop}
+use Rattle.std.specs.Prelude.{Option, Some, None, if◌then◌else◌}
 use Rattle.dz_name.specs.declared.dns.TheConstants.{HEADER_OCTETS, MESSAGE_OCTETS, UDP_OCTETS, EDNS_OCTETS}
 use Rattle.dz_header.specs.Code.{number_of}
 use Rattle.dz_header.specs.Edns.{opt_count, opt_octets}
@@ -76,7 +77,8 @@ opening tcp query heading = also (empty (limit_of tcp query.edns)) (heading_octe
 
 -- the reply where it exceeds its limit: header, question and OPT, with TC set (RFC 2181 section 9)
 unfoldable pub cut_octets : Query → ℕ → Bool → Octets
-cut_octets query code authoritative = head_octets query code authoritative true 0 0 (opt_count query.edns) ++ opt_octets code query.edns
+cut_octets query code authoritative =
+    head_octets query code authoritative true 0 0 (opt_count query.edns) ++ opt_octets code query.edns
 
 -- a reply of these octets where they fit, and otherwise the truncated one
 unfoldable pub within_limit : Bool → Query → ℕ → Bool → Octets → Octets
@@ -89,7 +91,8 @@ bare_octets query code = head_octets query code false false 0 0 (opt_count query
 
 -- a reply that is written: these octets where they fit, and otherwise the truncated one
 abbrev pub reply_writing : Bool → Query → ℕ → Bool → Octets → Writing
-reply_writing tcp query code authoritative octets = writing_of (limit_of tcp query.edns) (within_limit tcp query code authoritative octets)
+reply_writing tcp query code authoritative octets =
+    writing_of (limit_of tcp query.edns) (within_limit tcp query code authoritative octets)
 
 -- the end of a reply: its OPT record follows what was written, and past the limit the reply is truncated
 abbrev pub IsEnd : Bool → Query → ℕ → Bool → Writing → Writing → Type 0

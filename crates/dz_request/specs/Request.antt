@@ -1,7 +1,9 @@
 -- Meaning: what a request asks for (RFC 1035 section 4.1, RFC 1996 section 3, RFC 6891 section 6.1).
-use Rattle.std.specs.Prelude.{ℕ, zero, suc, ◌≤◌, ◌+◌, ◌-◌, Bool, false, ◌==◌, ◌&&◌, ◌||◌, not, nat_lt, nat_le, length, drop, slice_index, Option, Some, None, Result, Ok, Err, if◌then◌else◌}
+use Rattle.std.specs.Prelude.{ℕ, zero, suc, ◌≤◌, ◌+◌, ◌-◌, Bool, false, ◌==◌, ◌&&◌, ◌||◌, not, nat_lt, nat_le, length}
+use Rattle.std.specs.Prelude.{drop, slice_index, Option, Some, None, Result, Ok, Err, if◌then◌else◌}
 use Rattle.dz_name.specs.Name.{wire_of}
-use Rattle.dz_name.specs.declared.dns.TheConstants.{HEADER_OCTETS, NAME_OCTETS, TYPE_OPT, TYPE_TKEY, TYPE_MAILA, TYPE_SOA, CLASS_IN, OPCODE_QUERY, OPCODE_NOTIFY}
+use Rattle.dz_name.specs.declared.dns.TheConstants.{HEADER_OCTETS, NAME_OCTETS, TYPE_OPT, TYPE_TKEY, TYPE_MAILA}
+use Rattle.dz_name.specs.declared.dns.TheConstants.{TYPE_SOA, CLASS_IN, OPCODE_QUERY, OPCODE_NOTIFY}
 use Rattle.dz_name.specs.declared.wire_fault.WireFault.{WireFault}
 use Rattle.dz_header.specs.Edns.{edns_of}
 use Rattle.dz_header.specs.Flags.{is_response, opcode_of}
@@ -93,7 +95,8 @@ readable header (Some asked) = asked_for (opcode_of header.flags) asked
 unfoldable pub with_header : Octets → Header → Option (Question × ℕ) → Request
 with_header octets header found =
     if is_response header.flags then Silent
-    else if not (opcode_of header.flags == OPCODE_QUERY) && not (opcode_of header.flags == OPCODE_NOTIFY) then Curt header codes.NotImp
+    else if not (opcode_of header.flags == OPCODE_QUERY)
+    && not (opcode_of header.flags == OPCODE_NOTIFY) then Curt header codes.NotImp
     else readable header (asked_of octets header found)
 
 -- what these octets ask for; fewer than twelve get no reply

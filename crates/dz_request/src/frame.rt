@@ -7,7 +7,8 @@ ghost use Rattle.dz_header.specs.Header.{header_octets};
 ghost use Rattle.dz_header.specs.Writing.{also, empty, writing_of};
 ghost use Rattle.dz_name.specs.Numbers.{two};
 ghost use Rattle.dz_name.specs.Words.{Octets};
-ghost use Rattle.dz_request.specs.Frame.{is_tcp, query_of, reply_flags, opening, limit_of, reply_writing, bare_octets, curt_octets, IsEnd};
+ghost use Rattle.dz_request.specs.Frame.{is_tcp, query_of, reply_flags, opening, limit_of, reply_writing, bare_octets};
+ghost use Rattle.dz_request.specs.Frame.{curt_octets, IsEnd};
 ghost use Rattle.dz_request.specs.Request.{IsWhole};
 
 use crate::request::Asked;

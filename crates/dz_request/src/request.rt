@@ -2,7 +2,8 @@
 
 ghost use Rattle.std.specs.Prelude.{◌≡◌, ℕ, ◌+◌, ◌-◌, ◌<◌, ◌≤◌, length, drop, Some, None, IfSome};
 ghost use Rattle.dz_header.specs.Flags.{opcode_of};
-ghost use Rattle.dz_request.specs.Request.{question_in, add_shape, opt_in, asked_in, asked_of, is_newer, is_unasked, asked_for, with_header, request, FitsIn, IsWhole};
+ghost use Rattle.dz_request.specs.Request.{question_in, add_shape, opt_in, asked_in, asked_of, is_newer, is_unasked};
+ghost use Rattle.dz_request.specs.Request.{asked_for, with_header, request, FitsIn, IsWhole};
 ghost use Rattle.dz_name.specs.Words.{Octets};
 
 use dz_header::{

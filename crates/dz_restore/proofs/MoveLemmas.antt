@@ -1,5 +1,6 @@
 -- A zone has its turn.
-use Rattle.std.proofs.Common.{◌≡◌, ◌≢◌, ◌⊎◌, ℕ, ◌+◌, ◌-◌, ◌<◌, ◌≤◌, ◌^◌, Bool, true, false, List, [], ◌∷◌, ◌++◌, length, get_or, refl, sym, ◌∙◌, ap, subst, arith, inl, inr, Option, Some, None}
+use Rattle.std.proofs.Common.{◌≡◌, ◌≢◌, ◌⊎◌, ℕ, ◌+◌, ◌-◌, ◌<◌, ◌≤◌, ◌^◌, Bool, true, false, List, [], ◌∷◌, ◌++◌}
+use Rattle.std.proofs.Common.{length, get_or, refl, sym, ◌∙◌, ap, subst, arith, inl, inr, Option, Some, None}
 use Rattle.std.specs.Prelude.{not, ◌&&◌, ◌%◌, is_some, slice_get, if◌then◌else◌}
 use Rattle.std.specs.List.{AllByRecursion}
 use Rattle.std.specs.Option.{option_map_or}
@@ -39,7 +40,9 @@ use Rattle.dz_job.specs.Job.{JobOf, transfer_for, taken_for}
 use Rattle.dz_job.specs.declared.verdict.Verdict.TheVariants.{Published, PolicyRefused}
 use Rattle.dz_fleet.specs.declared.due.Due.TheVariants as due
 use Rattle.dz_fleet.specs.Values.{value_at}
-use Rattle.dz_fleet.specs.Core.{Core, state_of, due_of, job_for, job_at, after_due, ended_of, failed_core, after_end, after_failure, after_refusal, after_success, entry_for, used_of, tsig_of, verdict_of, after_verdict, settled, is_accepted}
+use Rattle.dz_fleet.specs.Core.{Core, state_of, due_of, job_for, job_at, after_due, ended_of, failed_core, after_end}
+use Rattle.dz_fleet.specs.Core.{after_failure, after_refusal, after_success, entry_for, used_of, tsig_of, verdict_of}
+use Rattle.dz_fleet.specs.Core.{after_verdict, settled, is_accepted}
 use Rattle.dz_fleet.specs.Sound.{IsAmong, IsFlying}
 use Rattle.dz_fleet.proofs.EventLemmas.{IsWell, well_due, well_end, well_refusal, well_settled}
 use Rattle.dz_fleet.proofs.GivenLemmas.{given_now}
@@ -48,7 +51,8 @@ use Rattle.dz_fleet.proofs.SettleLemmas.{settled_by}
 use Rattle.dz_fleet.proofs.TakeLemmas.{verdict_new, verdict_policy, decision_is}
 use Rattle.dz_fleet.proofs.WaitLemmas.{seat_stands}
 use Rattle.dz_store.specs.Kept.{KeptZone, CanBeKept}
-use Rattle.dz_restore.specs.Restoring.{home_at, is_home, may_return, moment_of, sent_with, ended_with, after_turn, restore_one}
+use Rattle.dz_restore.specs.Restoring.{home_at, is_home, may_return, moment_of, sent_with, ended_with, after_turn}
+use Rattle.dz_restore.specs.Restoring.{restore_one}
 use Rattle.dz_restore.specs.Laws.{AreKept}
 use Rattle.dz_restore.specs.Turns.{IsTurn, IsRestoring, MayList}
 use Rattle.dz_restore.proofs.CoreLemmas.{due_in_turn, fails_in_turn, refused_in_turn, succeeds_in_turn, fresh_there}
@@ -93,7 +97,8 @@ pub record Moved (c : Core) (keeps : Name → Option KeptZone) (count : ℕ) (d 
   pub fold : length (state_of c).fold.config ≤ count → (state_of d).fold ≡ (state_of c).fold
 
 module _ (c : Core) (keeps : Name → Option KeptZone) (count : ℕ) (seat : Seat)
-    (ok : IsWell c) (going : IsRestoring c count) (room : c.tickets + 1 < 2 ^ 64 - 2) (holds : Holds (state_of c) keeps count)
+    (ok : IsWell c) (going : IsRestoring c count) (room : c.tickets + 1 < 2 ^ 64 - 2)
+    (holds : Holds (state_of c) keeps count)
     (kept : AreKept keeps) (there : slice_get (seats (state_of c)) count ≡ Some seat) where
   abbrev s : State
   s = state_of c
@@ -169,7 +174,8 @@ module _ (c : Core) (keeps : Name → Option KeptZone) (count : ℕ) (seat : Sea
   }
 
   -- ---- it brings nothing
-  module _ (d : Core) (well : IsWell d) (next_turn : IsRestoring d (count + 1)) (drawn : d.tickets ≡ c.tickets + 1) (same : d.list ≡ c.list) (none : to_hold s seat.zone (keeps seat.zone) ≡ None) where
+  module _ (d : Core) (well : IsWell d) (next_turn : IsRestoring d (count + 1)) (drawn : d.tickets ≡ c.tickets + 1)
+      (same : d.list ≡ c.list) (none : to_hold s seat.zone (keeps seat.zone) ≡ None) where
     same_state : state_of d ≡ s
     same_state = ap (λ l. after l) same
 
@@ -188,7 +194,8 @@ module _ (c : Core) (keeps : Name → Option KeptZone) (count : ℕ) (seat : Sea
 
   failed_moved : to_hold s seat.zone (keeps seat.zone) ≡ None → Moved c keeps count (failed_core busy job 0)
   failed_moved none =
-      unmoved (failed_core busy job 0) (well_end busy job 0 busy_well among (ended_of busy job) refl) (fails_in_turn c count now 0 going within job_place not_ended room)
+      unmoved (failed_core busy job 0) (well_end busy job 0 busy_well among (ended_of busy job) refl)
+      (fails_in_turn c count now 0 going within job_place not_ended room)
       (ap (λ (x : Core). x.tickets) failed_is) (ap (λ (x : Core). x.list) failed_is) none
 
   -- ---- it brings the kept version
@@ -199,7 +206,8 @@ module _ (c : Core) (keeps : Name → Option KeptZone) (count : ℕ) (seat : Sea
     abbrev read : Octets
     read = used_of job octets
 
-    may_parts : (option_map_or (is_home k) (home_at s job.flight.zone) false && (not (is_some job.key) && is_fit k.version)) ≡ true
+    may_parts : (option_map_or (is_home k) (home_at s job.flight.zone) false
+        && (not (is_some job.key) && is_fit k.version)) ≡ true
     unfolding may_return
     may_parts = may
 
@@ -216,7 +224,8 @@ module _ (c : Core) (keeps : Name → Option KeptZone) (count : ℕ) (seat : Sea
     transfer_is = λ i. record { apex = sym apex_is i; ask = ask_is i; id = job.flight.id; held = held_is i }
 
     used : IsUsed (transfer_for job) octets (new k.version)
-    used = subst (λ t. IsUsed t octets (new k.version)) (sym transfer_is) (sent_used job.flight.id k.version id_small (subst Rattle.dz_name.specs.Name.IsName (sym can.apex) can.zone) can.version fit)
+    used = subst (λ t. IsUsed t octets (new k.version)) (sym transfer_is) (sent_used job.flight.id k.version id_small
+        (subst Rattle.dz_name.specs.Name.IsName (sym can.apex) can.zone) can.version fit)
 
     made : outcome (transfer_for job) octets ≡ new k.version
     made = ap (λ t. outcome t octets) transfer_is ∙ sent_new job.flight.id k.version id_small can.version fit
@@ -228,22 +237,29 @@ module _ (c : Core) (keeps : Name → Option KeptZone) (count : ℕ) (seat : Sea
     unfolding tsig_of
     unsigned o = ap (λ key. tsig_in key (transfer_for job) (used_of job o) job.flight.moment) no_key
 
-    hold_is : to_hold s seat.zone (keeps seat.zone) ≡ (if is_accepted (policy_at s job.flight.zone) k.version then Some k.version else None)
+    hold_is : to_hold s seat.zone (keeps seat.zone)
+        ≡ (if is_accepted (policy_at s job.flight.zone) k.version then Some k.version else None)
     hold_is =
         let tests = and_holds _ _ (is_fit k.version) (is_accepted (policy_at s job.flight.zone) k.version) may_parts in
         ap (λ z. to_hold s z (keeps seat.zone)) (sym zone_is) ∙ ap (to_hold s job.flight.zone) is
-        ∙ ap (λ key. if option_map_or (is_home k) (home_at s job.flight.zone) false && (not (is_some key) && (is_fit k.version && is_accepted (policy_at s job.flight.zone) k.version)) then Some k.version else None) (sym key_is)
+        ∙ ap (λ key. if option_map_or (is_home k) (home_at s job.flight.zone) false
+        && (not (is_some key) && (is_fit k.version && is_accepted (policy_at s job.flight.zone) k.version))
+        then Some k.version else None) (sym key_is)
         ∙ ap (λ b. if b then Some k.version else None) tests
 
     -- ---- its policy refuses it
-    refused_is : is_accepted (policy_at s job.flight.zone) k.version ≡ false → settled busy job octets k.refreshed ≡ after_refusal busy job k.refreshed
-    refused_is f = ap (after_verdict busy job read k.refreshed) (verdict_policy busy job octets k.version (unsigned octets) made not_ended f)
+    refused_is : is_accepted (policy_at s job.flight.zone) k.version ≡ false
+        → settled busy job octets k.refreshed ≡ after_refusal busy job k.refreshed
+    refused_is f = ap (after_verdict busy job read k.refreshed)
+        (verdict_policy busy job octets k.version (unsigned octets) made not_ended f)
 
-    refused_moved : is_accepted (policy_at s job.flight.zone) k.version ≡ false → Moved c keeps count (settled busy job octets k.refreshed)
+    refused_moved : is_accepted (policy_at s job.flight.zone) k.version ≡ false
+        → Moved c keeps count (settled busy job octets k.refreshed)
     refused_moved f =
         let e = refused_is f in
         subst (Moved c keeps count) (sym e)
-        (unmoved (after_refusal busy job k.refreshed) (well_refusal busy job k.refreshed busy_well among not_ended) (refused_in_turn c count now k.refreshed going within job_place room)
+        (unmoved (after_refusal busy job k.refreshed) (well_refusal busy job k.refreshed busy_well among not_ended)
+        (refused_in_turn c count now k.refreshed going within job_place room)
         refl refl (hold_is ∙ ap (λ b. if b then Some k.version else None) f))
 
     -- ---- it is published
@@ -255,36 +271,47 @@ module _ (c : Core) (keeps : Name → Option KeptZone) (count : ℕ) (seat : Sea
       next = step s (entry_for job read)
 
       published_is : settled busy job octets k.refreshed ≡ after_success busy job read aftermath
-      published_is = ap (after_verdict busy job read k.refreshed) (verdict_new busy job octets k.version (unsigned octets) made not_ended accepted)
+      published_is = ap (after_verdict busy job read k.refreshed)
+          (verdict_new busy job octets k.version (unsigned octets) made not_ended accepted)
 
       read_is : settled busy job read k.refreshed ≡ after_success busy job read aftermath
-      read_is = settled_by busy job read used.all k.refreshed _ (verdict_new busy job read k.version (unsigned read) used.outcome not_ended accepted)
+      read_is = settled_by busy job read used.all k.refreshed _
+          (verdict_new busy job read k.version (unsigned read) used.outcome not_ended accepted)
 
       published_well : IsWell (after_success busy job read aftermath)
       published_well = subst IsWell read_is (well_settled busy job read k.refreshed busy_well flies used.all)
 
       place_next : (o : Option ℕ) → o ≡ catalog_at s job.flight.zone → place_at next job.flight.zone ≡ Some count
       place_next (Some number) e = own_stands s (taken_for job read) number (sym e) ∙ job_place
-      place_next None e = place_by_fold next s job.flight.zone (fold_of_member s (taken_for job read) (sym e)) ∙ job_place
+      place_next None e =
+          place_by_fold next s job.flight.zone (fold_of_member s (taken_for job read) (sym e)) ∙ job_place
 
       next_apart : AllByRecursion (λ m. catalog_at s m.zone ≡ None) next.fold.members
       next_apart =
-          subst (λ config. AllByRecursion (λ m. number_of config m.zone ≡ None) next.fold.members) (config_step s (taken_for job read)) (apart_step s (taken_for job read) ok.apart)
+          subst (λ config. AllByRecursion (λ m. number_of config m.zone ≡ None) next.fold.members)
+          (config_step s (taken_for job read)) (apart_step s (taken_for job read) ok.apart)
 
-      may_changes : (number : ℕ) → Some number ≡ catalog_at s job.flight.zone → (listing : _) → MayList s busy.values next.fold.members count (listing_aftermath s job.flight.zone listing)
+      may_changes : (number : ℕ) → Some number ≡ catalog_at s job.flight.zone → (listing : _)
+          → MayList s busy.values next.fold.members count (listing_aftermath s job.flight.zone listing)
       may_changes number e (Rattle.std.specs.Prelude.Ok nodes) =
-          let same : number ≡ count = same_Some number count (sym (place_catalog s job.flight.zone number e) ∙ job_place) in
+          let same : number ≡ count =
+          same_Some number count (sym (place_catalog s job.flight.zone number e) ∙ job_place) in
           let less = number_within s job.flight.zone number e in
           (omega (arith, same, less), omega (arith, busy_well.sound.sized, seats_size s), next_apart)
       may_changes number e (Rattle.std.specs.Prelude.Err reason) = tt
 
-      may_list : (o : Option ℕ) → o ≡ catalog_at s job.flight.zone → MayList s busy.values next.fold.members count aftermath
-      may_list None e = subst (MayList s busy.values next.fold.members count) (sym (aftermath_member s job.flight.zone (new k.version) e)) tt
+      may_list : (o : Option ℕ) → o ≡ catalog_at s job.flight.zone
+          → MayList s busy.values next.fold.members count aftermath
+      may_list None e = subst (MayList s busy.values next.fold.members count)
+          (sym (aftermath_member s job.flight.zone (new k.version) e)) tt
       may_list (Some number) e =
-          subst (MayList s busy.values next.fold.members count) (sym (aftermath_catalog s job.flight.zone number (new k.version) e)) (may_changes number e (listing_of k.version.apex k.version.records))
+          subst (MayList s busy.values next.fold.members count)
+          (sym (aftermath_catalog s job.flight.zone number (new k.version) e))
+          (may_changes number e (listing_of k.version.apex k.version.records))
 
       published_turn : IsRestoring (after_success busy job read aftermath) (count + 1)
-      published_turn = succeeds_in_turn c count now read aftermath going within (place_next (catalog_at s job.flight.zone) refl) (may_list (catalog_at s job.flight.zone) refl) room
+      published_turn = succeeds_in_turn c count now read aftermath going within
+          (place_next (catalog_at s job.flight.zone) refl) (may_list (catalog_at s job.flight.zone) refl) room
 
       published_list : (after_success busy job read aftermath).list ≡ c.list ++ entry_for job read ∷ []
       unfolding after_success
@@ -307,15 +334,19 @@ module _ (c : Core) (keeps : Name → Option KeptZone) (count : ℕ) (seat : Sea
       published_holds =
           let kept_own : keeps job.flight.zone ≡ Some k = ap keeps zone_is ∙ is in
           let hold : to_hold s job.flight.zone (keeps job.flight.zone) ≡ Some k.version =
-          subst (λ z. to_hold s z (keeps z) ≡ Some k.version) (sym zone_is) (hold_is ∙ ap (λ b. if b then Some k.version else None) accepted) in
+          subst (λ z. to_hold s z (keeps z) ≡ Some k.version) (sym zone_is)
+          (hold_is ∙ ap (λ b. if b then Some k.version else None) accepted) in
           let longer = rw published_list at published_well.sound.legal in
           let state = subst IsState published_state published_well.state in
-          grown c.list (taken_for job read) keeps count seat k ok.sound.legal longer ok.sound.begun ok.state ok.apart state there zone_is kept_own decided moment_is hold holds
+          grown c.list (taken_for job read) keeps count seat k ok.sound.legal longer ok.sound.begun ok.state ok.apart
+          state there zone_is kept_own decided moment_is hold holds
 
-      fold_stays : (o : Option ℕ) → o ≡ catalog_at s job.flight.zone → length s.fold.config ≤ count → next.fold ≡ s.fold
+      fold_stays : (o : Option ℕ) → o ≡ catalog_at s job.flight.zone → length s.fold.config ≤ count
+          → next.fold ≡ s.fold
       fold_stays None e le = fold_of_member s (taken_for job read) (sym e)
       fold_stays (Some number) e le =
-          let same : number ≡ count = same_Some number count (sym (place_catalog s job.flight.zone number e) ∙ job_place) in
+          let same : number ≡ count =
+          same_Some number count (sym (place_catalog s job.flight.zone number e) ∙ job_place) in
           absurd (omega (arith, same, number_within s job.flight.zone number e, le))
 
       published_moved : Moved c keeps count (settled busy job octets k.refreshed)
@@ -327,19 +358,24 @@ module _ (c : Core) (keeps : Name → Option KeptZone) (count : ℕ) (seat : Sea
             tickets = published_tickets;
             holds = subst (λ x. Holds x keeps (count + 1)) (sym published_state) published_holds;
             config = ap (λ (x : State). x.fold.config) published_state ∙ config_step s (taken_for job read);
-            fold = λ le. ap (λ (x : State). x.fold) published_state ∙ fold_stays (catalog_at s job.flight.zone) refl le;
+            fold = λ le. ap (λ (x : State). x.fold) published_state
+                ∙ fold_stays (catalog_at s job.flight.zone) refl le;
           })
 
     settled_moved : Moved c keeps count (settled busy job octets k.refreshed)
-    settled_moved = elim (cases_Bool (is_accepted (policy_at s job.flight.zone) k.version)) [ inl t ↦ published_moved t | inr f ↦ refused_moved f ]
+    settled_moved = elim (cases_Bool (is_accepted (policy_at s job.flight.zone) k.version))
+        [ inl t ↦ published_moved t | inr f ↦ refused_moved f ]
 
   -- ---- whatever is kept of it
-  may_not : (k : KeptZone) → keeps seat.zone ≡ Some k → may_return s job k ≡ false → to_hold s seat.zone (keeps seat.zone) ≡ None
+  may_not : (k : KeptZone) → keeps seat.zone ≡ Some k → may_return s job k ≡ false
+      → to_hold s seat.zone (keeps seat.zone) ≡ None
   unfolding may_return
   may_not k is f =
       let tests = and_fails _ _ (is_fit k.version) (is_accepted (policy_at s job.flight.zone) k.version) f in
       ap (λ z. to_hold s z (keeps seat.zone)) (sym zone_is) ∙ ap (to_hold s job.flight.zone) is
-      ∙ ap (λ key. if option_map_or (is_home k) (home_at s job.flight.zone) false && (not (is_some key) && (is_fit k.version && is_accepted (policy_at s job.flight.zone) k.version)) then Some k.version else None) (sym key_is)
+      ∙ ap (λ key. if option_map_or (is_home k) (home_at s job.flight.zone) false
+      && (not (is_some key) && (is_fit k.version && is_accepted (policy_at s job.flight.zone) k.version))
+      then Some k.version else None) (sym key_is)
       ∙ ap (λ b. if b then Some k.version else None) tests
 
   moved_with : (tale : Option KeptZone) → keeps seat.zone ≡ tale → Moved c keeps count (ended_with busy job tale)
@@ -351,4 +387,5 @@ module _ (c : Core) (keeps : Name → Option KeptZone) (count : ℕ) (seat : Sea
 
   pub moved : Moved c keeps count (restore_one (keeps seat.zone) c)
   unfolding restore_one
-  moved = subst (λ a. Moved c keeps count (after_turn c (keeps seat.zone) a)) (sym is_due) (moved_with (keeps seat.zone) refl)
+  moved = subst (λ a. Moved c keeps count (after_turn c (keeps seat.zone) a)) (sym is_due)
+      (moved_with (keeps seat.zone) refl)

@@ -14,7 +14,13 @@ catalog = codes "cat1" ∷ codes "example" ∷ []
 
 -- the zone, kept under a label of that catalog, at the moment 1000
 abbrev kept_under : Option Octets → KeptZone
-kept_under label = record { zone = example; catalog = catalog; label = label; refreshed = 1000; version = record { apex = example; records = [] } }
+kept_under label = record {
+  zone = example;
+  catalog = catalog;
+  label = label;
+  refreshed = 1000;
+  version = record { apex = example; records = [] };
+}
 
 -- the zone belongs to that catalog, under the label `m2`
 abbrev home : Home

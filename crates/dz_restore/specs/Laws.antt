@@ -29,11 +29,13 @@ pub record Returns (s : State) (zone : Name) (k : KeptZone) : Type 0 where
 
 -- a zone holds a version exactly where that is kept of it and returns, and else it holds none
 abbrev pub HoldsKept : State → (Name → Option KeptZone) → Type 0
-HoldsKept s keeps = (zone : Name) (version : Zone) → (held_at s zone ≡ Some version) ↔ ((k : KeptZone) × (keeps zone ≡ Some k) × Returns s zone k × (version ≡ k.version))
+HoldsKept s keeps = (zone : Name) (version : Zone) → (held_at s zone ≡ Some version)
+    ↔ ((k : KeptZone) × (keeps zone ≡ Some k) × Returns s zone k × (version ≡ k.version))
 
 -- a member that holds a version has the moment at which its kept one was refreshed
 abbrev pub HasKeptMoments : State → (Name → Option KeptZone) → Type 0
-HasKeptMoments s keeps = (zone : Name) (slot : SlotOf) (version : Zone) → catalog_at s zone ≡ None → slot_of zone s.table ≡ Some slot → slot.version ≡ Some version
+HasKeptMoments s keeps = (zone : Name) (slot : SlotOf) (version : Zone) → catalog_at s zone ≡ None
+    → slot_of zone s.table ≡ Some slot → slot.version ≡ Some version
     → (k : KeptZone) × (keeps zone ≡ Some k) × (slot.refreshed ≡ k.refreshed)
 
 -- both hold of a configuration that is allowed, while there are tickets for the catalogs and for the members that they

@@ -1,5 +1,6 @@
 -- Meaning: a core to which kept versions are given back, each zone in its turn (RFC 9432 section 5).
-use Rattle.std.specs.Prelude.{ℕ, zero, suc, ◌+◌, Bool, false, not, ◌&&◌, is_some, nat_lt, List, length, slice_get, Option, Some, None, if◌then◌else◌}
+use Rattle.std.specs.Prelude.{ℕ, zero, suc, ◌+◌, Bool, false, not, ◌&&◌, is_some, nat_lt, List, length, slice_get}
+use Rattle.std.specs.Prelude.{Option, Some, None, if◌then◌else◌}
 use Rattle.std.specs.Option.{option_map, option_map_or, option_eq}
 use Rattle.std.specs.Str.{bytes_eq}
 use Rattle.dz_name.specs.Words.{Name, Octets}
@@ -39,7 +40,8 @@ is_home k home = same_name k.catalog home.catalog && option_eq bytes_eq k.label 
 -- a kept version may be given back by a job: it was kept where the job's zone belongs, the zone's catalog has no key,
 -- which the job would have, and the version can be sent
 unfoldable pub may_return : State → JobOf → KeptZone → Bool
-may_return s job k = option_map_or (is_home k) (home_at s job.flight.zone) false && (not (is_some job.key) && is_fit k.version)
+may_return s job k =
+    option_map_or (is_home k) (home_at s job.flight.zone) false && (not (is_some job.key) && is_fit k.version)
 
 -- ---- one zone
 -- when a zone is handed out: at its kept moment, or at 0

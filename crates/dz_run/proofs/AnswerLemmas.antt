@@ -7,7 +7,8 @@ use Rattle.dz_take.specs.Outcome.{outcome}
 use Rattle.dz_take.specs.Transfer.{Decision, up_to_date, new, refused}
 use Rattle.dz_script.specs.Hex.{octets_in}
 use Rattle.dz_script.specs.Line.{is_skipped}
-use Rattle.dz_run.specs.Answering.{State, transfer_of, answer_rules, answer_turn, line_turn, zone_turn, taking_turn, request_turn}
+use Rattle.dz_run.specs.Answering.{State, transfer_of, answer_rules, answer_turn, line_turn, zone_turn, taking_turn}
+use Rattle.dz_run.specs.Answering.{request_turn}
 use Rattle.dz_run.specs.ZoneLine.{zone_line}
 use Rattle.dz_run.proofs.EndLemmas.{IsTurnBefore, EndBefore, either}
 
@@ -20,7 +21,8 @@ zone_before : (number : ℕ) (fields : Option (Name × Octets)) → IsTurnBefore
 zone_before number None = λ is. cc
 zone_before number (Some fields) = taking_before fields.0 (outcome (transfer_of fields.0) (frame fields.1))
 
-request_before : (slots : List SlotOf) (number : ℕ) (octets : Option Octets) → IsTurnBefore (request_turn slots number octets)
+request_before : (slots : List SlotOf) (number : ℕ) (octets : Option Octets)
+    → IsTurnBefore (request_turn slots number octets)
 request_before slots number None = λ is. cc
 request_before slots number (Some octets) = tt
 

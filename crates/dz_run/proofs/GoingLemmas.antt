@@ -1,5 +1,6 @@
 -- Lines of a script of `replay` that go on.
-use Rattle.std.proofs.Common.{◌≡◌, ℕ, ◌+◌, ◌≤◌, false, List, [], ◌∷◌, ◌++◌, map, length, refl, sym, ◌∙◌, ap, subst, arith, Option, Some, None}
+use Rattle.std.proofs.Common.{◌≡◌, ℕ, ◌+◌, ◌≤◌, false, List, [], ◌∷◌, ◌++◌, map, length, refl, sym, ◌∙◌, ap, subst}
+use Rattle.std.proofs.Common.{arith, Option, Some, None}
 use Rattle.std.specs.Prelude.{nat_lt, if◌then◌else◌}
 use Rattle.std.proofs.lemmas.Bool.{le-ltb, eq-eqb}
 use Rattle.dz_name.specs.Words.{Octets}
@@ -21,7 +22,8 @@ use Rattle.dz_fleet.specs.declared.due.Due.{Due}
 use Rattle.dz_fleet.specs.declared.due.Due.TheVariants as due
 use Rattle.dz_gen.specs.Reading.{job_lines, setting_lines}
 use Rattle.dz_run.specs.Flight.{job_in}
-use Rattle.dz_run.specs.Replaying.{State, running, line_turn, event_line, due_text, ask_turn, take_turn, replay_rules, opening, at_place}
+use Rattle.dz_run.specs.Replaying.{State, running, line_turn, event_line, due_text, ask_turn, take_turn, replay_rules}
+use Rattle.dz_run.specs.Replaying.{opening, at_place}
 use Rattle.dz_rehearsal.specs.Life.{config, Makes}
 use Rattle.dz_rehearsal.proofs.SizeLemmas.{total}
 use Rattle.dz_script.specs.declared.line.Event.{Event as What}
@@ -37,7 +39,7 @@ pub goes_none : (s : State) → Goes s [] s
 unfolding Goes
 goes_none s = refl
 
--- two lists of lines, one behind the other
+-- two lists of lines, one after the other
 pub goes_both : (s t u : State) (xs ys : List Line) → Goes s xs t → Goes t ys u → Goes s (xs ++ ys) u
 unfolding Goes
 goes_both s t u [] ys p q = subst (λ x. Goes x ys u) (sym p) q
@@ -137,7 +139,8 @@ further_at place next line lines is =
 
 -- where a script is after its lines, in this state
 abbrev pub IsAfter : Place State → List Octets → State → Type 0
-IsAfter place texts state = (end : Place State) × (place_after replay_rules place texts ≡ Some end) × (end.state ≡ state)
+IsAfter place texts state = (end : Place State) × (place_after replay_rules place texts ≡ Some end)
+    × (end.state ≡ state)
 
 nothing_left : (place : Place State) (state : State) → place.state ≡ state → IsAfter place [] state
 unfolding place_after

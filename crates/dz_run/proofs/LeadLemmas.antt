@@ -1,5 +1,6 @@
 -- No line of `replay` leads back: the list of taken transfers only grows.
-use Rattle.std.proofs.Common.{◌≡◌, ℕ, Bool, true, List, [], ◌∷◌, ◌++◌, refl, sym, ◌∙◌, ap, Option, Some, None, Result, Ok, Err}
+use Rattle.std.proofs.Common.{◌≡◌, ℕ, Bool, true, List, [], ◌∷◌, ◌++◌, refl, sym, ◌∙◌, ap, Option, Some, None, Result}
+use Rattle.std.proofs.Common.{Ok, Err}
 use Rattle.std.specs.Prelude.{OnErr}
 use Rattle.std.proofs.lemmas.List.{append-nil}
 use mathlib.Core.List.{IsPrefix}
@@ -28,7 +29,9 @@ use Rattle.dz_fleet.proofs.GrowLemmas.{only_grows}
 use Rattle.dz_desk.proofs.PrefixLemmas.{prefix_self, prefix_trans}
 use Rattle.dz_run.specs.Flight.{job_in}
 use Rattle.dz_run.specs.Running.{list_of_script}
-use Rattle.dz_run.specs.Replaying.{State, opening, running, list_in, IsListBefore, job_turn, take_turn, fail_turn, ask_turn, event_turn, event_line, line_turn, replay_turn, replay_finish, replay_rules}
+use Rattle.dz_run.specs.Replaying.{State, opening, running, list_in, IsListBefore, job_turn, take_turn, fail_turn}
+use Rattle.dz_run.specs.Replaying.{ask_turn, event_turn, event_line, line_turn, replay_turn, replay_finish}
+use Rattle.dz_run.specs.Replaying.{replay_rules}
 use Rattle.dz_run.specs.declared.answering.End.{End}
 
 -- ---- lists
@@ -52,7 +55,9 @@ by_list c d s same before = (before.0, ap (λ front. front ++ before.0) same ∙
 
 -- ---- events
 grown : (c : Core) (event : events.Event) → IsPrefix c.list (next c event).list
-grown c event = let front : IsFrontOf c.list (next c event).list = only_grows c [] (event ∷ []) in (front.0, sym front.1)
+grown c event =
+    let front : IsFrontOf c.list (next c event).list = only_grows c [] (event ∷ []) in
+    (front.0, sym front.1)
 
 due_list : (c : Core) (answer : Due) → (after_due c answer).list ≡ c.list
 due_list c (due.Job job) = refl
@@ -76,40 +81,49 @@ failed_list c d job now is = ap (λ (x : Core). x.list) is ∙ end_list c job no
 pub job_leads : (c : Core) (moment : ℕ) → IsListBefore (running c) (turn_state (job_turn c moment))
 job_leads c moment = grown c (asked moment true)
 
-pub take_leads : (c : Core) (number moment : ℕ) (octets : Octets) (job : Option JobOf) → IsListBefore (running c) (turn_state (take_turn c number moment octets job))
+pub take_leads : (c : Core) (number moment : ℕ) (octets : Octets) (job : Option JobOf)
+    → IsListBefore (running c) (turn_state (take_turn c number moment octets job))
 take_leads c number moment octets None = prefix_self c.list
 take_leads c number moment octets (Some job) = grown c (ended job octets moment)
 
-fail_leads : (c : Core) (number moment : ℕ) (job : Option JobOf) → IsListBefore (running c) (turn_state (fail_turn c number moment job))
+fail_leads : (c : Core) (number moment : ℕ) (job : Option JobOf)
+    → IsListBefore (running c) (turn_state (fail_turn c number moment job))
 fail_leads c number moment None = prefix_self c.list
 fail_leads c number moment (Some job) = grown c (failed job moment)
 
-ask_leads : (c : Core) (moment : ℕ) (transport : Transport) (peer : Peer) (request : Octets) (zone : Option Name) → IsListBefore (running c) (turn_state (ask_turn c moment transport peer request zone))
+ask_leads : (c : Core) (moment : ℕ) (transport : Transport) (peer : Peer) (request : Octets) (zone : Option Name)
+    → IsListBefore (running c) (turn_state (ask_turn c moment transport peer request zone))
 ask_leads c moment transport peer request None = prefix_self c.list
 ask_leads c moment transport peer request (Some zone) = grown c (notified peer zone)
 
-pub event_leads : (c : Core) (number moment : ℕ) (event : Event) → IsListBefore (running c) (turn_state (event_turn c number moment event))
+pub event_leads : (c : Core) (number moment : ℕ) (event : Event)
+    → IsListBefore (running c) (turn_state (event_turn c number moment event))
 unfolding event_turn
 event_leads c number moment Job = job_leads c moment
 event_leads c number moment (Take ticket octets) = take_leads c number moment octets (job_in c.flight ticket)
 event_leads c number moment (Fail ticket) = fail_leads c number moment (job_in c.flight ticket)
-event_leads c number moment (Ask transport peer request) = ask_leads c moment transport peer request (notify_zone_in request)
+event_leads c number moment (Ask transport peer request) =
+    ask_leads c moment transport peer request (notify_zone_in request)
 
 -- ---- lines
-event_line_leads : (c : Core) (number moment : ℕ) (event : Event) → IsListBefore (running c) (turn_state (event_line (running c) number moment event))
+event_line_leads : (c : Core) (number moment : ℕ) (event : Event)
+    → IsListBefore (running c) (turn_state (event_line (running c) number moment event))
 unfolding event_line
 event_line_leads c number moment event = event_leads c number moment event
 
-line_leads : (state : State) (number : ℕ) (line : Option Line) → IsListBefore state (turn_state (line_turn state number line))
+line_leads : (state : State) (number : ℕ) (line : Option Line)
+    → IsListBefore state (turn_state (line_turn state number line))
 unfolding line_turn
-line_leads (opening config) number line = none_before (opening config) (turn_state (line_turn (opening config) number line)) refl
+line_leads (opening config) number line =
+    none_before (opening config) (turn_state (line_turn (opening config) number line)) refl
 line_leads (running c) number None = prefix_self c.list
 line_leads (running c) number (Some lines.Skip) = prefix_self c.list
 line_leads (running c) number (Some (lines.Catalog settings)) = prefix_self c.list
 line_leads (running c) number (Some (lines.Group name group)) = prefix_self c.list
 line_leads (running c) number (Some (lines.Event moment event)) = event_line_leads c number moment event
 
-pub turn_leads : (state : State) (number : ℕ) (line : Octets) → IsListBefore state (turn_state (replay_turn state number line))
+pub turn_leads : (state : State) (number : ℕ) (line : Octets)
+    → IsListBefore state (turn_state (replay_turn state number line))
 unfolding replay_turn
 turn_leads state number line = line_leads state number (line_of line)
 
@@ -133,7 +147,9 @@ nothing_leads (Ok value) = tt
 nothing_leads (Err error) = tt
 
 -- ---- a run: its list begins that of the whole script
-pub run_leads : (input : Octets) (result : Result End ScriptError) (state : State) (left held after : Option Octets) → IsRun replay_rules (opening []) input result state left held after
-    → OnErr result (IsListBefore state (said_of replay_rules (opening []) input).state) → IsPrefix (list_in state) (list_of_script input)
+pub run_leads : (input : Octets) (result : Result End ScriptError) (state : State) (left held after : Option Octets)
+    → IsRun replay_rules (opening []) input result state left held after
+    → OnErr result (IsListBefore state (said_of replay_rules (opening []) input).state)
+    → IsPrefix (list_in state) (list_of_script input)
 run_leads input (Ok ending) state left held after run before = state_same state _ (sym run.0.1)
 run_leads input (Err error) state left held after run before = before

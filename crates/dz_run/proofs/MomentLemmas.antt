@@ -30,7 +30,8 @@ number_below most text n e = elim (cases_Bool (is_decimal text)) [
   ]
 ]
 
-at_below : (text : Octets) (m : Option ℕ) (o : Option Event) (moment : ℕ) (event : Event) → moment_of text ≡ m → event_at m o ≡ Some (lines.Event moment event) → moment < 2 ^ 40
+at_below : (text : Octets) (m : Option ℕ) (o : Option Event) (moment : ℕ) (event : Event) → moment_of text ≡ m
+    → event_at m o ≡ Some (lines.Event moment event) → moment < 2 ^ 40
 at_below text None None moment event is e = absurd (cc)
 at_below text None (Some other) moment event is e = absurd (cc)
 at_below text (Some n) None moment event is e = absurd (cc)
@@ -39,15 +40,18 @@ at_below text (Some n) (Some other) moment event is e =
     let below = number_below (2 ^ 40 - 1) text n is in
     omega (arith, same, below)
 
-catalog_is_none : (o : Option CatalogSettings) (moment : ℕ) (event : Event) → option_map lines.Catalog o ≡ Some (lines.Event moment event) → ⊥
+catalog_is_none : (o : Option CatalogSettings) (moment : ℕ) (event : Event)
+    → option_map lines.Catalog o ≡ Some (lines.Event moment event) → ⊥
 catalog_is_none None moment event e = cc
 catalog_is_none (Some settings) moment event e = cc
 
-group_is_none : (o : Option (Name × GroupSettings)) (moment : ℕ) (event : Event) → option_map (λ group. lines.Group group.0 group.1) o ≡ Some (lines.Event moment event) → ⊥
+group_is_none : (o : Option (Name × GroupSettings)) (moment : ℕ) (event : Event)
+    → option_map (λ group. lines.Group group.0 group.1) o ≡ Some (lines.Event moment event) → ⊥
 group_is_none None moment event e = cc
 group_is_none (Some group) moment event e = cc
 
-in_below : (fields : List Octets) (moment : ℕ) (event : Event) → line_in fields ≡ Some (lines.Event moment event) → moment < 2 ^ 40
+in_below : (fields : List Octets) (moment : ℕ) (event : Event) → line_in fields ≡ Some (lines.Event moment event)
+    → moment < 2 ^ 40
 in_below [] moment event e = absurd (cc)
 in_below (word ∷ fields) moment event e = elim (cases_Bool (bytes_eq word (codes "catalog"))) [
   | inl t ↦ absurd (catalog_is_none (catalog_of fields) moment event (rw t at e))
@@ -57,7 +61,8 @@ in_below (word ∷ fields) moment event e = elim (cases_Bool (bytes_eq word (cod
   ]
 ]
 
-moment_below : (line : Octets) (moment : ℕ) (event : Event) → line_of line ≡ Some (lines.Event moment event) → moment < 2 ^ 40
+moment_below : (line : Octets) (moment : ℕ) (event : Event) → line_of line ≡ Some (lines.Event moment event)
+    → moment < 2 ^ 40
 unfolding line_of
 moment_below line moment event e = elim (cases_Bool (is_skipped line)) [
   | inl t ↦ absurd (let g : Some lines.Skip ≡ Some (lines.Event moment event) = rw t at e in cc)

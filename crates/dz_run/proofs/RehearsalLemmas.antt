@@ -1,5 +1,6 @@
 -- The generated script goes on to its end.
-use Rattle.std.proofs.Common.{◌≡◌, ℕ, ◌<◌, ◌≤◌, List, [], ◌∷◌, ◌++◌, refl, sym, ◌∙◌, ap, subst, arith, Option, Some, Result, Ok, Err, append-nil}
+use Rattle.std.proofs.Common.{◌≡◌, ℕ, ◌<◌, ◌≤◌, List, [], ◌∷◌, ◌++◌, refl, sym, ◌∙◌, ap, subst, arith, Option, Some}
+use Rattle.std.proofs.Common.{Result, Ok, Err, append-nil}
 use Rattle.std.specs.Prelude.{codes, IsSome}
 use Rattle.dz_name.specs.Words.{Octets}
 use Rattle.dz_history.specs.declared.entry.Entry.{Entry}
@@ -30,14 +31,16 @@ use Rattle.dz_run.specs.declared.answering.End.{End}
 use Rattle.dz_run.specs.declared.answering.End.TheVariants as ended
 use Rattle.dz_run.specs.declared.status.Status.{Status}
 use Rattle.dz_run.specs.declared.status.Status.TheVariants.{BadInput}
-use Rattle.dz_run.proofs.GoingLemmas.{Goes, IsAfter, goes_none, goes_both, makes_go, asks_go, lines_go, settings_go, opens}
+use Rattle.dz_run.proofs.GoingLemmas.{Goes, IsAfter, goes_none, goes_both, makes_go, asks_go, lines_go, settings_go}
+use Rattle.dz_run.proofs.GoingLemmas.{opens}
 
 -- jobs that are made go on
 jobs_go : (jobs : List Asked) (c d : Core) → AreMade c jobs d → Goes (running c) (lines_of_jobs jobs) (running d)
 unfolding AreMade
 jobs_go [] c d made = subst (λ x. Goes (running c) [] (running x)) made (goes_none (running c))
 jobs_go (job ∷ jobs) c d made =
-    goes_both (running c) (running made.0) (running d) (job_lines job.moment job.ticket job.octets) (lines_of_jobs jobs)
+    goes_both (running c) (running made.0) (running d) (job_lines job.moment job.ticket job.octets)
+    (lines_of_jobs jobs)
     (makes_go c made.0 job.moment job.ticket job.octets made.1) (jobs_go jobs made.0 d made.2)
 
 -- ---- the requests
@@ -89,12 +92,14 @@ lines_all_go n some limit =
           (opens 1000 Job _ (running made.0) made.1),
     )
 
-script_goes : (n : ℕ) → 0 < n → n ≤ 1000 → (d : Core) × IsAfter (beginning (opening [])) (lines_of (script n)) (running d)
+script_goes : (n : ℕ) → 0 < n → n ≤ 1000
+    → (d : Core) × IsAfter (beginning (opening [])) (lines_of (script n)) (running d)
 unfolding beginning
 script_goes n some limit =
     let all = lines_all_go n some limit in (
       all.0,
-      lines_go (beginning (opening [])) (lines_of (script n)) (script_lines n) (running all.0) (script_read n limit).read
+      lines_go (beginning (opening [])) (lines_of (script n)) (script_lines n) (running all.0)
+          (script_read n limit).read
           all.1 (omega (arith, text_total (script n), script_size n limit)),
     )
 
@@ -103,7 +108,8 @@ finished : (place end : Place State) (texts : List (List ℕ)) → place_after r
     → said_from replay_rules place texts ≡ behind end.written (replay_finish end.state end.number)
 unfolding said_from
 finished place end texts is =
-    ap (λ ls. said_from replay_rules place ls) (sym (append-nil texts)) ∙ said_from-after replay_rules texts [] end place is
+    ap (λ ls. said_from replay_rules place ls) (sym (append-nil texts))
+    ∙ said_from-after replay_rules texts [] end place is
 
 done_there : (written : List ℕ) (state : State) (d : Core) (number : ℕ) → state ≡ running d
     → (behind written (replay_finish state number)).ending ≡ ended.Done
@@ -123,7 +129,8 @@ goes_on n = record {
 }
 
 -- so `replay` of it never says that a line was bad
-never_bad : (n : ℕ) → 0 < n → n ≤ 1000 → (result : Result End ScriptError) (state : State) (left before after : Option Octets) → BadInput ≡ status_of result
+never_bad : (n : ℕ) → 0 < n → n ≤ 1000 → (result : Result End ScriptError) (state : State)
+    (left before after : Option Octets) → BadInput ≡ status_of result
     → IsRun replay_rules (opening []) (script n) result state left before after → ⊥
 never_bad n some limit (Ok ended.Done) state left before after status run = cc
 never_bad n some limit (Ok ended.BadInput) state left before after status run =
@@ -132,5 +139,8 @@ never_bad n some limit (Err errors.Read) state left before after status run = cc
 never_bad n some limit (Err errors.Write) state left before after status run = cc
 never_bad n some limit (Err errors.OutOfMemory) state left before after status run = cc
 
-pub no_bad_line : (n : ℕ) → 0 < n → n ≤ 1000 → (status : Status) (left before after : Option Octets) (list : List Entry) → status ≡ BadInput → Replays (script n) status left before after list → ⊥
-no_bad_line n some limit status left before after list is run = never_bad n some limit run.0 run.1 left before after (sym is ∙ run.2) run.4
+pub no_bad_line : (n : ℕ) → 0 < n → n ≤ 1000
+    → (status : Status) (left before after : Option Octets) (list : List Entry) → status ≡ BadInput
+    → Replays (script n) status left before after list → ⊥
+no_bad_line n some limit status left before after list is run =
+    never_bad n some limit run.0 run.1 left before after (sym is ∙ run.2) run.4

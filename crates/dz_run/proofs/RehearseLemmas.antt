@@ -12,5 +12,6 @@ number_in (Ok Serve) = 0
 number_in (Ok Produce) = 0
 number_in (Err error) = 0
 
-pub number_is : (n m : ℕ) (command : Result Command WordsError) → command ≡ Ok (Rehearse n) → command ≡ Ok (Rehearse m) → n ≡ m
+pub number_is : (n m : ℕ) (command : Result Command WordsError) → command ≡ Ok (Rehearse n)
+    → command ≡ Ok (Rehearse m) → n ≡ m
 number_is n m command one other = ap number_in (sym one ∙ other)

@@ -15,7 +15,9 @@ use Rattle.dz_script.specs.declared.line.Line.TheVariants as lines
 use Rattle.dz_job.specs.Job.{JobOf}
 use Rattle.dz_fleet.specs.Core.{Core, opened_core}
 use Rattle.dz_run.specs.Flight.{job_in}
-use Rattle.dz_run.specs.Replaying.{State, opening, running, opened_with, grouped, grouped_with, take_turn, fail_turn, ask_turn, event_turn, event_line, catalog_line, group_line, line_turn, replay_turn, replay_rules}
+use Rattle.dz_run.specs.Replaying.{State, opening, running, opened_with, grouped, grouped_with, take_turn, fail_turn}
+use Rattle.dz_run.specs.Replaying.{ask_turn, event_turn, event_line, catalog_line, group_line, line_turn, replay_turn}
+use Rattle.dz_run.specs.Replaying.{replay_rules}
 use Rattle.dz_run.proofs.EndLemmas.{IsTurnBefore, EndBefore, either}
 
 opened_before : (config : List CatalogSettings) (number : ℕ) → IsTurnBefore (opened_with config number)
@@ -25,7 +27,8 @@ grouped_before : (config : Option (List CatalogSettings)) (number : ℕ) → IsT
 grouped_before None number = λ is. cc
 grouped_before (Some config) number = opened_before config number
 
-take_before : (c : Core) (number moment : ℕ) (octets : Octets) (job : Option JobOf) → IsTurnBefore (take_turn c number moment octets job)
+take_before : (c : Core) (number moment : ℕ) (octets : Octets) (job : Option JobOf)
+    → IsTurnBefore (take_turn c number moment octets job)
 take_before c number moment octets None = λ is. cc
 take_before c number moment octets (Some job) = tt
 
@@ -33,7 +36,8 @@ fail_before : (c : Core) (number moment : ℕ) (job : Option JobOf) → IsTurnBe
 fail_before c number moment None = λ is. cc
 fail_before c number moment (Some job) = tt
 
-ask_before : (c : Core) (moment : ℕ) (transport : Transport) (peer : Peer) (request : Octets) (zone : Option Name) → IsTurnBefore (ask_turn c moment transport peer request zone)
+ask_before : (c : Core) (moment : ℕ) (transport : Transport) (peer : Peer) (request : Octets) (zone : Option Name)
+    → IsTurnBefore (ask_turn c moment transport peer request zone)
 ask_before c moment transport peer request None = tt
 ask_before c moment transport peer request (Some zone) = tt
 
@@ -42,19 +46,24 @@ unfolding event_turn
 event_before c number moment Job = tt
 event_before c number moment (Take ticket octets) = take_before c number moment octets (job_in c.flight ticket)
 event_before c number moment (Fail ticket) = fail_before c number moment (job_in c.flight ticket)
-event_before c number moment (Ask transport peer request) = ask_before c moment transport peer request (notify_zone_in request)
+event_before c number moment (Ask transport peer request) =
+    ask_before c moment transport peer request (notify_zone_in request)
 
-event_line_before : (state : State) (number moment : ℕ) (event : Event) → IsTurnBefore (event_line state number moment event)
+event_line_before : (state : State) (number moment : ℕ) (event : Event)
+    → IsTurnBefore (event_line state number moment event)
 unfolding event_line
 event_line_before (opening []) number moment event = λ is. cc
-event_line_before (opening (settings ∷ config)) number moment event = event_before (opened_core (settings ∷ config)) number moment event
+event_line_before (opening (settings ∷ config)) number moment event =
+    event_before (opened_core (settings ∷ config)) number moment event
 event_line_before (running c) number moment event = event_before c number moment event
 
-catalog_before : (state : State) (number : ℕ) (settings : CatalogSettings) → IsTurnBefore (catalog_line state number settings)
+catalog_before : (state : State) (number : ℕ) (settings : CatalogSettings)
+    → IsTurnBefore (catalog_line state number settings)
 catalog_before (opening config) number settings = opened_before (config ++ settings ∷ []) number
 catalog_before (running c) number settings = λ is. cc
 
-group_before : (state : State) (number : ℕ) (name : Name) (group : GroupSettings) → IsTurnBefore (group_line state number name group)
+group_before : (state : State) (number : ℕ) (name : Name) (group : GroupSettings)
+    → IsTurnBefore (group_line state number name group)
 group_before (opening config) number name group = grouped_before (grouped config name group) number
 group_before (running c) number name group = λ is. cc
 

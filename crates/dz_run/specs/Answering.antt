@@ -53,7 +53,8 @@ refusal fault = codes "refused " ++ (reason_of fault ++ (10 ∷ []))
 -- what comes of the zone's octets: it is served with its version, or without one. The outcome that a held version is
 -- the primary's doesn't occur, since none is held (`outcomes_fit`)
 abbrev pub taking_turn : Name → Decision → Turn State End
-taking_turn apex (new zone) = goes_on (numbered_line (codes "taken ") (serial_of zone)) (Some (slot_for apex (Some zone)))
+taking_turn apex (new zone) =
+    goes_on (numbered_line (codes "taken ") (serial_of zone)) (Some (slot_for apex (Some zone)))
 taking_turn apex (refused fault) = goes_on (refusal fault) (Some (slot_for apex None))
 taking_turn apex up_to_date = goes_on [] (Some (slot_for apex None))
 

@@ -3,7 +3,8 @@ use Rattle.std.specs.Prelude.{ℕ, Result, Ok, Err}
 use Rattle.dz_desk.specs.declared.open.DeskError.{DeskError}
 use Rattle.dz_desk.specs.declared.open.DeskError.TheVariants as desks
 use Rattle.dz_run.specs.declared.status.Status.{Status}
-use Rattle.dz_run.specs.declared.status.Status.TheVariants.{Done, Usage, BadInput, ReadFault, WriteFault, PortFault, NoMemory}
+use Rattle.dz_run.specs.declared.status.Status.TheVariants.{Done, Usage, BadInput, ReadFault, WriteFault, PortFault}
+use Rattle.dz_run.specs.declared.status.Status.TheVariants.{NoMemory}
 
 -- the exit code of a status
 abbrev pub number_of : Status → ℕ

@@ -1,5 +1,5 @@
 -- Meaning: what `replay` shows, and how it is kept: a configuration and the ends, a provisioner, or the ends again.
-use Rattle.std.specs.Prelude.{⊤, ◌≡◌, ◌≤◌, ℕ, Bool, false, List, [], ◌∷◌, Option, Some, None, Result, Ok, Err}
+use Rattle.std.specs.Prelude.{⊤, ◌≡◌, ◌≤◌, ℕ, Bool, false, List, [], ◌∷◌, Option, Some, None, IsSome, Result, Ok, Err}
 use Rattle.dz_io.specs.Counts.{HasRisen}
 use Rattle.dz_io.specs.Device.{Gains, GainsPrefix}
 use Rattle.dz_script.specs.Script.{Turn, turn_text, turn_state, DoesTurn}
@@ -44,7 +44,8 @@ faults_in None None = 0
 
 -- what is shown, of what is kept
 abbrev pub shown : List CatalogSettings → Option Held → Option Core → Option (Option Octets) → Option ℕ → Bool → Shown
-shown config h last told count over = record { state = state_in config h last; written = written_in h told; faults = faults_in h count; is_over = over }
+shown config h last told count over =
+    record { state = state_in config h last; written = written_in h told; faults = faults_in h count; is_over = over }
 
 -- a publisher of this list, with nothing staged, and a reading of it
 pub record IsResting (publisher : Book) (state : State) (end : Published) (view : Viewed) : Type 0 where
@@ -54,22 +55,32 @@ pub record IsResting (publisher : Book) (state : State) (end : Published) (view 
   pub rest : IsAtRest publisher view
 
 -- the ends are kept while no provisioner has them; before the first event nothing was published and nothing written
-abbrev pub IsKept : Book → Option Held → Option Core → Option Published → Option Viewed → Option (Option Octets) → Option ℕ → Bool → Type 0
+abbrev pub IsKept : Book → Option Held → Option Core → Option Published → Option Viewed → Option (Option Octets)
+    → Option ℕ → Bool → Type 0
 IsKept publisher (Some h) None None None None None over = ⊤
 IsKept publisher None last (Some end) (Some view) (Some told) (Some count) over =
-    IsResting publisher (state_in [] None last) end view × (over ≡ false → (last ≡ None) × CanStart publisher told count end view)
+    IsResting publisher (state_in [] None last) end view
+    × (over ≡ false → (last ≡ None) × CanStart publisher told count end view)
 IsKept publisher h last end view told count over = ⊥
+
+-- until the first event there is a ledger for the provisioner
+abbrev pub HasBook : {T U : Type 0} → Option T → Bool → Option U → Type 0
+HasBook h over book = h ≡ None → over ≡ false → IsSome book
 
 -- what a turn did: it was done, or stopped after a prefix of its text, with a list that begins that of its state
 unfoldable pub HasTurned : Turn State End → Shown → Result (Option End) TurnError → Shown → Type 0
-HasTurned turn a (Ok ended) b = DoesTurn turn ended b.state a.written b.written × ((b.faults ≡ a.faults) × (ended ≡ None → b.is_over ≡ false))
+HasTurned turn a (Ok ended) b =
+    DoesTurn turn ended b.state a.written b.written × ((b.faults ≡ a.faults) × (ended ≡ None → b.is_over ≡ false))
 HasTurned turn a (Err error) b =
-    GainsPrefix (turn_text turn) a.written b.written × ((a.faults ≤ b.faults) × ((error ≡ stops.Write → HasRisen a.faults b.faults) × IsListBefore b.state (turn_state turn)))
+    GainsPrefix (turn_text turn) a.written b.written × ((a.faults ≤ b.faults)
+    × ((error ≡ stops.Write → HasRisen a.faults b.faults) × IsListBefore b.state (turn_state turn)))
 
 -- it ended with this text, in the same state; or it stopped there after a prefix of the text
 unfoldable pub HasEnded : Octets → Shown → Result End TurnError → Shown → Type 0
-HasEnded text a (Ok ending) b = (ending ≡ BadInput) × ((b.state ≡ a.state) × (Gains text a.written b.written × (b.faults ≡ a.faults)))
-HasEnded text a (Err error) b = GainsPrefix text a.written b.written × ((a.faults ≤ b.faults) × ((error ≡ stops.Write → HasRisen a.faults b.faults) × (b.state ≡ a.state)))
+HasEnded text a (Ok ending) b =
+    (ending ≡ BadInput) × ((b.state ≡ a.state) × (Gains text a.written b.written × (b.faults ≡ a.faults)))
+HasEnded text a (Err error) b = GainsPrefix text a.written b.written
+    × ((a.faults ≤ b.faults) × ((error ≡ stops.Write → HasRisen a.faults b.faults) × (b.state ≡ a.state)))
 
 -- the first event began with the configuration
 pub record HasBegun (a b : Shown) : Type 0 where
@@ -96,7 +107,8 @@ HasRun turn number a (Ok took.Bad) b = (turn ≡ bad_line a.state number) × (b 
 HasRun turn number a (Err error) b = HasTurned turn a (Err error) b
 
 -- a provisioner was closed
-pub record IsClosed (publisher : Book) (h : Held) (told : Option Octets) (count : ℕ) (end : Published) (view : Viewed) (core : Option Core) : Type 0 where
+pub record IsClosed (publisher : Book) (h : Held) (told : Option Octets) (count : ℕ) (end : Published) (view : Viewed)
+    (core : Option Core) : Type 0 where
   pub written : told ≡ h.written
   pub faults : count ≡ h.faults
   pub last : core ≡ Some h.core

@@ -1,5 +1,6 @@
 -- Meaning: how the states of `replay` are kept.
-use Rattle.std.specs.Prelude.{⊤, ◌<◌, ◌^◌, ◌≡◌, ◌⊎◌, Bool, true, false, List, [], ◌∷◌, Option, Some, None, if◌then◌else◌}
+use Rattle.std.specs.Prelude.{⊤, ◌<◌, ◌^◌, ◌≡◌, ◌⊎◌, Bool, true, false, List, [], ◌∷◌, Option, Some, None}
+use Rattle.std.specs.Prelude.{if◌then◌else◌}
 use Rattle.dz_settings.specs.Config.{is_allowed, IsAllowed}
 use Rattle.dz_settings.specs.declared.config.CatalogSettings.{CatalogSettings}
 use Rattle.dz_script.specs.declared.line.Line.{Line}

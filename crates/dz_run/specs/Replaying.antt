@@ -1,5 +1,6 @@
 -- Meaning: what `replay` writes: a configuration is read, and then each event at its moment makes a step of the core.
-use Rattle.std.specs.Prelude.{ℕ, zero, suc, Bool, true, false, List, [], ◌∷◌, ◌++◌, codes, Option, Some, None, option_map, if◌then◌else◌}
+use Rattle.std.specs.Prelude.{ℕ, zero, suc, Bool, true, false, List, [], ◌∷◌, ◌++◌, codes, Option, Some, None}
+use Rattle.std.specs.Prelude.{option_map, if◌then◌else◌}
 use Rattle.std.specs.List.{position}
 use mathlib.Core.List.{IsPrefix}
 use Rattle.hex.specs.Hex.{encode_lower}
@@ -22,7 +23,8 @@ use Rattle.dz_script.specs.declared.line.Line.{Line}
 use Rattle.dz_script.specs.declared.line.Line.TheVariants as lines
 use Rattle.dz_history.specs.declared.entry.Entry.{Entry}
 use Rattle.dz_job.specs.Job.{JobOf}
-use Rattle.dz_fleet.specs.Core.{Core, state_of, opened_core, due_of, after_due, verdict_of, settled, ended_of, failure_of, failed_core, heard_of, after_notify}
+use Rattle.dz_fleet.specs.Core.{Core, state_of, opened_core, due_of, after_due, verdict_of, settled, ended_of}
+use Rattle.dz_fleet.specs.Core.{failure_of, failed_core, heard_of, after_notify}
 use Rattle.dz_fleet.specs.declared.due.Due.{Due}
 use Rattle.dz_fleet.specs.declared.due.Due.TheVariants as due
 use Rattle.dz_report.specs.Lines.{job_line, verdict_lines, failure_line, notify_line}
@@ -76,7 +78,8 @@ at_place change (suc place) (settings ∷ config) = settings ∷ at_place change
 
 -- a group joins its catalog, whose line came before its own
 abbrev pub grouped : List CatalogSettings → Name → GroupSettings → Option (List CatalogSettings)
-grouped config name group = option_map (λ place. at_place (with_group group) place config) (position (λ c. same_name c.name name) config)
+grouped config name group =
+    option_map (λ place. at_place (with_group group) place config) (position (λ c. same_name c.name name) config)
 
 -- a catalog joins the others
 abbrev pub add_catalog : List CatalogSettings → ℕ → CatalogSettings → Turn State End
@@ -106,12 +109,14 @@ job_turn c moment = goes_on (due_text (due_of c moment)) (running (after_due c (
 -- a job ends with these octets; a ticket that was never handed out, or is spent, makes the line bad
 abbrev pub take_turn : Core → ℕ → ℕ → Octets → Option JobOf → Turn State End
 take_turn c number moment octets None = bad_line (running c) number
-take_turn c number moment octets (Some job) = goes_on (verdict_lines job.flight.zone (verdict_of c job octets)) (running (settled c job octets moment))
+take_turn c number moment octets (Some job) =
+    goes_on (verdict_lines job.flight.zone (verdict_of c job octets)) (running (settled c job octets moment))
 
 -- a job fails; such a ticket makes the line bad
 abbrev pub fail_turn : Core → ℕ → ℕ → Option JobOf → Turn State End
 fail_turn c number moment None = bad_line (running c) number
-fail_turn c number moment (Some job) = goes_on (failure_line job.flight.zone (failure_of (ended_of c job))) (running (failed_core c job moment))
+fail_turn c number moment (Some job) =
+    goes_on (failure_line job.flight.zone (failure_of (ended_of c job))) (running (failed_core c job moment))
 
 -- a reply in hex
 abbrev pub reply_line : Octets → Octets
@@ -130,13 +135,15 @@ answer_text (notify name) = []
 
 -- a request is answered at the whole list so far
 abbrev pub query_turn : Core → ℕ → Transport → Octets → Turn State End
-query_turn c moment transport request = goes_on (answer_text (reply_of (state_of c).table request moment (is_tcp transport))) (running c)
+query_turn c moment transport request =
+    goes_on (answer_text (reply_of (state_of c).table request moment (is_tcp transport))) (running c)
 
 -- a NOTIFY is heard, and has its reply by how it is heard
 abbrev pub notify_turn : Core → Peer → Octets → Name → Turn State End
 notify_turn c peer request zone =
     let heard = heard_of c peer zone in
-    goes_on (notify_line zone heard ++ reply_text (notify_reply_of request heard)) (running (after_notify c zone heard))
+    goes_on (notify_line zone heard ++ reply_text (notify_reply_of request heard))
+    (running (after_notify c zone heard))
 
 -- a request, as a NOTIFY where it is one (RFC 1996)
 abbrev pub ask_turn : Core → ℕ → Transport → Peer → Octets → Option Name → Turn State End
@@ -148,13 +155,15 @@ abbrev pub event_turn : Core → ℕ → ℕ → Event → Turn State End
 event_turn c number moment Job = job_turn c moment
 event_turn c number moment (Take ticket octets) = take_turn c number moment octets (job_in c.flight ticket)
 event_turn c number moment (Fail ticket) = fail_turn c number moment (job_in c.flight ticket)
-event_turn c number moment (Ask transport peer request) = ask_turn c moment transport peer request (notify_zone_in request)
+event_turn c number moment (Ask transport peer request) =
+    ask_turn c moment transport peer request (notify_zone_in request)
 
 -- ---- lines
 -- the first event begins with the configuration, which has a catalog
 unfoldable pub event_line : State → ℕ → ℕ → Event → Turn State End
 event_line (opening []) number moment event = bad_line (opening []) number
-event_line (opening (settings ∷ config)) number moment event = event_turn (opened_core (settings ∷ config)) number moment event
+event_line (opening (settings ∷ config)) number moment event =
+    event_turn (opened_core (settings ∷ config)) number moment event
 event_line (running c) number moment event = event_turn c number moment event
 
 -- a `catalog` line adds a catalog; no line of the configuration comes after an event
@@ -192,7 +201,8 @@ has_catalog (running c) = true
 -- at the end of the input there must be a catalog
 unfoldable pub replay_finish : State → ℕ → Said State End
 replay_finish (opening []) number = record { text = bad number; state = opening []; ending = BadInput }
-replay_finish (opening (settings ∷ config)) number = record { text = []; state = opening (settings ∷ config); ending = Done }
+replay_finish (opening (settings ∷ config)) number =
+    record { text = []; state = opening (settings ∷ config); ending = Done }
 replay_finish (running c) number = record { text = []; state = running c; ending = Done }
 
 -- the rules of the script; before the first line nothing was read

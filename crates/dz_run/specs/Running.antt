@@ -15,7 +15,8 @@ use Rattle.dz_run.specs.Replaying as replaying
 use Rattle.dz_run.specs.declared.answering.End.{End}
 use Rattle.dz_run.specs.declared.answering.End.TheVariants as endings
 use Rattle.dz_run.specs.declared.status.Status.{Status}
-use Rattle.dz_run.specs.declared.status.Status.TheVariants.{Done, Usage, BadInput, ReadFault, WriteFault, PortFault, NoMemory}
+use Rattle.dz_run.specs.declared.status.Status.TheVariants.{Done, Usage, BadInput, ReadFault, WriteFault, PortFault}
+use Rattle.dz_run.specs.declared.status.Status.TheVariants.{NoMemory}
 use Rattle.dz_words.specs.declared.words.Command.{Command}
 use Rattle.dz_words.specs.declared.words.Command.TheVariants as commands
 use Rattle.dz_words.specs.declared.words.WordsError.{WordsError}
@@ -52,16 +53,20 @@ status_after serve_ends.NoMemory = NoMemory
 
 -- `answer` ran its script over the input, and its status is that of the run
 abbrev pub Answers : Octets → Status → Option Octets → Option Octets → Option Octets → Type 0
-Answers input status left before after = (result : Result End ScriptError) × (state : State) × (status ≡ status_of result) × IsRun answer_rules None input result state left before after
+Answers input status left before after = (result : Result End ScriptError) × (state : State)
+    × (status ≡ status_of result) × IsRun answer_rules None input result state left before after
 
--- `replay` ran its script over the input, and its status is that of the run; the published list is that of the run's state
+-- `replay` ran its script over the input, and its status is that of the run; the published list is that of the run's
+-- state
 abbrev pub Replays : Octets → Status → Option Octets → Option Octets → Option Octets → List Entry → Type 0
 Replays input status left before after list =
-    (result : Result End ScriptError) × (state : replaying.State) × (status ≡ status_of result) × (list ≡ list_in state) × IsRun replay_rules (opening []) input result state left before after
+    (result : Result End ScriptError) × (state : replaying.State) × (status ≡ status_of result)
+    × (list ≡ list_in state) × IsRun replay_rules (opening []) input result state left before after
 
 -- `produce` ran its script over the input, and its status is that of the run
 abbrev pub Produces : Octets → Status → Option Octets → Option Octets → Option Octets → Type 0
-Produces input status left before after = (result : Result ProduceEnd ScriptError) × (status ≡ status_of_produce result) × Runs input result left before after
+Produces input status left before after = (result : Result ProduceEnd ScriptError)
+    × (status ≡ status_of_produce result) × Runs input result left before after
 
 -- the list that the events of a script make
 abbrev pub list_of_script : Octets → List Entry
@@ -83,7 +88,8 @@ pub record IsBack (book : Book) (end : Published) (readings : List Viewed) : Typ
 
 -- a text was written and the status is this one, or the write failed after a prefix of the text
 abbrev pub Says : Octets → Status → Status → Option Octets → Option Octets → Type 0
-Says text own status before after = ((status ≡ own) × Gains text before after) ⊎ ((status ≡ WriteFault) × GainsPrefix text before after)
+Says text own status before after =
+    ((status ≡ own) × Gains text before after) ⊎ ((status ≡ WriteFault) × GainsPrefix text before after)
 
 -- what is written where the words are none of the five forms
 abbrev pub usage : Octets

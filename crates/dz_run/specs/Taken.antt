@@ -21,7 +21,8 @@ use Rattle.dz_run.specs.declared.events.Took.{Took}
 use Rattle.dz_run.specs.declared.events.Took.TheVariants as took
 
 -- nothing was published and nothing was written
-pub record CanStart (publisher : Book) (text : Option Octets) (count : ℕ) (end : Published) (view : Viewed) : Type 0 where
+pub record CanStart (publisher : Book) (text : Option Octets) (count : ℕ) (end : Published)
+    (view : Viewed) : Type 0 where
   pub list : end.list ≡ []
   pub staged : end.staged ≡ None
   pub own : end.book ≡ publisher

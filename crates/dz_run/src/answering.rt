@@ -1,6 +1,7 @@
 //! What `answer` does with a line: it takes a zone from the first, and answers each further one as a request.
 
-ghost use Rattle.std.specs.Prelude.{◌≡◌, ◌++◌, [], ◌∷◌, Some, None, is_some, false, IfOk, codes, ◌≤◌, length, option_map};
+ghost use Rattle.std.specs.Prelude.{◌≡◌, ◌++◌, [], ◌∷◌, Some, None, is_some, false, IfOk, codes, ◌≤◌, length};
+ghost use Rattle.std.specs.Prelude.{option_map};
 ghost use Rattle.std.specs.Arc.{arc_value};
 ghost use Rattle.std.specs.Option.{ForSome};
 ghost use Rattle.hex.specs.Hex.{encode_lower};
@@ -12,7 +13,8 @@ ghost use Rattle.dz_take.specs.Fit.{Fits};
 ghost use Rattle.dz_take.specs.Outcome.{outcome};
 ghost use Rattle.dz_take.specs.Taken.{meaning_of};
 ghost use Rattle.dz_script.specs.Hex.{octets_in};
-ghost use Rattle.dz_run.specs.Answering.{bad, numbered_line, transfer_of, refusal, slot_for, taking_turn, zone_turn, reply_text, request_turn, line_turn, answer_turn, turn_from};
+ghost use Rattle.dz_run.specs.Answering.{bad, numbered_line, transfer_of, refusal, slot_for, taking_turn, zone_turn};
+ghost use Rattle.dz_run.specs.Answering.{reply_text, request_turn, line_turn, answer_turn, turn_from};
 ghost use Rattle.dz_run.specs.ZoneLine.{zone_line};
 
 use crate::zone_line::read_zone_line;

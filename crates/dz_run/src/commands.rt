@@ -4,7 +4,9 @@ ghost use Rattle.std.specs.Prelude.{◌≡◌, ◌≢◌, ◌≤◌, ℕ, [], is
 ghost use mathlib.Core.List.{IsPrefix};
 ghost use Rattle.dz_io.specs.Counts.{HasRisen};
 ghost use Rattle.dz_name.specs.Words.{Octets};
-ghost use Rattle.dz_run.specs.Running.{status_of, status_after, status_of_produce, Answers, Replays, Produces, Says, Decides, IsWithoutFault, HasEnded, HasCauseIn, IsNewDesk, IsBack, list_of_script};
+ghost use Rattle.dz_run.specs.Running.{status_of, status_after, status_of_produce, Answers, Replays, Produces, Says};
+ghost use Rattle.dz_run.specs.Running.{Decides, IsWithoutFault, HasEnded, HasCauseIn, IsNewDesk, IsBack};
+ghost use Rattle.dz_run.specs.Running.{list_of_script};
 ghost use Rattle.dz_serve.specs.Command.{IsServe};
 ghost use Rattle.dz_serve.specs.Rows.{rows};
 ghost use Rattle.dz_run.specs.Taken.{CanStart, IsAtRest};
@@ -13,6 +15,7 @@ ghost use Rattle.dz_words.specs.Words.{command_of};
 ghost use Rattle.dz_run.specs.Rehearsing.{Rehearses};
 
 use crate::answering::{Answering, End};
+use crate::book::EmptyBook;
 use crate::ends::Ends;
 use crate::rehearse::rehearse;
 use crate::replaying::Replaying;
@@ -30,6 +33,7 @@ use dz_words::{Command, Words, WordsError, read_words};
 use std::alloc::Global;
 use std::marker::Brand;
 use std::sync::Wait;
+use std::sync::ledger::Blank;
 use std::thread::Threads;
 
 /// The status at the end, with the output and the desk.
@@ -399,7 +403,15 @@ fn run_serve<
     ensures ports_later { P.faults ports.old ≤ P.faults ports.new }
 {
     let Served { end, output, desk } = serve_input::<S, K, Brand, P, C, D, R>(
-        rt, alloc, input, output, desk, ports, clock, disk,
+        rt,
+        alloc,
+        input,
+        output,
+        desk,
+        ports,
+        clock,
+        disk,
+        Blank::new(2),
     );
     Ended {
         status: status_after(end),
@@ -462,7 +474,7 @@ pub fn run_replay<R: Wait, S: Source, K: Sink>(
         reading,
         output,
     };
-    let Played { status, ends } = replay::<R, S, K, Brand>(rt, alloc, input, ends);
+    let Played { status, ends } = replay::<R, S, K, Brand>(rt, alloc, input, ends, Blank::new(1));
     let Ends {
         publisher,
         reading,
@@ -532,15 +544,19 @@ pub struct Played<K> {
     pub ends: Ends<K>,
 }
 
-/// Runs the command `replay` on an input, whose text it writes to the output, and publishes what is taken.
+/// Runs the command `replay` on an input, whose text it writes to the output, and publishes what is taken. `J` names the
+/// publisher and the ledger.
 pub fn replay<R: Wait, S: Source, K: Sink, J: Naming>(
     rt: &R,
     alloc: Global,
     input: &mut S,
     ends: Ends<K>,
+    ledger: Blank,
 ) -> Played<K>
-    requires { CanStart J.publisher (K.held ends.output)
+    requires ends { CanStart J.publisher (K.held ends.output)
         (K.faults ends.output) ends.publisher ends.reading }
+    requires name { ledger.name ≡ J.name }
+    requires parts { ledger.parts ≡ J.parts }
     ensures ends { (octets : Octets) → S.left input.old ≡ Some octets →
         Replays octets result.status (S.left input.new) (K.held ends.output)
         (K.held result.ends.output) result.ends.publisher.list }
@@ -566,7 +582,11 @@ pub fn replay<R: Wait, S: Source, K: Sink, J: Naming>(
             ends,
         },
         Ok(buffer) => {
-            let mut replaying: Replaying<'_, R, K, J> = Replaying::new(rt, alloc, ends, buffer);
+            let (book, _) = ledger.open::<J>();
+            let starved = EmptyBook { book };
+            let mut replaying: Replaying<'_, R, K, J> = Replaying::new(
+                rt, alloc, ends, starved, buffer,
+            );
             let ended = run_script(alloc, &mut replaying, input);
             Played {
                 status: status_of(ended),

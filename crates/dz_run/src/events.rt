@@ -1,6 +1,7 @@
 //! What events make of a provisioner and of its jobs in flight.
 
-ghost use Rattle.std.specs.Prelude.{◌≡◌, ℕ, IsSome, ◌<◌, ◌^◌, ◌++◌, ◌∷◌, [], Some, None, true, false, length, IfOk, IfErr, IfSome, OnOk, option_map, slice_get};
+ghost use Rattle.std.specs.Prelude.{◌≡◌, ℕ, IsSome, ◌<◌, ◌^◌, ◌++◌, ◌∷◌, [], Some, None, true, false, length, IfOk};
+ghost use Rattle.std.specs.Prelude.{IfErr, IfSome, OnOk, option_map, slice_get};
 ghost use Rattle.std.specs.Vec.{vec_len, vec_capacity};
 ghost use Rattle.dz_script.specs.Script.{goes_on};
 ghost use Rattle.dz_notify.specs.Notify.{notify_zone_in};
@@ -15,9 +16,12 @@ ghost use Rattle.dz_query.specs.Answer.{reply_at};
 ghost use Rattle.dz_provision.specs.Held.{Held, IsSettled, IsFailed};
 ghost use Rattle.dz_provision.specs.Log.{CanBeSaid};
 ghost use Rattle.dz_run.specs.Flight.{place_in, job_in};
-ghost use Rattle.dz_run.specs.Replaying.{running, job_turn, take_turn, fail_turn, query_turn, notify_turn, event_turn, reply_line, reply_text};
-ghost use Rattle.dz_run.specs.Taken.{IsTaken, IsAtRest, IsMade, IsFault, CanStart, by_saying, by_failing, by_settling, by_verdict};
+ghost use Rattle.dz_run.specs.Replaying.{running, job_turn, take_turn, fail_turn, query_turn, notify_turn, event_turn};
+ghost use Rattle.dz_run.specs.Replaying.{reply_line, reply_text};
+ghost use Rattle.dz_run.specs.Taken.{IsTaken, IsAtRest, IsMade, IsFault, CanStart, by_saying, by_failing, by_settling};
+ghost use Rattle.dz_run.specs.Taken.{by_verdict};
 
+use crate::book::EmptyBook;
 use crate::ends::Ends;
 use dz_desk::{Reading, Told};
 use dz_fleet::{Due, Failure, Fleet, Job, Verdict};
@@ -74,12 +78,13 @@ impl<K: Sink, J: Naming> Model for Running<K, J> {
 }
 
 impl<K: Sink, J: Naming> Running<K, J> {
-    /// Begins with a configuration. Where memory runs out, the ends come back.
+    /// Begins with a configuration, and a ledger that counts nothing. Where memory runs out, the ends come back.
     pub fn start<R: Wait>(
         rt: &R,
         alloc: Global,
         config: Config,
         ends: Ends<K>,
+        starved: EmptyBook<J>,
     ) -> Result<Running<K, J>, Ends<K>>
         requires config { IsAllowed config }
         requires ends { CanStart J.publisher (K.held ends.output)
@@ -89,6 +94,7 @@ impl<K: Sink, J: Naming> Running<K, J> {
           written = K.held ends.output;
           faults = K.faults ends.output;
           failed = false;
+          starved = 0;
         }) }
         ensures err { IfErr result (λ back. back ≡ ends) }
     {
@@ -97,7 +103,7 @@ impl<K: Sink, J: Naming> Running<K, J> {
             reading,
             output,
         } = ends;
-        match Provisioner::start(rt, alloc, config, publisher, output) {
+        match Provisioner::start(rt, alloc, config, publisher, output, starved.book) {
             Ok(provisioner) => Ok(Running {
                 provisioner,
                 reading,
@@ -135,6 +141,7 @@ impl<K: Sink, J: Naming> Running<K, J> {
             publisher,
             output,
             log_failed: _,
+            starved: _,
         } = provisioner.close();
         (
             fleet,

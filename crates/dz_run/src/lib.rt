@@ -3,6 +3,7 @@
 #![tactic(auto)]
 
 mod answering;
+mod book;
 mod commands;
 mod ends;
 mod events;

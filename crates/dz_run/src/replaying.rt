@@ -1,14 +1,17 @@
 //! The command `replay`: it reads a configuration, and then takes each event at its moment.
 
-ghost use Rattle.std.specs.Prelude.{◌≡◌, ◌⊎◌, ◌<◌, ◌^◌, ◌∷◌, ℕ, Some, None, [], true, false, IsSome, IfSome, OnOk, OnErr, option_map};
+ghost use Rattle.std.specs.Prelude.{◌≡◌, ◌⊎◌, ◌<◌, ◌^◌, ◌∷◌, ℕ, Some, None, [], true, false, IsSome, IfSome, OnOk};
+ghost use Rattle.std.specs.Prelude.{OnErr, option_map};
 ghost use Rattle.dz_fleet.specs.Core.{Core};
 ghost use Rattle.dz_run.specs.Answering.{bad};
 ghost use Rattle.dz_run.specs.Phase.{IsTimed};
-ghost use Rattle.dz_run.specs.Replaying.{State, opening, running, list_in, IsListBefore, replay_rules, replay_turn, catalog_line, group_line, event_line, event_turn, line_turn, bad_line, left};
+ghost use Rattle.dz_run.specs.Replaying.{State, opening, running, list_in, IsListBefore, replay_rules, replay_turn};
+ghost use Rattle.dz_run.specs.Replaying.{catalog_line, group_line, event_line, event_turn, line_turn, bad_line, left};
 ghost use Rattle.dz_run.specs.Kept.{IsResting, IsClosed, HasTurned, HasEnded, HasBegun, HasConfig, HasRun, IsRunning};
 ghost use Rattle.dz_run.specs.Taken.{CanStart};
 
 use crate::answering::End;
+use crate::book::EmptyBook;
 use crate::ends::Ends;
 use crate::events::{Running, Took};
 use crate::opening::Opening;
@@ -25,12 +28,13 @@ use std::marker::Model;
 use std::snapshot::Snapshot;
 use std::sync::Wait;
 
-/// The configuration until the first event; then the provisioner; and after a bad line the ends again, beside what
+/// The configuration and the provisioner's ledger until the first event; then the provisioner; and after a bad line the ends again, beside what
 /// contracts see of the core. It is ended by [`Replaying::close`].
 pub struct Replaying<'a, R, K: Sink, J: Naming> {
     rt: &'a R,
     opening: Opening,
     ends: Option<Ends<K>>,
+    starved: Option<EmptyBook<J>>,
     running: Option<Running<K, J>>,
     last: Option<Snapshot<Fleet>>,
     is_over: bool,
@@ -39,7 +43,7 @@ pub struct Replaying<'a, R, K: Sink, J: Naming> {
 
 impl<'a, R, K: Sink, J: Naming> Model for Replaying<'a, R, K, J> {
     ghost use Rattle.std.specs.Prelude.{option_map};
-    ghost use Rattle.dz_run.specs.Kept.{Shown, shown, IsKept};
+    ghost use Rattle.dz_run.specs.Kept.{Shown, shown, IsKept, HasBook};
 
     ghost Value = { Shown };
 
@@ -50,15 +54,17 @@ impl<'a, R, K: Sink, J: Naming> Model for Replaying<'a, R, K, J> {
     ghost invariant = { λ r. IsKept J.publisher r.running (option_map (λ s. s.value) r.last)
         (option_map (λ e. e.publisher) r.ends) (option_map (λ e. e.reading) r.ends)
         (option_map (λ e. K.held e.output) r.ends)
-        (option_map (λ e. K.faults e.output) r.ends) r.is_over };
+        (option_map (λ e. K.faults e.output) r.ends) r.is_over
+        × HasBook r.running r.is_over r.starved };
 }
 
 impl<'a, R: Wait, K: Sink, J: Naming> Replaying<'a, R, K, J> {
-    /// Nothing was read.
+    /// Nothing was read. The ledger counts nothing.
     pub fn new(
         rt: &'a R,
         alloc: Global,
         ends: Ends<K>,
+        starved: EmptyBook<J>,
         buffer: ReplyBuffer,
     ) -> Replaying<'a, R, K, J>
         requires { CanStart J.publisher (K.held ends.output)
@@ -74,6 +80,7 @@ impl<'a, R: Wait, K: Sink, J: Naming> Replaying<'a, R, K, J> {
             rt,
             opening: Opening::new(alloc),
             ends: Some(ends),
+            starved: Some(starved),
             running: None,
             last: None,
             is_over: false,
@@ -90,6 +97,7 @@ impl<'a, R: Wait, K: Sink, J: Naming> Replaying<'a, R, K, J> {
         let Replaying {
             ends,
             running,
+            starved: _,
             rt: _,
             opening: _,
             last: _,
@@ -243,7 +251,8 @@ impl<'a, R: Wait, K: Sink, J: Naming> Replaying<'a, R, K, J> {
         ensures none { OnErr result (list_in self.new.state ≡ []) }
     {
         let config = self.opening.take(alloc);
-        match Running::start(self.rt, alloc, config, some_of(self.ends.take())) {
+        let starved = some_of(self.starved.take());
+        match Running::start(self.rt, alloc, config, some_of(self.ends.take()), starved) {
             Ok(running) => {
                 put(&mut self.running, running);
                 Ok(())

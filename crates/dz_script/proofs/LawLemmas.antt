@@ -7,7 +7,8 @@ use Rattle.std.proofs.lemmas.List.Splits.{slice_split-cons_yes, slice_split-cons
 use Rattle.dz_script.specs.Laws.{IsCut}
 
 -- an element before the first part
-front_fails : (p : ℕ → Bool) (x : ℕ) (parts : List (List ℕ)) → p x ≡ false → list_all (λ part. list_all (λ y. not (p y)) part) parts ≡ true
+front_fails : (p : ℕ → Bool) (x : ℕ) (parts : List (List ℕ)) → p x ≡ false
+    → list_all (λ part. list_all (λ y. not (p y)) part) parts ≡ true
     → list_all (λ part. list_all (λ y. not (p y)) part) (onto_first x parts) ≡ true
 front_fails p x [] f all = rw f refl
 front_fails p x (part ∷ parts) f all = rw f all

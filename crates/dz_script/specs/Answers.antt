@@ -30,19 +30,25 @@ run_of (Ok ending) = Ok ending
 run_of (Err stopped) = Err (error_of stopped)
 
 -- the script ended, in this state and with this text; where no line ended it, nothing is left of the input
-abbrev pub IsEnded : {S E : Type 0} → Rules S E → S → List ℕ → E → S → Option (List ℕ) → Option (List ℕ) → Option (List ℕ) → Type 0
-IsEnded rules start input ending state left before after = Says (said_of rules start input) ending state before after × (GoesToTheEnd rules start input → left ≡ Some [])
+abbrev pub IsEnded : {S E : Type 0} → Rules S E → S → List ℕ → E → S → Option (List ℕ) → Option (List ℕ)
+    → Option (List ℕ) → Type 0
+IsEnded rules start input ending state left before after =
+    Says (said_of rules start input) ending state before after × (GoesToTheEnd rules start input → left ≡ Some [])
 
 -- a prefix of the script's text was written
 abbrev pub IsCut : {S E : Type 0} → Rules S E → S → List ℕ → Option (List ℕ) → Option (List ℕ) → Type 0
-IsCut rules start input before after = (written : List ℕ) × Gains written before after × IsPrefix written (said_of rules start input).text
+IsCut rules start input before after =
+    (written : List ℕ) × Gains written before after × IsPrefix written (said_of rules start input).text
 
 -- the source failed: the text of the lines that were read whole was written, and the state is theirs
-abbrev pub IsUnread : {S E : Type 0} → Rules S E → S → List ℕ → S → Option (List ℕ) → Option (List ℕ) → Option (List ℕ) → Type 0
-IsUnread rules start input state left before after = (unread : List ℕ) × (written : List ℕ) × (left ≡ Some unread) × Gains written before after × StopsIn rules start input unread state written
+abbrev pub IsUnread : {S E : Type 0} → Rules S E → S → List ℕ → S → Option (List ℕ) → Option (List ℕ)
+    → Option (List ℕ) → Type 0
+IsUnread rules start input state left before after = (unread : List ℕ) × (written : List ℕ) × (left ≡ Some unread)
+    × Gains written before after × StopsIn rules start input unread state written
 
 -- what a run of a script leaves, by its answer: the last state, what is left of the input, and what was written
-abbrev pub IsRun : {S E : Type 0} → Rules S E → S → List ℕ → Result E ScriptError → S → Option (List ℕ) → Option (List ℕ) → Option (List ℕ) → Type 0
+abbrev pub IsRun : {S E : Type 0} → Rules S E → S → List ℕ → Result E ScriptError → S → Option (List ℕ)
+    → Option (List ℕ) → Option (List ℕ) → Type 0
 IsRun rules start input (Ok ending) state left before after = IsEnded rules start input ending state left before after
 IsRun rules start input (Err errors.Read) state left before after = IsUnread rules start input state left before after
 IsRun rules start input (Err errors.Write) state left before after = IsCut rules start input before after

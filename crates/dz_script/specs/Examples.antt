@@ -33,12 +33,20 @@ unfolding line_of
 a_comment = refl
 
 pub a_catalog : line_of (codes "catalog Catalog.example. present 192.0.2.1,192.0.2.2:5353")
-    ≡ Some (Catalog (record { name = catalog_example; policy = Present; primaries = host (192 ∷ 0 ∷ 2 ∷ 1 ∷ []) 53 ∷ host (192 ∷ 0 ∷ 2 ∷ 2 ∷ []) 5353 ∷ []; groups = []; key = None }))
+    ≡ Some (Catalog (record {
+      name = catalog_example;
+      policy = Present;
+      primaries =
+          host (192 ∷ 0 ∷ 2 ∷ 1 ∷ []) 53 ∷ host (192 ∷ 0 ∷ 2 ∷ 2 ∷ []) 5353 ∷ [];
+      groups = [];
+      key = None;
+    }))
 unfolding line_of name_of_text items labels_from with_label wire_of primaries_of peers_of
 a_catalog = refl
 
 pub a_group : line_of (codes "group catalog.example edge require 192.0.2.3")
-    ≡ Some (Group catalog_example (record { word = codes "edge"; policy = Require; primaries = host (192 ∷ 0 ∷ 2 ∷ 3 ∷ []) 53 ∷ [] }))
+    ≡ Some (Group catalog_example
+    (record { word = codes "edge"; policy = Require; primaries = host (192 ∷ 0 ∷ 2 ∷ 3 ∷ []) 53 ∷ [] }))
 unfolding line_of name_of_text items labels_from with_label wire_of primaries_of peers_of
 a_group = refl
 
@@ -46,7 +54,8 @@ pub no_word : line_of (codes "group catalog.example require 192.0.2.3") ≡ None
 unfolding line_of name_of_text items labels_from with_label wire_of primaries_of peers_of
 no_word = refl
 
-pub nine_primaries : line_of (codes "catalog a off 1.1.1.1,1.1.1.1,1.1.1.1,1.1.1.1,1.1.1.1,1.1.1.1,1.1.1.1,1.1.1.1,1.1.1.1") ≡ None
+pub nine_primaries : line_of
+    (codes "catalog a off 1.1.1.1,1.1.1.1,1.1.1.1,1.1.1.1,1.1.1.1,1.1.1.1,1.1.1.1,1.1.1.1,1.1.1.1") ≡ None
 unfolding line_of name_of_text items labels_from with_label wire_of primaries_of peers_of
 nine_primaries = refl
 
@@ -99,11 +108,13 @@ pub a_fail : line_of (codes "1100 fail 18446744073709551615") ≡ Some (Event 11
 unfolding line_of
 a_fail = refl
 
-pub over_udp : line_of (codes "1010 udp 192.0.2.1 0050") ≡ Some (Event 1010 (Ask Udp (host (192 ∷ 0 ∷ 2 ∷ 1 ∷ []) 53) (0 ∷ 80 ∷ [])))
+pub over_udp : line_of (codes "1010 udp 192.0.2.1 0050")
+    ≡ Some (Event 1010 (Ask Udp (host (192 ∷ 0 ∷ 2 ∷ 1 ∷ []) 53) (0 ∷ 80 ∷ [])))
 unfolding line_of octets_in decode_pairs
 over_udp = refl
 
-pub over_tcp : line_of (codes "1010 tcp 192.0.2.1 0050") ≡ Some (Event 1010 (Ask Tcp (host (192 ∷ 0 ∷ 2 ∷ 1 ∷ []) 53) (0 ∷ 80 ∷ [])))
+pub over_tcp : line_of (codes "1010 tcp 192.0.2.1 0050")
+    ≡ Some (Event 1010 (Ask Tcp (host (192 ∷ 0 ∷ 2 ∷ 1 ∷ []) 53) (0 ∷ 80 ∷ [])))
 unfolding line_of octets_in decode_pairs
 over_tcp = refl
 
@@ -119,7 +130,8 @@ no_request = refl
 -- ---- lines of no form, and those that are skipped
 -- all that computes a line: whoever unfolds `read` unfolds its whole list
 read : Octets → Option Line
-unfolding line_of name_of_text items labels_from with_label wire_of primaries_of peers_of octets_in taken_octets decode_pairs
+unfolding line_of name_of_text items labels_from with_label wire_of primaries_of peers_of octets_in taken_octets
+    decode_pairs
 read line = line_of line
 
 pub comments_are_skipped : map line_of (codes "#" ∷ codes "# a comment" ∷ codes "#1000 job" ∷ [])

@@ -1,5 +1,6 @@
 -- Meaning: octets in hex, in either case of the letters.
-use Rattle.std.specs.Prelude.{◌&&◌, nat_lt, nat_le, [], length, codes, Option, Some, None, Result, Ok, Err, if◌then◌else◌}
+use Rattle.std.specs.Prelude.{◌&&◌, nat_lt, nat_le, [], length, codes, Option, Some, None, Result, Ok, Err}
+use Rattle.std.specs.Prelude.{if◌then◌else◌}
 use Rattle.std.specs.Str.{bytes_eq}
 use Rattle.hex.specs.Hex.{decode_of}
 use Rattle.hex.specs.declared.error.FromHexError.{FromHexError}
@@ -8,7 +9,8 @@ use Rattle.dz_name.specs.Words.{Octets}
 
 -- at least one octet, and no more than a message has
 abbrev pub message_octets : Result Octets FromHexError → Option Octets
-message_octets (Ok octets) = if nat_lt 0 (length octets) && nat_le (length octets) MESSAGE_OCTETS then Some octets else None
+message_octets (Ok octets) =
+    if nat_lt 0 (length octets) && nat_le (length octets) MESSAGE_OCTETS then Some octets else None
 message_octets (Err error) = None
 
 -- the octets of a message in hex

@@ -46,12 +46,17 @@ behind written said = record said { text = written ++ said.text }
 
 -- the text and the ending of a last line that has no newline, and of the end of the input after it
 unfoldable pub last_said : {S E : Type 0} → Rules S E → S → ℕ → List ℕ → Said S E
-last_said rules state number line = elim (rules.turn state number line) [ goes_on text next ↦ behind text (rules.finish next (number + 1)) | ends text last ending ↦ record { text = text; state = last; ending = ending } ]
+last_said rules state number line =
+    elim (rules.turn state number line) [
+      | goes_on text next ↦ behind text (rules.finish next (number + 1))
+      | ends text last ending ↦ record { text = text; state = last; ending = ending }
+    ]
 
 -- a turn was done: its text was written, and it went on in this state, or ended the script in it with this ending
 abbrev pub DoesTurn : {S E : Type 0} → Turn S E → Option E → S → Option (List ℕ) → Option (List ℕ) → Type 0
 DoesTurn turn None state before after = (text : List ℕ) × (turn ≡ goes_on text state) × Gains text before after
-DoesTurn turn (Some ending) state before after = (text : List ℕ) × (turn ≡ ends text state ending) × Gains text before after
+DoesTurn turn (Some ending) state before after =
+    (text : List ℕ) × (turn ≡ ends text state ending) × Gains text before after
 
 -- a last text was written, and the script ended with this ending, in this state
 abbrev pub Says : {S E : Type 0} → Said S E → E → S → Option (List ℕ) → Option (List ℕ) → Type 0

@@ -37,7 +37,8 @@ primaries_of text = if nat_le (length (parts_of 44 text)) PRIMARIES then peers_o
 
 -- a catalog of what its fields were read as, without groups and without a key
 abbrev pub catalog_from : Option Name → Option Policy → Option (List Peer) → Option CatalogSettings
-catalog_from (Some name) (Some policy) (Some primaries) = Some (record { name = name; policy = policy; primaries = primaries; groups = []; key = None })
+catalog_from (Some name) (Some policy) (Some primaries) =
+    Some (record { name = name; policy = policy; primaries = primaries; groups = []; key = None })
 catalog_from _ _ _ = None
 
 -- `<name> <policy> <primaries>`
@@ -46,7 +47,8 @@ catalog_of fields = option_and_then (λ f. catalog_from (name_of f.0) (policy_of
 
 -- a group of what its fields were read as
 abbrev pub group_from : Option Octets → Option Policy → Option (List Peer) → Option GroupSettings
-group_from (Some word) (Some policy) (Some primaries) = Some (record { word = word; policy = policy; primaries = primaries })
+group_from (Some word) (Some policy) (Some primaries) =
+    Some (record { word = word; policy = policy; primaries = primaries })
 group_from _ _ _ = None
 
 -- `<word> <policy> <primaries>`

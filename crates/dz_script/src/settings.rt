@@ -2,7 +2,8 @@
 
 ghost use Rattle.std.specs.Prelude.{◌≡◌, IfOk};
 ghost use Rattle.dz_settings.specs.Peer.{policy_of, word_of};
-ghost use Rattle.dz_script.specs.Settings.{name_of, primaries_of, catalog_from, catalog_of, group_from, settings_of, group_of};
+ghost use Rattle.dz_script.specs.Settings.{name_of, primaries_of, catalog_from, catalog_of, group_from, settings_of};
+ghost use Rattle.dz_script.specs.Settings.{group_of};
 
 use crate::fields::Fields;
 use dz_name::Name;

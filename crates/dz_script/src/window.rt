@@ -1,5 +1,6 @@
 //! A buffer between a source and the lines that are read from it.
-ghost use Rattle.std.specs.Prelude.{◌≡◌, ◌==◌, ◌≤◌, ◌<◌, ◌++◌, List, ℕ, [], length, take, drop, slice_range, MatchResult, IfOk, OnOk, OnErr};
+ghost use Rattle.std.specs.Prelude.{◌≡◌, ◌==◌, ◌≤◌, ◌<◌, ◌++◌, List, ℕ, [], length, take, drop, slice_range};
+ghost use Rattle.std.specs.Prelude.{MatchResult, IfOk, OnOk, OnErr};
 ghost use Rattle.std.specs.List.{position};
 ghost use Rattle.dz_io.specs.Device.{Gives, IsAtEnd, HasCause};
 ghost use Rattle.dz_script.specs.Lines.{ahead};

@@ -1,5 +1,6 @@
 -- What proves a case, by what is found at its owners; in a zone without records of DNSSEC nothing does.
-use Rattle.std.proofs.Common.{arith, ◌≡◌, ℕ, true, false, List, [], ◌∷◌, refl, sym, ◌∙◌, ap, length, inl, inr, Option, Some, None}
+use Rattle.std.proofs.Common.{arith, ◌≡◌, ℕ, true, false, List, [], ◌∷◌, refl, sym, ◌∙◌, ap, length, inl, inr, Option}
+use Rattle.std.proofs.Common.{Some, None}
 use Rattle.std.specs.Prelude.{◌==◌, option_map}
 use Rattle.std.specs.List.Sorted.{IsStrictlySortedBy}
 use Rattle.std.proofs.lemmas.Bool.{cases_Bool, false≢true}
@@ -12,7 +13,8 @@ use Rattle.dz_zone.specs.Version.{Zone, is_secure, is_of_dnssec}
 use Rattle.dz_lookup.specs.Runs.{of_type, records_of}
 use Rattle.dz_lookup.specs.Found.{Found, here, alias, no_data, no_name, referral, rename, source, encloser}
 use Rattle.dz_lookup.proofs.InOrder.{no_run}
-use Rattle.dz_secure.specs.Secure.{owner_before, nsec_at, nsec_of, covering, own_or, no_data_proof, no_name_proof, referral_proof, proof}
+use Rattle.dz_secure.specs.Secure.{owner_before, nsec_at, nsec_of, covering, own_or, no_data_proof, no_name_proof}
+use Rattle.dz_secure.specs.Secure.{referral_proof, proof}
 use Rattle.dz_secure.proofs.SignatureLemmas.{none_owned}
 
 pub own_gone : (own other : List Record) → true ≡ (length own == 0) → own_or own other ≡ other
@@ -30,18 +32,22 @@ module _ (zone : List Record) (name node : Name) (own : List Record) (is : own �
   pub elsewhere : same_name node name ≡ false → no_data_proof zone name (Some node) ≡ (own, covering zone name)
   elsewhere other = rw (other, is) refl
 
-  pub gone_here : same_name node name ≡ true → true ≡ (length own == 0) → no_data_proof zone name (Some node) ≡ (covering zone name, [])
+  pub gone_here : same_name node name ≡ true → true ≡ (length own == 0)
+      → no_data_proof zone name (Some node) ≡ (covering zone name, [])
   gone_here same none =
       let e : node ≡ name = (same_decides node name).0 same in
       let there : own ≡ nsec_of zone name = is ∙ ap (nsec_of zone) e in
-      let other : own_or (nsec_of zone name) (covering zone name) ≡ covering zone name = own_gone (nsec_of zone name) (covering zone name) (none ∙ ap (λ rs. length rs == 0) there) in
+      let other : own_or (nsec_of zone name) (covering zone name) ≡ covering zone name =
+      own_gone (nsec_of zone name) (covering zone name) (none ∙ ap (λ rs. length rs == 0) there) in
       rw (same, other) refl
 
-  pub there_here : same_name node name ≡ true → false ≡ (length own == 0) → no_data_proof zone name (Some node) ≡ (own, [])
+  pub there_here : same_name node name ≡ true → false ≡ (length own == 0)
+      → no_data_proof zone name (Some node) ≡ (own, [])
   there_here same some =
       let e : node ≡ name = (same_decides node name).0 same in
       let there : own ≡ nsec_of zone name = is ∙ ap (nsec_of zone) e in
-      let kept : own_or (nsec_of zone name) (covering zone name) ≡ nsec_of zone name = own_there (nsec_of zone name) (covering zone name) (some ∙ ap (λ rs. length rs == 0) there) in
+      let kept : own_or (nsec_of zone name) (covering zone name) ≡ nsec_of zone name =
+      own_there (nsec_of zone name) (covering zone name) (some ∙ ap (λ rs. length rs == 0) there) in
       rw (same, kept, there) refl
 
 -- a zone without records of DNSSEC

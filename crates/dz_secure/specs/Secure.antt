@@ -1,5 +1,6 @@
 -- Meaning: records of DNSSEC beside an answer (RFC 4035 section 3.1). A zone is a list of records in any order.
-use Rattle.std.specs.Prelude.{take, Bool, ◌==◌, ◌&&◌, List, [], ◌∷◌, filter, Option, Some, None, option_map, if◌then◌else◌}
+use Rattle.std.specs.Prelude.{take, Bool, ◌==◌, ◌&&◌, List, [], ◌∷◌, filter, Option, Some, None, option_map}
+use Rattle.std.specs.Prelude.{if◌then◌else◌}
 use Rattle.std.specs.Ordering.{is_lt}
 use Rattle.dz_name.specs.Words.{Name, Kind}
 use Rattle.dz_name.specs.Name.{same_name, same_label, canonical_order, wildcard_of}
@@ -30,7 +31,8 @@ last_owner (r ∷ s ∷ rs) = last_owner (s ∷ rs)
 
 -- the last owner of an NSEC that comes before a name in canonical order
 abbrev pub owner_before : List Record → Name → Option Name
-owner_before zone name = last_owner (in_order (filter (λ r. r.kind == TYPE_NSEC && is_lt (canonical_order r.owner name)) zone))
+owner_before zone name =
+    last_owner (in_order (filter (λ r. r.kind == TYPE_NSEC && is_lt (canonical_order r.owner name)) zone))
 
 -- the NSEC RRset of a name, if there is such a name
 abbrev pub nsec_at : List Record → Option Name → List Record
@@ -46,7 +48,8 @@ abbrev pub own_or : List Record → List Record → List Record
 own_or [] other = other
 own_or (r ∷ rs) other = r ∷ rs
 
--- proves that a type isn't there: at the name itself, or at the wildcard that matches it (RFC 4035 sections 3.1.3.1 and
+-- proves that a type isn't there: at the name itself, or at the wildcard that matches it (RFC 4035 sections 3.1.3.1
+-- and
 -- 3.1.3.4). A proof has two RRsets at most; one without records counts as none.
 abbrev pub no_data_proof : List Record → Name → Option Name → List Record × List Record
 no_data_proof zone name None = ([], [])
@@ -62,7 +65,8 @@ no_name_proof zone name (Some wildcard) = (covering zone name, covering zone wil
 -- goes with a referral: the DS of the cut, or an NSEC that proves that it has none (RFC 4035 section 3.1.4)
 abbrev pub referral_proof : List Record → List Record → List Record × List Record
 referral_proof zone [] = ([], [])
-referral_proof zone (server ∷ servers) = (own_or (of_type TYPE_DS (records_of zone server.owner)) (nsec_of zone server.owner), [])
+referral_proof zone (server ∷ servers) =
+    (own_or (of_type TYPE_DS (records_of zone server.owner)) (nsec_of zone server.owner), [])
 
 -- what proves the last case of a lookup; an answer, a CNAME and a DNAME need none
 unfoldable pub proof : List Record → Name → Found → List Record × List Record

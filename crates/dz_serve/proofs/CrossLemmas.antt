@@ -2,6 +2,8 @@
 use denote.Ref.{NamedLft}
 use denote.RattleType.{RattleType}
 use denote.Param.Send.{IsSend, IsSync, sendable}
+use Rattle.core.specs.declared.ledger.Ledger as ledger
+use Rattle.core.proofs.ledger.Sent.{book_send}
 use Rattle.std.proofs.Crossing.{crosses}
 use Rattle.std.proofs.MapsCrossing as maps
 use Rattle.dz_name.specs.contracts.kept_name.KeptName as KeptName
@@ -42,10 +44,12 @@ version_sync : IsSync Version.the_row
 version_sync = search (sendable, crosses, maps.crosses) depth 40 fits 5000
 
 slot_send : IsSend Slot.the_row
-slot_send = search (sendable, crosses, maps.crosses, name_send, name_sync, version_send, version_sync) depth 40 fits 5000
+slot_send =
+    search (sendable, crosses, maps.crosses, name_send, name_sync, version_send, version_sync) depth 40 fits 5000
 
 slot_sync : IsSync Slot.the_row
-slot_sync = search (sendable, crosses, maps.crosses, name_send, name_sync, version_send, version_sync) depth 40 fits 5000
+slot_sync =
+    search (sendable, crosses, maps.crosses, name_send, name_sync, version_send, version_sync) depth 40 fits 5000
 
 table_send : IsSend Table.the_row
 table_send = search (sendable, crosses, maps.crosses, slot_send, slot_sync) depth 40 fits 5000
@@ -84,13 +88,43 @@ known_sync : IsSync Known.the_row
 known_sync = search (sendable, crosses, maps.crosses, listing_send, listing_sync) depth 40 fits 5000
 
 fold_send : IsSend Fold.the_row
-fold_send = search (sendable, crosses, maps.crosses, config_send, config_sync, member_send, member_sync, known_send, known_sync) depth 40 fits 5000
+fold_send = search (
+  sendable,
+  crosses,
+  maps.crosses,
+  config_send,
+  config_sync,
+  member_send,
+  member_sync,
+  known_send,
+  known_sync,
+) depth 40 fits 5000
 
 fold_sync : IsSync Fold.the_row
-fold_sync = search (sendable, crosses, maps.crosses, config_send, config_sync, member_send, member_sync, known_send, known_sync) depth 40 fits 5000
+fold_sync = search (
+  sendable,
+  crosses,
+  maps.crosses,
+  config_send,
+  config_sync,
+  member_send,
+  member_sync,
+  known_send,
+  known_sync,
+) depth 40 fits 5000
 
 holdings_send : IsSend Holdings.the_row
-holdings_send = search (sendable, crosses, maps.crosses, fold_send, fold_sync, table_send, table_sync, version_send, version_sync) depth 40 fits 5000
+holdings_send = search (
+  sendable,
+  crosses,
+  maps.crosses,
+  fold_send,
+  fold_sync,
+  table_send,
+  table_sync,
+  version_send,
+  version_sync,
+) depth 40 fits 5000
 
 history_send : IsSend History.the_row
 history_send = search (sendable, crosses, maps.crosses) depth 40 fits 5000
@@ -105,11 +139,15 @@ last_send : IsSend Last.the_row
 last_send = search (sendable, crosses, maps.crosses) depth 40 fits 5000
 
 pub fleet_send : IsSend Fleet.the_row
-fleet_send = search (sendable, crosses, maps.crosses, holdings_send, history_send, schedule_send, flying_send, last_send) depth 30
+fleet_send = search
+    (sendable, crosses, maps.crosses, holdings_send, history_send, schedule_send, flying_send, last_send) depth 30
 
 -- and a provisioner with its output
-pub provisioner_send : (K N : RattleType) (k : sink.Ghosts K.Denot) (n : naming.Ghosts N.Denot) → IsSend K → IsSend N → IsSend Publisher.the_row → IsSend (Provisioner.the_row K N k n)
-provisioner_send K N k n sk sn sp = search (sendable, crosses, maps.crosses, fleet_send) depth 40 fits 20000
+pub provisioner_send : (K N : RattleType) (k : sink.Ghosts K.Denot) (n : naming.Ghosts N.Denot)
+    (l : ledger.Ghosts N.Denot) → IsSend K → IsSend N → IsSend Publisher.the_row
+    → IsSend (Provisioner.the_row K N k n l)
+provisioner_send K N k n l sk sn sp =
+    search (sendable, crosses, maps.crosses, fleet_send, book_send) depth 40 fits 20000
 
 -- what a lock guards is shared where it may be sent
 pub locked_sync : (P : RattleType) → IsSend P → IsSync (Locked.the_row P)

@@ -1,5 +1,6 @@
 -- Devices that came back unused.
-use Rattle.std.proofs.Common.{◌≡◌, ℕ, ◌+◌, ◌-◌, List, [], ◌∷◌, ◌++◌, Option, None, Some, refl, sym, ap, ◌∙◌, arith, append_assoc}
+use Rattle.std.proofs.Common.{◌≡◌, ℕ, ◌+◌, ◌-◌, List, [], ◌∷◌, ◌++◌, Option, None, Some, refl, sym, ap, ◌∙◌, arith}
+use Rattle.std.proofs.Common.{append_assoc}
 use Rattle.std.proofs.lemmas.List.{append-nil}
 use Rattle.std.specs.Option.{option_map}
 use Rattle.std.specs.List.{AllByRecursion}
@@ -11,14 +12,16 @@ map_none None = refl
 map_none (Some xs) = ap Some (sym (append-nil xs))
 
 map_two : {A : Type 0} (o : Option (List A)) (x y : A)
-    → option_map (λ held. held ++ y ∷ []) (option_map (λ held. held ++ x ∷ []) o) ≡ option_map (λ held. held ++ (x ∷ y ∷ [])) o
+    → option_map (λ held. held ++ y ∷ []) (option_map (λ held. held ++ x ∷ []) o)
+    ≡ option_map (λ held. held ++ (x ∷ y ∷ [])) o
 map_two None x y = refl
 map_two (Some xs) x y = ap Some (append_assoc xs (x ∷ []) (y ∷ []))
 
 abbrev row_with : {P T : Type 0} → Option (List P) → ℕ → Option (List T) → Row P T
 row_with opened out back = record { opened = opened; out = out; back = back }
 
-row_of : {P T : Type 0} (opened o : Option (List P)) (out n : ℕ) (back b : Option (List T)) → opened ≡ o → out ≡ n → back ≡ b
+row_of : {P T : Type 0} (opened o : Option (List P)) (out n : ℕ) (back b : Option (List T)) → opened ≡ o
+    → out ≡ n → back ≡ b
     → row_with opened out back ≡ row_with o n b
 row_of opened o out n back b p q r = rw (p, q, r) refl
 
@@ -35,7 +38,8 @@ unused_none F row after h =
     ([], [], tt, h ∙ row_of row.opened _ row.out row.out row.back _ (map_none row.opened) refl (map_none row.back))
 
 -- one was opened, and closed
-pub unused_one : {P T : Type 0} (F : T → Type 0) (p : P) (t : T) (row after : Row P T) → F t → after ≡ closing t (opening p row) → IsUnused F row after
+pub unused_one : {P T : Type 0} (F : T → Type 0) (p : P) (t : T) (row after : Row P T) → F t
+    → after ≡ closing t (opening p row) → IsUnused F row after
 unfolding IsUnused
 unused_one F p t row after f h = (p ∷ [], t ∷ [], (f, tt), h ∙ row_of _ _ _ row.out _ _ refl (back_to row.out) refl)
 

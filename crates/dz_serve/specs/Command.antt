@@ -1,5 +1,6 @@
 -- Answer: the command `serve`: what its input configures, and what it says where that is nothing.
-use Rattle.std.specs.Prelude.{⊤, ◌≡◌, ◌≢◌, ◌≤◌, ◌+◌, ℕ, Bool, true, List, [], ◌∷◌, ◌++◌, length, take, codes, Option, Some, Result, Ok, Err}
+use Rattle.std.specs.Prelude.{⊤, ◌≡◌, ◌≢◌, ◌≤◌, ◌+◌, ℕ, Bool, true, List, [], ◌∷◌, ◌++◌, length, take, codes, Option}
+use Rattle.std.specs.Prelude.{Some, Result, Ok, Err}
 use Rattle.dz_name.specs.Words.{Octets}
 use Rattle.dz_io.specs.Device.{Gains, GainsPrefix, Gives, IsAtEnd, Tells}
 use Rattle.dz_io.specs.declared.peer.Peer.{Peer}
@@ -29,14 +30,16 @@ pub record IsText (text : Octets) (before after : Option Octets) : Type 0 where
 -- what was read from a text: its configuration and the addresses to which zones are sent, or its fault; where memory
 -- runs out, nothing is told
 abbrev pub IsServerConfig : Octets → Result ServerConfig ConfigError → Type 0
-IsServerConfig octets (Ok server) = Reads octets (Ok (server.listen, server.config)) × ReadsDownstream octets (Ok server.downstream)
+IsServerConfig octets (Ok server) =
+    Reads octets (Ok (server.listen, server.config)) × ReadsDownstream octets (Ok server.downstream)
 IsServerConfig octets (Err (Fault fault)) = Reads octets (Err (Fault fault))
 IsServerConfig octets (Err OutOfMemory) = ⊤
 
 -- what was read from an input with these octets: its configuration and the addresses to which zones are sent, or its
 -- fault; where the source fails or memory runs out, nothing is told
 abbrev pub IsServerConfigOf : Octets → Result ServerConfig Unconfigured → Type 0
-IsServerConfigOf octets (Ok server) = Reads octets (Ok (server.listen, server.config)) × ReadsDownstream octets (Ok server.downstream)
+IsServerConfigOf octets (Ok server) =
+    Reads octets (Ok (server.listen, server.config)) × ReadsDownstream octets (Ok server.downstream)
 IsServerConfigOf octets (Err (unconfigured.Bad fault)) = Reads octets (Err (Fault fault))
 IsServerConfigOf octets (Err unconfigured.Read) = ⊤
 IsServerConfigOf octets (Err unconfigured.OutOfMemory) = ⊤
@@ -59,24 +62,28 @@ HasFault input fault = (octets : Octets) → input ≡ Some octets → Reads oct
 -- written; and else nothing
 abbrev pub IsIdle : ServeEnd → Option Octets → Option Octets → Type 0
 IsIdle ends.BadInput input held = (fault : ConfigFault) × HasFault input fault × Tells (bad_config fault) held
-IsIdle ends.WriteFault input held = (fault : ConfigFault) × HasFault input fault × ((n : ℕ) × Tells (take n (bad_config fault)) held)
+IsIdle ends.WriteFault input held =
+    (fault : ConfigFault) × HasFault input fault × ((n : ℕ) × Tells (take n (bad_config fault)) held)
 IsIdle how input held = Tells [] held
 
 -- a server ran with the configuration of the input and sent zones to the addresses that it has: the list begins with
--- the configuration, and the log of the list is written
-pub record IsServed (keeps : Bool) (how : ServeEnd) (may_fail : Type 0) (may_give : ℕ → Bool) (input held : Option Octets) (list : List Entry) (before after : Rows) : Type 0 where
+-- the configuration, and the log of the list is written, with as many lines of want of memory as dials ended so
+pub record IsServed (keeps : Bool) (how : ServeEnd) (may_fail : Type 0) (may_give : ℕ → Bool)
+    (input held : Option Octets) (list : List Entry) (before after : Rows) : Type 0 where
   pub listen : Peer
   pub config : List CatalogSettings
   pub downstream : List Octets
   pub reads : (octets : Octets) → input ≡ Some octets → Reads octets (Ok (listen, config))
   pub lists : (octets : Octets) → input ≡ Some octets → ReadsDownstream octets (Ok downstream)
   pub begins : IsListOf config list
-  pub run : HasRun keeps how downstream may_fail may_give list listen before after
-  pub logged : IsLogged list held (is_write_fault how)
+  pub starved : ℕ
+  pub run : HasRun keeps how downstream may_fail may_give starved list listen before after
+  pub logged : IsLogged list starved held (is_write_fault how)
 
--- what came of the command, of a server that keeps zones or not: no worker was started, the list has no entry, and what
--- was opened is closed; or the list has begun
-pub record IsServe (keeps : Bool) (how : ServeEnd) (may_fail : Type 0) (may_give : ℕ → Bool) (may_stop : Bool) (input held : Option Octets) (list : List Entry) (before after : Rows) : Type 0 where
+-- what came of the command, of a server that keeps zones or not: no worker was started, the list has no entry, and
+-- what was opened is closed; or the list has begun
+pub record IsServe (keeps : Bool) (how : ServeEnd) (may_fail : Type 0) (may_give : ℕ → Bool) (may_stop : Bool)
+    (input held : Option Octets) (list : List Entry) (before after : Rows) : Type 0 where
   pub unserved : list ≡ [] → IsIdle how input held × AreUnused before after
   pub served : list ≢ [] → IsServed keeps how may_fail may_give input held list before after
   pub done : how ≡ ends.Done → (list ≢ []) × (may_stop ≡ true)

@@ -32,26 +32,33 @@ pub record HasSeenMore (before after : Viewed) : Type 0 where
   pub seen : IsPrefix before.list after.list
 
 -- a datagram worker: its session, by a list that has all that its reading had seen
-pub record HasListened (ending : SessionEnd) (mark : Bool) (may_fail : Type 0) (may_give : ℕ → Bool) (before after : Viewed) (old now : Told) : Type 0 where
+pub record HasListened (ending : SessionEnd) (mark : Bool) (may_fail : Type 0) (may_give : ℕ → Bool)
+    (before after : Viewed) (old now : Told) : Type 0 where
   pub more : HasSeenMore before after
   pub session : IsSession ending may_fail may_give (length before.list) after.list old now
   pub closed : HasClosed ending mark
 
 -- a link worker: the sessions over its links, by the addresses to which zones are sent
-pub record HasLinked (ending : LinksEnd) (downstream : List Octets) (may_fail : Type 0) (may_give : ℕ → Bool) (before after : Viewed) (old now : Accepts) (given told : Option (List ℕ)) : Type 0 where
+pub record HasLinked (ending : LinksEnd) (downstream : List Octets) (may_fail : Type 0) (may_give : ℕ → Bool)
+    (before after : Viewed) (old now : Accepts) (given told : Option (List ℕ)) : Type 0 where
   pub more : HasSeenMore before after
-  pub visits : AreVisits (starved_at ending) downstream (excused (unheard_at ending) may_fail) may_give (length before.list) after.list (links_told old.links before.sights given) (links_told now.links after.sights told)
+  pub visits : AreVisits (starved_at ending) downstream (excused (unheard_at ending) may_fail) may_give
+      (length before.list) after.list (links_told old.links before.sights given)
+      (links_told now.links after.sights told)
   pub until : AcceptsUntil ending now.is_closed old.faults now.faults
 
--- a transfer worker, whose jobs ended at moments of its clock
-pub record HasTransferred (done : Transfers) (may_stop : Bool) (may_give : ℕ → Bool) (before after : Viewed) (old now : Dials) : Type 0 where
+-- a transfer worker, whose jobs ended at moments of its clock, with so many lines of want of memory
+pub record HasTransferred (done : Transfers) (lines : ℕ) (may_stop : Bool) (may_give : ℕ → Bool)
+    (before after : Viewed) (old now : Dials) : Type 0 where
   pub more : HasSeenMore before after
-  pub transfers : IsTransfers done (length before.list) after.list old.links now.links old.faults now.faults
+  pub transfers :
+      IsTransfers done lines (length before.list) after.list old.links now.links old.faults now.faults
   pub moments : All (EndsAmong may_give) done.endings
   pub stopped : done.end ≡ transfer_ends.Stopped → may_stop ≡ true
 
 -- what a datagram worker shows of what it hands on, by the device, the reading and the clock that it was given
-abbrev pub ShowsListening : {D C : Type 0} → datagrams.Ghosts D → clocks.Ghosts C → Type 0 → D → Viewed → C → Listened D C → Type 0
+abbrev pub ShowsListening : {D C : Type 0} → datagrams.Ghosts D → clocks.Ghosts C → Type 0 → D → Viewed → C
+    → Listened D C → Type 0
 ShowsListening d c may_fail device reading clock done =
     let its_device = manually_drop_value done.device in
     HasListened done.end (d.is_closed its_device) may_fail (c.may_give clock) reading done.reading
@@ -59,7 +66,8 @@ ShowsListening d c may_fail device reading clock done =
     (told (d.received its_device) (d.sent its_device) (d.faults its_device) done.reading.sights (c.given done.clock))
 
 -- what a link worker shows, by the addresses to which zones are sent
-abbrev pub ShowsLinking : {A L C : Type 0} → acceptors.Ghosts A L → clocks.Ghosts C → Type 0 → List Octets → A → Viewed → C → Linked A C → Type 0
+abbrev pub ShowsLinking : {A L C : Type 0} → acceptors.Ghosts A L → clocks.Ghosts C → Type 0 → List Octets → A → Viewed
+    → C → Linked A C → Type 0
 ShowsLinking a c may_fail downstream acceptor reading clock done =
     let its_acceptor = manually_drop_value done.acceptor in
     HasLinked done.end downstream may_fail (c.may_give clock) reading done.reading
@@ -67,13 +75,15 @@ ShowsLinking a c may_fail downstream acceptor reading clock done =
     (accepts (a.links its_acceptor) (a.out its_acceptor) (a.is_closed its_acceptor) (a.faults its_acceptor))
     (c.given clock) (c.given done.clock)
 
--- what a transfer worker shows
-abbrev pub ShowsTransferring : {D L C : Type 0} → dialers.Ghosts D L → clocks.Ghosts C → D → Viewed → C → Transferred D → Type 0
-ShowsTransferring d c dialer reading clock done =
+-- what a transfer worker shows, whose share of the ledger has counted nothing; it keeps its parts
+abbrev pub ShowsTransferring : {D L C N : Type 0} → dialers.Ghosts D L → clocks.Ghosts C → D → Viewed → C → ℕ
+    → Transferred D N → Type 0
+ShowsTransferring d c dialer reading clock parts done =
     let its_dialer = manually_drop_value done.dialer in
-    HasTransferred done.transfers (c.may_stop clock) (c.may_give clock) reading done.reading
+    HasTransferred done.transfers done.share.amount (c.may_stop clock) (c.may_give clock) reading done.reading
     (dials (d.links dialer) (d.out dialer) (d.faults dialer))
     (dials (d.links its_dialer) (d.out its_dialer) (d.faults its_dialer))
+    × (done.share.parts ≡ parts)
 
 -- a reading of this book, at rest
 pub record IsSeated (book : Book) (reading : Viewed) : Type 0 where

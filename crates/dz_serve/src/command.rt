@@ -1,6 +1,7 @@
 //! The command `serve`.
 
-ghost use Rattle.std.specs.Prelude.{◌≡◌, ◌≢◌, ◌≤◌, [], length, is_some, None, Some, Ok, Err, IfOk, IfSome, MatchBool, All};
+ghost use Rattle.std.specs.Prelude.{◌≡◌, ◌≢◌, ◌≤◌, [], length, is_some, None, Some, Ok, Err, IfOk, IfSome, MatchBool};
+ghost use Rattle.std.specs.Prelude.{All};
 ghost use Rattle.dz_io.specs.Counts.{HasRisen};
 ghost use Rattle.dz_io.specs.Device.{HasCauseOf};
 ghost use Rattle.dz_io.specs.Ports.{IsFreshExchange, IsFreshAccepts, IsFreshDials};
@@ -27,6 +28,7 @@ use dz_io::{Clock, Failed, Ports, Sink, Source};
 use dz_provision::Naming;
 use std::alloc::Global;
 use std::sync::Wait;
+use std::sync::ledger::Blank;
 use std::thread::Threads;
 
 /// Why an input gave no configuration of a server.
@@ -55,7 +57,8 @@ pub(crate) fn read_server_config<S: Source>(
     ensures allowed { IfOk result (λ s. IsAllowed s.config) }
     ensures end { IfOk result (λ s. (octets : Octets) → S.left source.old ≡ Some octets →
         S.left source.new ≡ Some []) }
-    ensures cause { HasCauseOf (S.faults source.old) (S.faults source.new) result Unconfigured.Read }
+    ensures cause { HasCauseOf (S.faults source.old)
+        (S.faults source.new) result Unconfigured.Read }
     ensures kept { (fault : ConfigFault) → result ≡ Err (Unconfigured.Bad fault) →
         S.faults source.new ≡ S.faults source.old }
 {
@@ -84,7 +87,8 @@ fn server_config_of(alloc: Global, text: &[u8]) -> Result<ServerConfig, ConfigEr
 }
 
 /// Reads the configuration from an input and serves it. Where the input is no configuration, the line
-/// `bad config <number>` is written, and nothing is opened. Where there is a disk, zones are kept on it.
+/// `bad config <number>` is written, and nothing is opened. Where there is a disk, zones are kept on it. The log's lines of
+/// want of memory are counted in the ledger.
 pub fn serve_input<
     S: Source,
     K: Sink + Send,
@@ -102,6 +106,7 @@ pub fn serve_input<
     ports: &mut P,
     clock: &C,
     disk: Option<&mut D>,
+    ledger: Blank,
 ) -> Served<K>
     requires written { IfSome (K.held output) (λ text. text ≡ []) }
     requires faultless { K.faults output ≡ 0 }
@@ -109,10 +114,13 @@ pub fn serve_input<
         × (desk.publisher.book ≡ J.publisher) }
     requires readings { All (IsAtRest J.publisher) desk.readings.items }
     requires six { length desk.readings.items ≡ 6 }
+    requires name { ledger.name ≡ J.name }
+    requires parts { (ledger.parts ≡ J.parts) × (ledger.parts ≡ 2) }
     ensures publisher { (result.desk.publisher.staged ≡ None)
         × (result.desk.publisher.book ≡ desk.publisher.book) }
     ensures back { AreBack J.publisher result.desk.readings.items }
-    ensures serve { IsServe (is_some disk.entry) result.end ((k : K) × HasRisen 0 (K.faults k)) (C.may_give clock.now)
+    ensures serve { IsServe (is_some disk.entry) result.end ((k : K) × HasRisen 0 (K.faults k))
+        (C.may_give clock.now)
         (C.may_stop clock.now) (S.left input.old) (K.held result.output) result.desk.publisher.list
         (rows (P.datagrams ports.old) (P.acceptors ports.old) (P.dialers ports.old))
         (rows (P.datagrams ports.new) (P.acceptors ports.new) (P.dialers ports.new)) }
@@ -131,7 +139,7 @@ pub fn serve_input<
 {
     match read_server_config(alloc, input) {
         Ok(server) => serve::<K, J, P, C, D, R>(
-            rt, alloc, server, output, desk, ports, clock, disk,
+            rt, alloc, server, output, desk, ports, clock, disk, ledger,
         ),
         Err(Unconfigured::Read) => unserved(ServeEnd::ReadFault, output, desk),
         Err(Unconfigured::OutOfMemory) => unserved(ServeEnd::NoMemory, output, desk),

@@ -1,6 +1,7 @@
 //! A server, from its devices' opening to their end.
 
-ghost use Rattle.std.specs.Prelude.{◌≡◌, ◌≢◌, ◌≤◌, ◌<◌, ◌+◌, ◌-◌, [], ◌∷◌, ◌++◌, length, vec_len, vec_capacity, is_none, is_some, None, Some, true, List, slice_get, IfSome, MatchBool, All};
+ghost use Rattle.std.specs.Prelude.{◌≡◌, ◌≢◌, ◌≤◌, ◌<◌, ◌+◌, ◌-◌, [], ◌∷◌, ◌++◌, length, vec_len, vec_capacity};
+ghost use Rattle.std.specs.Prelude.{ℕ, is_none, is_some, None, Some, true, List, slice_get, IfSome, MatchBool, All};
 ghost use Rattle.std.specs.Mem.{manually_drop_value};
 ghost use mathlib.Core.List.{IsPrefix};
 ghost use Rattle.dz_io.specs.Counts.{HasRisen};
@@ -13,7 +14,7 @@ ghost use Rattle.dz_history.specs.declared.entry.Entry.TheVariants.{Setup};
 ghost use Rattle.dz_provision.specs.Log.{IsLogged};
 ghost use Rattle.dz_serve.specs.Ends.{is_write_fault};
 ghost use Rattle.dz_serve.specs.Rows.{Rows, AreUnused, both_at, both_back, both_made, rows};
-ghost use Rattle.dz_serve.specs.Runs.{IsRun, HasRun, IsListOf};
+ghost use Rattle.dz_serve.specs.Runs.{IsRun, HasRunLogged, IsListOf};
 ghost use Rattle.dz_serve.specs.Workers.{IsSeated, AreSeated, AreBack};
 
 use crate::begin::begin;
@@ -37,6 +38,7 @@ use dz_settings::Config;
 use dz_store::Store;
 use std::alloc::Global;
 use std::mem::ManuallyDrop;
+use std::sync::ledger::{Blank, Ledger, Share};
 use std::sync::{Mutex, Wait};
 use std::thread::Threads;
 
@@ -57,8 +59,8 @@ pub struct Served<K> {
 
 /// Opens two datagram devices, two acceptors and two dialers, serves each by a worker in a thread of its own, and gives
 /// the devices back. What is taken is published at the desk, whose list is empty and which has six readings. The log is
-/// written to the output, to which nothing was written. Where there is a disk, zones are kept on it: those that are
-/// kept are given back before a worker starts.
+/// written to the output, to which nothing was written; its lines of want of memory are counted in the ledger. Where there
+/// is a disk, zones are kept on it: those that are kept are given back before a worker starts.
 pub fn serve<
     K: Sink + Send,
     J: Naming + Send + Sync,
@@ -75,6 +77,7 @@ pub fn serve<
     ports: &mut P,
     clock: &C,
     disk: Option<&mut D>,
+    ledger: Blank,
 ) -> Served<K>
     requires config { IsAllowed server.config }
     requires written { IfSome (K.held output) (λ text. text ≡ []) }
@@ -83,15 +86,15 @@ pub fn serve<
         × (desk.publisher.book ≡ J.publisher) }
     requires readings { All (IsAtRest J.publisher) desk.readings.items }
     requires six { length desk.readings.items ≡ 6 }
+    requires name { ledger.name ≡ J.name }
+    requires parts { (ledger.parts ≡ J.parts) × (ledger.parts ≡ 2) }
     ensures publisher { (result.desk.publisher.staged ≡ None)
         × (result.desk.publisher.book ≡ desk.publisher.book) }
     ensures back { AreBack J.publisher result.desk.readings.items }
-    ensures logged { IsLogged result.desk.publisher.list (K.held result.output)
-        (is_write_fault result.end) }
     ensures served { result.desk.publisher.list ≢ []
         → IsListOf server.config result.desk.publisher.list
-        × HasRun (is_some disk.entry) result.end server.downstream
-        ((k : K) × HasRisen 0 (K.faults k)) (C.may_give clock.now)
+        × HasRunLogged (is_some disk.entry) result.end server.downstream
+        ((k : K) × HasRisen 0 (K.faults k)) (C.may_give clock.now) (K.held result.output)
         result.desk.publisher.list server.listen
         (rows (P.datagrams ports.old) (P.acceptors ports.old) (P.dialers ports.old))
         (rows (P.datagrams ports.new) (P.acceptors ports.new) (P.dialers ports.new)) }
@@ -117,14 +120,15 @@ pub fn serve<
         publisher,
         readings,
     } = desk;
-    match Provisioner::<K, J>::start(rt, alloc, server.config, publisher, output) {
+    let (book, share) = ledger.open::<J>();
+    match Provisioner::start(rt, alloc, server.config, publisher, output, book) {
         Err(unstarted) => {
             close_devices(ports, devices);
             not_started(unstarted, readings)
         }
         Ok(begun) => {
             let (seats, readings) = seat_all::<J>(readings);
-            let inputs = WorkerInputs::new(seats, devices, clocks, server.downstream);
+            let inputs = WorkerInputs::new(seats, devices, clocks, server.downstream, share);
             begin_over(rt, alloc, begun, inputs, readings, ports, clock, disk)
         }
     }
@@ -142,7 +146,7 @@ fn begin_over<
     rt: &R,
     alloc: Global,
     provisioner: Provisioner<K, J>,
-    inputs: WorkerInputs<P::D, P::A, P::L, C>,
+    inputs: WorkerInputs<P::D, P::A, P::L, C, J>,
     readings: Vec<Reading>,
     ports: &mut P,
     clock: &C,
@@ -194,21 +198,21 @@ fn begin_over<
         ≡ C.may_stop clock.now }
     requires gives_one { C.may_give inputs.clocks.transferring.first ≡ C.may_give clock.now }
     requires gives_two { C.may_give inputs.clocks.transferring.second ≡ C.may_give clock.now }
+    requires share { (inputs.share.parts ≡ J.parts) × (inputs.share.parts ≡ 2)
+        × (inputs.share.amount ≡ 0) }
     ensures publisher { (result.desk.publisher.staged ≡ None)
         × (result.desk.publisher.book ≡ J.publisher) }
     ensures back { AreBack J.publisher result.desk.readings.items }
     ensures begun { (config : List CatalogSettings)
         → slice_get provisioner.core.list 0 ≡ Some (Setup config)
         → IsListOf config result.desk.publisher.list }
-    ensures logged { IsLogged result.desk.publisher.list (K.held result.output)
-        (is_write_fault result.end) }
     ensures served { (config : List CatalogSettings) (listen : Peer) (before : Rows)
         → slice_get provisioner.core.list 0 ≡ Some (Setup config)
         → P.datagrams ports.old ≡ both_at listen before.datagrams
         → P.acceptors ports.old ≡ both_at listen before.acceptors
         → P.dialers ports.old ≡ both_made before.dialers
-        → HasRun (is_some disk.entry) result.end inputs.downstream
-        ((k : K) × HasRisen 0 (K.faults k)) (C.may_give clock.now)
+        → HasRunLogged (is_some disk.entry) result.end inputs.downstream
+        ((k : K) × HasRisen 0 (K.faults k)) (C.may_give clock.now) (K.held result.output)
         result.desk.publisher.list listen before
         (rows (P.datagrams ports.new) (P.acceptors ports.new) (P.dialers ports.new)) }
     ensures input { (result.end ≢ ServeEnd.BadInput) × (result.end ≢ ServeEnd.ReadFault) }
@@ -224,9 +228,9 @@ fn begin_over<
     let reading = &mut inputs.seats.transferring.first;
     match begin(rt, alloc, &mut provisioner, reading, disk) {
         Err(end) => {
-            let (seats, devices) = inputs.unused();
+            let (seats, devices, share) = inputs.unused();
             close_devices(ports, devices);
-            halted(end, provisioner, seats, readings)
+            halted(end, provisioner, seats, readings, share)
         }
         Ok(store) => serve_over(
             rt,
@@ -256,14 +260,16 @@ fn not_started<K>(unstarted: Unstarted<K>, readings: Vec<Reading>) -> Served<K>
     unserved(ServeEnd::NoMemory, output, desk)
 }
 
-/// The list has begun, and no worker was started.
+/// The list has begun, and no worker was started. The share is all of the ledger.
 fn halted<K: Sink, J: Naming>(
     end: ServeEnd,
     provisioner: Provisioner<K, J>,
     seats: Seats,
     readings: Vec<Reading>,
+    share: Share<J>,
 ) -> Served<K>
     requires write { is_write_fault end ≡ provisioner.failed }
+    requires share { share.parts ≡ J.parts }
     requires seated { AreSeated J.publisher seats.listening.first seats.listening.second
         seats.linking.first seats.linking.second
         seats.transferring.first seats.transferring.second }
@@ -274,20 +280,45 @@ fn halted<K: Sink, J: Naming>(
     ensures publisher { (result.desk.publisher.staged ≡ None)
         × (result.desk.publisher.book ≡ J.publisher) }
     ensures list { result.desk.publisher.list ≡ provisioner.core.list }
-    ensures logged { IsLogged result.desk.publisher.list (K.held result.output)
+    ensures logged { IsLogged result.desk.publisher.list share.amount (K.held result.output)
         (is_write_fault end) }
     ensures write { MatchBool (is_write_fault end) (HasRisen 0 (K.faults result.output))
         (K.faults result.output ≡ 0) }
 {
+    let parts = provisioner.close();
+    closed(end, parts, unseated(seats, readings), share)
+}
+
+/// What is left of a provisioner and of the readings. The share is all of the ledger, and so has counted each line of want
+/// of memory in the log.
+fn closed<K: Sink, J: Naming>(
+    end: ServeEnd,
+    parts: Parts<K, J>,
+    readings: Vec<Reading>,
+    share: Share<J>,
+) -> Served<K>
+    requires logged { IsLogged parts.publisher.list parts.starved.total (K.held parts.output)
+        (is_write_fault end) }
+    requires share { share.parts ≡ J.parts }
+    ensures end { result.end ≡ end }
+    ensures output { result.output ≡ parts.output }
+    ensures publisher { result.desk.publisher ≡ parts.publisher }
+    ensures readings { result.desk.readings ≡ readings }
+    ensures logged { IsLogged result.desk.publisher.list share.amount (K.held result.output)
+        (is_write_fault end) }
+{
+    let mut share = share;
     let Parts {
         fleet: _,
         publisher,
         output,
         log_failed: _,
-    } = provisioner.close();
+        mut starved,
+    } = parts;
+    starved.audit(&mut share);
     let desk = Desk {
         publisher,
-        readings: unseated(seats, readings),
+        readings,
     };
     Served { end, output, desk }
 }
@@ -315,7 +346,7 @@ fn serve_over<
     alloc: Global,
     provisioner: Provisioner<K, J>,
     store: Option<Store<D>>,
-    inputs: WorkerInputs<P::D, P::A, P::L, C>,
+    inputs: WorkerInputs<P::D, P::A, P::L, C, J>,
     readings: Vec<Reading>,
     ports: &mut P,
     clock: &C,
@@ -366,18 +397,20 @@ fn serve_over<
         ≡ C.may_stop clock.now }
     requires gives_one { C.may_give inputs.clocks.transferring.first ≡ C.may_give clock.now }
     requires gives_two { C.may_give inputs.clocks.transferring.second ≡ C.may_give clock.now }
+    requires share { (inputs.share.parts ≡ J.parts) × (inputs.share.parts ≡ 2)
+        × (inputs.share.amount ≡ 0) }
     ensures publisher { (result.desk.publisher.staged ≡ None)
         × (result.desk.publisher.book ≡ J.publisher) }
     ensures back { AreBack J.publisher result.desk.readings.items }
     ensures begins { IsPrefix provisioner.core.list result.desk.publisher.list }
     ensures legal { IsLegal result.desk.publisher.list }
-    ensures logged { IsLogged result.desk.publisher.list (K.held result.output)
-        (is_write_fault result.end) }
-    ensures served { 0 < length provisioner.core.list →
-        IsRun (is_none store) result.end inputs.downstream ((k : K) × HasRisen 0 (K.faults k))
-        (C.may_give clock.now) result.desk.publisher.list
+    ensures served { 0 < length provisioner.core.list → (lines : ℕ)
+        × IsRun (is_none store) result.end inputs.downstream ((k : K) × HasRisen 0 (K.faults k))
+        (C.may_give clock.now) lines result.desk.publisher.list
         (rows (P.datagrams ports.old) (P.acceptors ports.old) (P.dialers ports.old))
-        (rows (P.datagrams ports.new) (P.acceptors ports.new) (P.dialers ports.new)) }
+        (rows (P.datagrams ports.new) (P.acceptors ports.new) (P.dialers ports.new))
+        × IsLogged result.desk.publisher.list lines (K.held result.output)
+        (is_write_fault result.end) }
     ensures input { (result.end ≢ ServeEnd.BadInput) × (result.end ≢ ServeEnd.ReadFault) }
     ensures done { result.end ≡ ServeEnd.Done → C.may_stop clock.now ≡ true }
     ensures write { MatchBool (is_write_fault result.end) (HasRisen 0 (K.faults result.output))
@@ -396,33 +429,27 @@ fn serve_over<
     let ended = run_workers(rt, alloc, &Keeping::over(&shared, store.as_ref()), inputs);
     let parts = end_workers(rt, shared, &ended);
     let end = judge(parts.log_failed, &ended, must_dial);
-    let readings = give_back(ports, ended, readings);
-    let Parts {
-        fleet: _,
-        publisher,
-        output,
-        log_failed: _,
-    } = parts;
-    let desk = Desk {
-        publisher,
-        readings,
-    };
-    Served { end, output, desk }
+    let (readings, share) = give_back(ports, ended, readings);
+    closed(end, parts, readings, share)
 }
 
-/// Gives all devices of workers back, and puts their readings together.
-fn give_back<P: Ports, C: Drop>(
+/// Gives all devices of workers back, and puts their readings and their shares together.
+fn give_back<P: Ports, C: Drop, N: Ledger>(
     ports: &mut P,
-    ended: Workers<Listened<P::D, C>, Linked<P::A, C>, Transferred<P::L>>,
+    ended: Workers<Listened<P::D, C>, Linked<P::A, C>, Transferred<P::L, N>>,
     readings: Vec<Reading>,
-) -> Vec<Reading>
+) -> (Vec<Reading>, Share<N>)
     requires out { (2 ≤ (P.datagrams ports.old).out) × (2 ≤ (P.acceptors ports.old).out)
         × (2 ≤ (P.dialers ports.old).out) }
     requires empty { length readings.items ≡ 0 }
     requires room { 6 ≤ vec_capacity readings }
-    ensures readings { result.items ≡ ended.datagrams.first.reading
+    ensures readings { result.0.items ≡ ended.datagrams.first.reading
         ∷ ended.datagrams.second.reading ∷ ended.links.first.reading ∷ ended.links.second.reading
         ∷ ended.transfers.first.reading ∷ ended.transfers.second.reading ∷ [] }
+    ensures parts { result.1.parts
+        ≡ ended.transfers.first.share.parts + ended.transfers.second.share.parts }
+    ensures amount { result.1.amount
+        ≡ ended.transfers.first.share.amount + ended.transfers.second.share.amount }
     ensures datagrams { P.datagrams ports.new ≡ both_back
         (exchange (P.D.received (manually_drop_value ended.datagrams.first.device))
         (P.D.sent (manually_drop_value ended.datagrams.first.device))
@@ -452,9 +479,11 @@ fn give_back<P: Ports, C: Drop>(
         (P.L.faults (manually_drop_value ended.transfers.second.dialer)))
         (P.dialers ports.old) }
     ensures later { P.faults ports.old ≤ P.faults ports.new }
-    ensures datagram_one { HasRisen 0 (P.D.faults (manually_drop_value ended.datagrams.first.device))
+    ensures datagram_one { HasRisen 0
+        (P.D.faults (manually_drop_value ended.datagrams.first.device))
         → HasRisen (P.faults ports.old) (P.faults ports.new) }
-    ensures datagram_two { HasRisen 0 (P.D.faults (manually_drop_value ended.datagrams.second.device))
+    ensures datagram_two { HasRisen 0
+        (P.D.faults (manually_drop_value ended.datagrams.second.device))
         → HasRisen (P.faults ports.old) (P.faults ports.new) }
     ensures acceptor_one { HasRisen 0 (P.A.faults (manually_drop_value ended.links.first.acceptor))
         → HasRisen (P.faults ports.old) (P.faults ports.new) }
@@ -468,7 +497,7 @@ fn give_back<P: Ports, C: Drop>(
     } = ended;
     let (datagrams, listening) = part_listened(datagrams);
     let (acceptors, linking) = part_linked(links);
-    let (dialers, transferring) = part_transferred(transfers);
+    let (dialers, transferring, share) = part_transferred(transfers);
     close_datagrams(ports, datagrams);
     close_acceptors(ports, acceptors);
     close_dialers(ports, dialers);
@@ -477,7 +506,7 @@ fn give_back<P: Ports, C: Drop>(
         linking,
         transferring,
     };
-    unseated(seats, readings)
+    (unseated(seats, readings), share)
 }
 
 /// A seat for each worker, and what is left of the readings.
@@ -588,12 +617,16 @@ fn part_linked<A, C: Drop>(pair: Pair<Linked<A, C>>) -> (Pair<A>, Pair<Reading>)
     (acceptors, readings)
 }
 
-/// The same of transfer workers.
-fn part_transferred<L>(pair: Pair<Transferred<L>>) -> (Pair<L>, Pair<Reading>)
+/// The same of transfer workers, and their shares as one.
+fn part_transferred<L, N: Ledger>(
+    pair: Pair<Transferred<L, N>>,
+) -> (Pair<L>, Pair<Reading>, Share<N>)
     ensures first { result.0.first ≡ manually_drop_value pair.first.dialer }
     ensures second { result.0.second ≡ manually_drop_value pair.second.dialer }
     ensures readings { (result.1.first ≡ pair.first.reading)
         × (result.1.second ≡ pair.second.reading) }
+    ensures parts { result.2.parts ≡ pair.first.share.parts + pair.second.share.parts }
+    ensures amount { result.2.amount ≡ pair.first.share.amount + pair.second.share.amount }
 {
     let Pair { first, second } = pair;
     let dialers = Pair {
@@ -604,7 +637,9 @@ fn part_transferred<L>(pair: Pair<Transferred<L>>) -> (Pair<L>, Pair<Reading>)
         first: first.reading,
         second: second.reading,
     };
-    (dialers, readings)
+    let mut share = first.share;
+    share.merge(second.share);
+    (dialers, readings, share)
 }
 
 /// Gives all devices back.

@@ -10,6 +10,7 @@ use crate::transfer_worker::Transferred;
 use crate::udp_worker::Listened;
 use dz_query::{LinksEnd, SessionEnd};
 use dz_transfer::{TransferEnd, Transfers};
+use std::sync::ledger::Ledger;
 
 /// How serving ended.
 #[derive(Clone, Copy, Debug, PartialEq, Eq)]
@@ -31,9 +32,9 @@ pub enum ServeEnd {
 /// The end after these: a fault of the log comes before one of the devices, and that before a link that was starved of memory.
 /// Where none of them is there and no dial was made though one must be, there was no memory for it: a catalog of which nothing
 /// was kept is due at each moment until its first job.
-pub(crate) fn judge<D, A, L, C>(
+pub(crate) fn judge<D, A, L, C, N: Ledger>(
     log_failed: bool,
-    ended: &Workers<Listened<D, C>, Linked<A, C>, Transferred<L>>,
+    ended: &Workers<Listened<D, C>, Linked<A, C>, Transferred<L, N>>,
     must_dial: bool,
 ) -> ServeEnd
     ensures log { is_write_fault result ≡ log_failed }
@@ -96,7 +97,9 @@ pub(crate) fn judge<D, A, L, C>(
 }
 
 /// Whether each NOTIFY was heard. None goes unheard while no write to the log has failed, but no clause can say so.
-fn all_heard<D, A, L, C>(ended: &Workers<Listened<D, C>, Linked<A, C>, Transferred<L>>) -> bool
+fn all_heard<D, A, L, C, N: Ledger>(
+    ended: &Workers<Listened<D, C>, Linked<A, C>, Transferred<L, N>>,
+) -> bool
     ensures one { result ≡ true → unheard_in ended.now.datagrams.first.end ≡ false }
     ensures two { result ≡ true → unheard_in ended.now.datagrams.second.end ≡ false }
     ensures three { result ≡ true → unheard_at ended.now.links.first.end ≡ false }

@@ -10,6 +10,7 @@ use dz_config::Downstream;
 use dz_desk::{Ear, Reading};
 use dz_header::ReplyBuffer;
 use dz_io::{Acceptor, Clock};
+use dz_provision::Jobs;
 use dz_query::{LinksEnd, serve_links};
 use std::mem::ManuallyDrop;
 use std::sync::Wait;
@@ -66,14 +67,14 @@ impl<E: Ear, A: Acceptor, C: Clock> Work<E, Linked<A, C>> for Linking<A, C> {
 }
 
 /// Serves the acceptor's links to its end.
-pub(crate) fn link<E: Ear, A: Acceptor, C: Clock, R: Wait>(
+pub(crate) fn link<B: Jobs, A: Acceptor, C: Clock, R: Wait>(
     rt: &R,
-    ear: &E,
+    jobs: &B,
     work: Linking<A, C>,
 ) -> Linked<A, C>
-    requires seated { IsSeated E.publisher work.reading }
+    requires seated { IsSeated B.publisher work.reading }
     requires none { A.out (manually_drop_value work.acceptor) ≡ None }
-    ensures { ShowsLinking A.Acceptor C.Clock E.may_fail work.downstream
+    ensures { ShowsLinking A.Acceptor C.Clock B.may_fail work.downstream
         (manually_drop_value work.acceptor) work.reading work.clock result }
 {
     let Linking {
@@ -86,7 +87,7 @@ pub(crate) fn link<E: Ear, A: Acceptor, C: Clock, R: Wait>(
     let mut acceptor = ManuallyDrop::into_inner(acceptor);
     let end = serve_links(
         rt,
-        ear,
+        jobs,
         &mut reading,
         &mut acceptor,
         &mut clock,

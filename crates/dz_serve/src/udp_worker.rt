@@ -9,6 +9,7 @@ use crate::together::{Work, held};
 use dz_desk::{Ear, Reading};
 use dz_header::ReplyBuffer;
 use dz_io::{Clock, Datagrams};
+use dz_provision::Jobs;
 use dz_query::{SessionEnd, serve_datagrams};
 use std::mem::ManuallyDrop;
 use std::sync::Wait;
@@ -57,13 +58,13 @@ impl<E: Ear, D: Datagrams, C: Clock> Work<E, Listened<D, C>> for Listening<D, C>
 }
 
 /// Serves the device to its end.
-pub(crate) fn listen<E: Ear, D: Datagrams, C: Clock, R: Wait>(
+pub(crate) fn listen<B: Jobs, D: Datagrams, C: Clock, R: Wait>(
     rt: &R,
-    ear: &E,
+    jobs: &B,
     work: Listening<D, C>,
 ) -> Listened<D, C>
-    requires { IsSeated E.publisher work.reading }
-    ensures { ShowsListening D.Datagrams C.Clock E.may_fail
+    requires { IsSeated B.publisher work.reading }
+    ensures { ShowsListening D.Datagrams C.Clock B.may_fail
         (manually_drop_value work.device) work.reading work.clock result }
 {
     let Listening {
@@ -73,7 +74,7 @@ pub(crate) fn listen<E: Ear, D: Datagrams, C: Clock, R: Wait>(
         mut buffer,
     } = work;
     let mut device = ManuallyDrop::into_inner(device);
-    let end = serve_datagrams(rt, ear, &mut reading, &mut device, &mut clock, &mut buffer);
+    let end = serve_datagrams(rt, jobs, &mut reading, &mut device, &mut clock, &mut buffer);
     Listened {
         reading,
         device: held(device),

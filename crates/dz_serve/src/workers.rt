@@ -1,12 +1,13 @@
 //! All workers, over one lock.
 
-ghost use Rattle.std.specs.Prelude.{◌≡◌, None, MatchBool};
+ghost use Rattle.std.specs.Prelude.{◌≡◌, ◌<◌, None, MatchBool};
 ghost use Rattle.std.specs.Mem.{manually_drop_value};
 ghost use mathlib.Core.List.{IsPrefix};
 ghost use Rattle.dz_io.specs.Counts.{HasRisen};
 ghost use Rattle.dz_history.specs.Legal.{IsLegal};
 ghost use Rattle.dz_provision.specs.Log.{IsLogged};
-ghost use Rattle.dz_serve.specs.Workers.{AreSeated, IsMadeOf, IsSeated, ShowsListening, ShowsLinking, ShowsTransferring};
+ghost use Rattle.dz_serve.specs.Workers.{AreSeated, IsMadeOf, IsSeated, ShowsListening, ShowsLinking};
+ghost use Rattle.dz_serve.specs.Workers.{ShowsTransferring};
 
 use crate::clocks::{ClockAndBuffer, ClocksAndBuffers};
 use crate::devices::Devices;
@@ -21,6 +22,7 @@ use dz_io::{Acceptor, Clock, Datagrams, Dialer, Sink};
 use dz_provision::{Jobs, Naming, Parts, Provisioner, Shared};
 use std::alloc::Global;
 use std::sync::Wait;
+use std::sync::ledger::{Ledger, Share};
 use std::thread::Threads;
 
 /// A reading for each worker.
@@ -32,49 +34,55 @@ pub(crate) struct Seats {
 }
 
 /// What all workers are given: a reading, a device and a clock each, and a buffer to each that answers. Link workers send
-/// zones to the addresses of `downstream`.
-pub(crate) struct WorkerInputs<D, A, L, C> {
+/// zones to the addresses of `downstream`. The share of the ledger is for the transfer workers.
+pub(crate) struct WorkerInputs<D, A, L, C, N: Ledger> {
     pub seats: Seats,
     pub devices: Devices<D, A, L>,
     pub clocks: ClocksAndBuffers<C>,
     pub downstream: Downstream,
+    pub share: Share<N>,
 }
 
-impl<D, A, L, C> WorkerInputs<D, A, L, C> {
+impl<D, A, L, C, N: Ledger> WorkerInputs<D, A, L, C, N> {
     /// The inputs of these parts.
     pub fn new(
         seats: Seats,
         devices: Devices<D, A, L>,
         clocks: ClocksAndBuffers<C>,
         downstream: Downstream,
-    ) -> WorkerInputs<D, A, L, C>
+        share: Share<N>,
+    ) -> WorkerInputs<D, A, L, C, N>
         ensures seats { result.seats ≡ seats }
         ensures devices { result.devices ≡ devices }
         ensures clocks { result.clocks ≡ clocks }
         ensures downstream { result.downstream ≡ downstream }
+        ensures share { result.share ≡ share }
     {
         WorkerInputs {
             seats,
             devices,
             clocks,
             downstream,
+            share,
         }
     }
 }
 
-impl<D, A, L, C: Drop> WorkerInputs<D, A, L, C> {
-    /// The seats and the devices, where no worker was started.
-    pub fn unused(self) -> (Seats, Devices<D, A, L>)
+impl<D, A, L, C: Drop, N: Ledger> WorkerInputs<D, A, L, C, N> {
+    /// The seats, the devices and the share, where no worker was started.
+    pub fn unused(self) -> (Seats, Devices<D, A, L>, Share<N>)
         ensures seats { result.0 ≡ self.seats }
         ensures devices { result.1 ≡ self.devices }
+        ensures share { result.2 ≡ self.share }
     {
         let WorkerInputs {
             seats,
             devices,
             clocks: _,
             downstream: _,
+            share,
         } = self;
-        (seats, devices)
+        (seats, devices, share)
     }
 }
 
@@ -133,10 +141,11 @@ pub(crate) fn run_workers<
     rt: &R,
     alloc: Global,
     jobs: &B,
-    inputs: WorkerInputs<D, A, L, C>,
-) -> Workers<Listened<D, C>, Linked<A, C>, Transferred<L>>
+    inputs: WorkerInputs<D, A, L, C, B::Counted>,
+) -> Workers<Listened<D, C>, Linked<A, C>, Transferred<L, B::Counted>>
 where
     B::Witness: Send,
+    B::Counted: Send,
     A::L: Send,
     L::L: Send,
     requires listening_one { IsSeated B.publisher inputs.seats.listening.first }
@@ -149,6 +158,7 @@ where
     requires acceptor_two { A.out inputs.devices.acceptors.second ≡ None }
     requires dialer_one { L.out inputs.devices.dialers.first ≡ None }
     requires dialer_two { L.out inputs.devices.dialers.second ≡ None }
+    requires share { (inputs.share.parts ≡ 2) × (inputs.share.amount ≡ 0) }
     ensures listening_one { ShowsListening D.Datagrams C.Clock B.may_fail
         inputs.devices.datagrams.first inputs.seats.listening.first
         inputs.clocks.listening.first.clock result.datagrams.first }
@@ -163,10 +173,10 @@ where
         inputs.clocks.linking.second.clock result.links.second }
     ensures transferring_one { ShowsTransferring L.Dialer C.Clock
         inputs.devices.dialers.first inputs.seats.transferring.first
-        inputs.clocks.transferring.first result.transfers.first }
+        inputs.clocks.transferring.first 1 result.transfers.first }
     ensures transferring_two { ShowsTransferring L.Dialer C.Clock
         inputs.devices.dialers.second inputs.seats.transferring.second
-        inputs.clocks.transferring.second result.transfers.second }
+        inputs.clocks.transferring.second 1 result.transfers.second }
 {
     let works = works_of(inputs);
     run_together::<B, _, _, _, _, _, _, _, _, _, _>(
@@ -177,17 +187,19 @@ where
             requires seated { IsSeated B.publisher work.reading }
             requires none { A.out (manually_drop_value work.acceptor) ≡ None }
         { link(rt, jobs, work) },
-        &|work: Transferring<L, C>| -> Transferred<L>
+        &|work: Transferring<L, C, B::Counted>| -> Transferred<L, B::Counted>
             requires seated { IsSeated B.publisher work.reading }
             requires none { L.out (manually_drop_value work.dialer) ≡ None }
+            requires share { (work.share.amount ≡ 0) × (0 < work.share.parts) }
         { transfer(rt, alloc, jobs, work) },
     )
 }
 
 /// What each worker works with.
-fn works_of<D, A, L, C>(
-    inputs: WorkerInputs<D, A, L, C>,
-) -> Workers<Listening<D, C>, Linking<A, C>, Transferring<L, C>>
+fn works_of<D, A, L, C, N: Ledger>(
+    inputs: WorkerInputs<D, A, L, C, N>,
+) -> Workers<Listening<D, C>, Linking<A, C>, Transferring<L, C, N>>
+    requires share { (inputs.share.parts ≡ 2) × (inputs.share.amount ≡ 0) }
     ensures listening_one { IsMadeOf inputs.seats.listening.first inputs.devices.datagrams.first
         inputs.clocks.listening.first.clock result.datagrams.first.reading
         (manually_drop_value result.datagrams.first.device) result.datagrams.first.clock }
@@ -205,15 +217,21 @@ fn works_of<D, A, L, C>(
     ensures transferring_one { IsMadeOf inputs.seats.transferring.first inputs.devices.dialers.first
         inputs.clocks.transferring.first result.transfers.first.reading
         (manually_drop_value result.transfers.first.dialer) result.transfers.first.clock }
-    ensures transferring_two { IsMadeOf inputs.seats.transferring.second inputs.devices.dialers.second
+    ensures transferring_two { IsMadeOf inputs.seats.transferring.second
+        inputs.devices.dialers.second
         inputs.clocks.transferring.second result.transfers.second.reading
         (manually_drop_value result.transfers.second.dialer) result.transfers.second.clock }
+    ensures share_one { (result.transfers.first.share.parts ≡ 1)
+        × (result.transfers.first.share.amount ≡ 0) }
+    ensures share_two { (result.transfers.second.share.parts ≡ 1)
+        × (result.transfers.second.share.amount ≡ 0) }
 {
     let WorkerInputs {
         seats,
         devices,
         clocks,
         downstream,
+        share,
     } = inputs;
     let Devices {
         datagrams,
@@ -223,7 +241,7 @@ fn works_of<D, A, L, C>(
     Workers {
         datagrams: seat_listeners(seats.listening, datagrams, clocks.listening),
         links: seat_linkers(seats.linking, acceptors, clocks.linking, downstream),
-        transfers: seat_transferrers(seats.transferring, dialers, clocks.transferring),
+        transfers: seat_transferrers(seats.transferring, dialers, clocks.transferring, share),
     }
 }
 
@@ -266,21 +284,27 @@ fn seat_linkers<A, C>(
     }
 }
 
-/// Two transfer workers, each with a reading, a dialer and a clock of its own.
-fn seat_transferrers<L, C>(
+/// Two transfer workers, each with a reading, a dialer, a clock and one part of the ledger of its own.
+fn seat_transferrers<L, C, N: Ledger>(
     seats: Pair<Reading>,
     dialers: Pair<L>,
     clocks: Pair<C>,
-) -> Pair<Transferring<L, C>>
+    share: Share<N>,
+) -> Pair<Transferring<L, C, N>>
+    requires share { (share.parts ≡ 2) × (share.amount ≡ 0) }
     ensures first { IsMadeOf seats.first dialers.first clocks.first
         result.first.reading (manually_drop_value result.first.dialer) result.first.clock }
+    ensures first_share { (result.first.share.parts ≡ 1) × (result.first.share.amount ≡ 0) }
     ensures second { IsMadeOf seats.second dialers.second clocks.second
         result.second.reading (manually_drop_value result.second.dialer) result.second.clock }
+    ensures second_share { (result.second.share.parts ≡ 1) × (result.second.share.amount ≡ 0) }
 {
     let Pair { first, second } = dialers;
+    let mut rest = share;
+    let part = rest.split_off(1, 0);
     Pair {
-        first: Transferring::new(seats.first, first, clocks.first),
-        second: Transferring::new(seats.second, second, clocks.second),
+        first: Transferring::new(seats.first, first, clocks.first, part),
+        second: Transferring::new(seats.second, second, clocks.second, rest),
     }
 }
 
@@ -288,8 +312,8 @@ fn seat_transferrers<L, C>(
 pub(crate) fn end_workers<K: Sink, J: Naming, D, A, L, C, R: Wait>(
     rt: &R,
     shared: Shared<K, J>,
-    ended: &Workers<Listened<D, C>, Linked<A, C>, Transferred<L>>,
-) -> Parts<K>
+    ended: &Workers<Listened<D, C>, Linked<A, C>, Transferred<L, J>>,
+) -> Parts<K, J>
     requires listening_one { ended.now.datagrams.first.reading.book ≡ J.publisher }
     requires listening_two { ended.now.datagrams.second.reading.book ≡ J.publisher }
     requires linking_one { ended.now.links.first.reading.book ≡ J.publisher }
@@ -298,7 +322,8 @@ pub(crate) fn end_workers<K: Sink, J: Naming, D, A, L, C, R: Wait>(
     requires transferring_two { ended.now.transfers.second.reading.book ≡ J.publisher }
     ensures publisher { (result.publisher.staged ≡ None) × (result.publisher.book ≡ J.publisher) }
     ensures legal { IsLegal result.publisher.list }
-    ensures logged { IsLogged result.publisher.list (K.held result.output) result.log_failed }
+    ensures logged { IsLogged result.publisher.list result.starved.total (K.held result.output)
+        result.log_failed }
     ensures cause { MatchBool result.log_failed (HasRisen 0 (K.faults result.output))
         (K.faults result.output ≡ 0) }
     ensures listening_one { IsPrefix ended.now.datagrams.first.reading.list result.publisher.list }

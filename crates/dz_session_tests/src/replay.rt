@@ -11,6 +11,7 @@ use std::alloc::{AllocError, Global};
 use std::marker::Brand;
 use std::process::Abort;
 use std::sync::Wait;
+use std::sync::ledger::Blank;
 use std::test::*;
 
 /// A catalog lists `example.`, whose version 5 is held; its TTL and another address then come by differences.
@@ -253,7 +254,13 @@ fn a_reading_that_was_told_nothing_answers_by_what_replay_published(
         reading,
         output,
     };
-    let Played { status: _, ends } = replay::<_, _, _, Brand>(&rt, alloc, &mut source, ends);
+    let Played { status: _, ends } = replay::<_, _, _, Brand>(
+        &rt,
+        alloc,
+        &mut source,
+        ends,
+        Blank::new(1),
+    );
     let turn = answer_one(&mut other, QUERY, 1100, Transport::Udp, &mut buffer);
     let Ends {
         publisher,

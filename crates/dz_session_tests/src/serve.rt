@@ -15,6 +15,7 @@ use std::alloc::{AllocError, Global};
 use std::marker::Brand;
 use std::process::Abort;
 use std::sync::Wait;
+use std::sync::ledger::Blank;
 use std::test::*;
 use std::thread::Threads;
 
@@ -63,7 +64,15 @@ fn play<K: Sink + Send, P: Ports, C: Clock + Send + Drop, R: Abort + Threads + W
         output,
         desk,
     } = serve_input::<MemorySource, K, Brand, P, C, MemoryDisk, R>(
-        rt, alloc, &mut input, output, desk, ports, clock, none,
+        rt,
+        alloc,
+        &mut input,
+        output,
+        desk,
+        ports,
+        clock,
+        none,
+        Blank::new(2),
     );
     end(rt, desk);
     (how, output)

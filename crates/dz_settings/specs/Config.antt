@@ -33,7 +33,8 @@ is_group group = is_word group.word && are_primaries group.primaries
 
 -- a catalog has primaries within these limits, and at most 64 groups
 abbrev pub is_catalog : CatalogSettings → Bool
-is_catalog catalog = are_primaries catalog.primaries && (nat_le (length catalog.groups) 64 && list_all is_group catalog.groups)
+is_catalog catalog =
+    are_primaries catalog.primaries && (nat_le (length catalog.groups) 64 && list_all is_group catalog.groups)
 
 -- there are 1 to 8 catalogs, each within its limits
 abbrev pub is_within_limits : List CatalogSettings → Bool

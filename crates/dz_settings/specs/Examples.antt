@@ -1,6 +1,7 @@
 -- Judge: the numbers of configurations.
 use Rattle.std.specs.Prelude.{◌≡◌, refl}
-use Rattle.dz_settings.specs.declared.limits.TheConstants.{CATALOGS, CATALOG_GROUPS, PRIMARIES, WORD_OCTETS, SECRET_OCTETS}
+use Rattle.dz_settings.specs.declared.limits.TheConstants.{CATALOGS, CATALOG_GROUPS, PRIMARIES, WORD_OCTETS}
+use Rattle.dz_settings.specs.declared.limits.TheConstants.{SECRET_OCTETS}
 use Rattle.dz_settings.specs.declared.peer.TheConstants.{DNS_PORT}
 
 -- ---- the limits of configurations, so that none can change, and the port of the DNS (RFC 1035 section 4.2)

@@ -1,5 +1,6 @@
 -- Meaning: the texts of peers, policies and words.
-use Rattle.std.specs.Prelude.{ℕ, ◌+◌, ◌==◌, nat_le, [], ◌∷◌, take, drop, position, codes, Option, Some, None, option_map, if◌then◌else◌}
+use Rattle.std.specs.Prelude.{ℕ, ◌+◌, ◌==◌, nat_le, [], ◌∷◌, take, drop, position, codes, Option, Some, None}
+use Rattle.std.specs.Prelude.{option_map, if◌then◌else◌}
 use Rattle.std.specs.Option.{option_and_then, option_map_or}
 use Rattle.std.specs.Str.{bytes_eq}
 use Rattle.dz_io.specs.declared.peer.Peer.{Peer}
@@ -26,7 +27,8 @@ numbers_of a b c d = four (number_of 255 a) (number_of 255 b) (number_of 255 c) 
 -- an IPv4 address: four numbers up to 255 with dots between them
 abbrev pub address_of : Octets → Option Octets
 address_of text =
-    option_and_then (λ p. option_and_then (λ q. option_and_then (λ r. numbers_of p.0 q.0 r.0 r.1) (cut 46 q.1)) (cut 46 p.1)) (cut 46 text)
+    option_and_then (λ p. option_and_then (λ q. option_and_then (λ r. numbers_of p.0 q.0 r.0 r.1) (cut 46 q.1))
+    (cut 46 p.1)) (cut 46 text)
 
 -- a port: a number from 1 to 65535
 abbrev pub port_of : Octets → Option ℕ

@@ -4,7 +4,9 @@ ghost use Rattle.std.specs.Prelude.{◌≡◌, nat_le};
 ghost use Rattle.std.specs.List.{list_all, list_any};
 ghost use Rattle.std.specs.Str.{bytes_eq};
 ghost use Rattle.dz_name.specs.Name.{same_name};
-ghost use Rattle.dz_settings.specs.Config.{same_word, same_catalog, is_count, is_visible, is_word, are_primaries, is_group, is_catalog, is_within_limits, has_words_once, has_each_once, has_secret, has_secrets, is_allowed};
+ghost use Rattle.dz_settings.specs.Config.{same_word, same_catalog, is_count, is_visible, is_word, are_primaries};
+ghost use Rattle.dz_settings.specs.Config.{is_group, is_catalog, is_within_limits, has_words_once, has_each_once};
+ghost use Rattle.dz_settings.specs.Config.{has_secret, has_secrets, is_allowed};
 ghost use Rattle.dz_settings.specs.Twice.{has_twice};
 
 use crate::config::{CatalogSettings, Config, GroupSettings, Peers};

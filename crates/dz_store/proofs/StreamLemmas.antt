@@ -1,5 +1,7 @@
 -- The messages of a stream are read one by one.
-use Rattle.std.proofs.Common.{◌≡◌, ℕ, suc, true, false, length-drop, get_or, subst, ◌+◌, ◌-◌, ◌<◌, ◌≤◌, List, [], ◌∷◌, ◌++◌, length, take, drop, refl, sym, ◌∙◌, ap, append_assoc, take_at, arith, length-append, Option, None, Some, IsSome, inl, inr}
+use Rattle.std.proofs.Common.{◌≡◌, ℕ, suc, true, false, length-drop, get_or, subst, ◌+◌, ◌-◌, ◌<◌, ◌≤◌, List, [], ◌∷◌}
+use Rattle.std.proofs.Common.{◌++◌, length, take, drop, refl, sym, ◌∙◌, ap, append_assoc, take_at, arith}
+use Rattle.std.proofs.Common.{length-append, Option, None, Some, IsSome, inl, inr}
 use Rattle.std.specs.Prelude.{option_map}
 use Rattle.std.specs.List.{All}
 use Rattle.std.proofs.lemmas.List.{append-nil, take-append-drop, length-take-le, get_or_default}
@@ -19,9 +21,11 @@ use Rattle.dz_store.specs.inner.Reading.{IsFront, HasRead}
 
 -- ---- a frame
 frame_length : (message : Octets) → length (frame message) ≡ 2 + length message
-frame_length message = length-append (two (length message)) message ∙ ap (λ n. n + length message) (length_two (length message))
+frame_length message = length-append (two (length message)) message
+    ∙ ap (λ n. n + length message) (length_two (length message))
 
-begins_at : (octets : List ℕ) (at begin end : ℕ) (size : Option ℕ) → option_map {U = ℕ × ℕ} (λ size. (at + 2, at + 2 + size)) size ≡ Some (begin, end) → begin ≡ at + 2
+begins_at : (octets : List ℕ) (at begin end : ℕ) (size : Option ℕ)
+    → option_map {U = ℕ × ℕ} (λ size. (at + 2, at + 2 + size)) size ≡ Some (begin, end) → begin ≡ at + 2
 begins_at octets at begin end None is = absurd (cc)
 begins_at octets at begin end (Some size) is =
     let same : ◌≡◌ {A = ℕ × ℕ} (begin, end) (at + 2, at + 2 + size) = cc in
@@ -41,18 +45,24 @@ pub record IsFrameAt (octets : List ℕ) (at begin end : ℕ) : Type 0 where
   pub short : length (take (end - begin) (drop begin octets)) ≤ 65535
   pub further : at < end
 
-pub frame_is : (octets : List ℕ) (at begin end : ℕ) → All (λ octet. octet < 256) octets → at ≤ length octets → frame_at octets at ≡ Some (begin, end) → IsWithin octets (begin, end) → IsFirst octets at (Some (begin, end)) → IsFrameAt octets at begin end
+pub frame_is : (octets : List ℕ) (at begin end : ℕ) → All (λ octet. octet < 256) octets → at ≤ length octets
+    → frame_at octets at ≡ Some (begin, end) → IsWithin octets (begin, end) → IsFirst octets at (Some (begin, end))
+    → IsFrameAt octets at begin end
 frame_is octets at begin end below inside place within first =
     let message = take (end - begin) (drop begin octets) in
     let cut = is_cut (drop at octets) (All-drop (λ octet. octet < 256) at octets below) in
     let rest = stream (messages_in (drop end octets)) ++ cut.part in
-    let split : drop at octets ≡ frame message ++ rest = cut.are ∙ ap (λ ms. stream ms ++ cut.part) first ∙ append_assoc (frame message) (stream (messages_in (drop end octets))) cut.part in
-    let whole : octets ≡ (take at octets ++ frame message) ++ rest = sym (take-append-drop at octets) ∙ ap (λ o. take at octets ++ o) split ∙ sym (append_assoc (take at octets) (frame message) rest) in
+    let split : drop at octets ≡ frame message ++ rest = cut.are ∙ ap (λ ms. stream ms ++ cut.part) first
+    ∙ append_assoc (frame message) (stream (messages_in (drop end octets))) cut.part in
+    let whole : octets ≡ (take at octets ++ frame message) ++ rest = sym (take-append-drop at octets)
+    ∙ ap (λ o. take at octets ++ o) split ∙ sym (append_assoc (take at octets) (frame message) rest) in
     let begun = frame_begins octets at begin end place in
     let here : length (drop begin octets) ≡ length octets - begin = length-drop begin octets in
-    let long : length message ≡ end - begin = length-take-le (end - begin) (drop begin octets) (omega (arith, here, within.0, within.1)) in
+    let long : length message ≡ end - begin =
+    length-take-le (end - begin) (drop begin octets) (omega (arith, here, within.0, within.1)) in
     let front : length (take at octets) ≡ at = length-take-le at octets inside in
-    let size : length (take at octets ++ frame message) ≡ end = omega (arith, length-append (take at octets) (frame message), frame_length message, front, long, begun, within.0) in
+    let size : length (take at octets ++ frame message) ≡ end = omega
+    (arith, length-append (take at octets) (frame message), frame_length message, front, long, begun, within.0) in
     record {
       joined = sym (ap (take end) whole ∙ take_at (take at octets ++ frame message) rest end size);
       short = (rw first at cut.short).0;
@@ -60,42 +70,53 @@ frame_is octets at begin end below inside place within first =
     }
 
 -- ---- a step
-pub front_more : (octets read new : List ℕ) (at begin end : ℕ) → IsFront octets read at → IsFrameAt octets at begin end → IsWithin octets (begin, end) → IsFirst octets at (Some (begin, end))
-    → new ≡ read ++ frame (take (end - begin) (drop begin octets)) → messages_in new ≡ messages_in read ++ take (end - begin) (drop begin octets) ∷ [] → IsFront octets new end
+pub front_more : (octets read new : List ℕ) (at begin end : ℕ) → IsFront octets read at → IsFrameAt octets at begin end
+    → IsWithin octets (begin, end) → IsFirst octets at (Some (begin, end))
+    → new ≡ read ++ frame (take (end - begin) (drop begin octets))
+    → messages_in new ≡ messages_in read ++ take (end - begin) (drop begin octets) ∷ [] → IsFront octets new end
 front_more octets read new at begin end front here within first is messages =
     let message = take (end - begin) (drop begin octets) in
     record {
       within = within.1;
       are = is ∙ ap (λ o. o ++ frame message) front.are ∙ here.joined;
       messages = front.messages ∙ ap (λ ms. messages_in read ++ ms) first
-          ∙ sym (append_assoc (messages_in read) (message ∷ []) (messages_in (drop end octets))) ∙ ap (λ ms. ms ++ messages_in (drop end octets)) (sym messages);
+          ∙ sym (append_assoc (messages_in read) (message ∷ []) (messages_in (drop end octets)))
+          ∙ ap (λ ms. ms ++ messages_in (drop end octets)) (sym messages);
     }
 
 -- ---- the end
 -- what was read decides as all the octets
-decided_is : (transfer : Transfer) (octets read : Octets) (place : ℕ) (decision : Decision) → IsFront octets read place → decided transfer (messages_in read) ≡ Some decision → outcome transfer read ≡ outcome transfer octets
+decided_is : (transfer : Transfer) (octets read : Octets) (place : ℕ) (decision : Decision) → IsFront octets read place
+    → decided transfer (messages_in read) ≡ Some decision → outcome transfer read ≡ outcome transfer octets
 decided_is transfer octets read place decision front is =
     let more = messages_in (drop place octets) in
     let whole : decided transfer (messages_in octets) ≡ Some decision =
-    ap (decided transfer) front.messages ∙ decided_more transfer [] (messages_in read) more ∙ ap (λ d. or_else d (decided_from transfer (messages_in read) more)) is in
+    ap (decided transfer) front.messages ∙ decided_more transfer [] (messages_in read) more
+    ∙ ap (λ d. or_else d (decided_from transfer (messages_in read) more)) is in
     ap or_incomplete (is ∙ sym whole)
 
-undecided_is : (transfer : Transfer) (octets read : Octets) (place : ℕ) → IsFront octets read place → messages_in (drop place octets) ≡ [] → outcome transfer read ≡ outcome transfer octets
+undecided_is : (transfer : Transfer) (octets read : Octets) (place : ℕ) → IsFront octets read place
+    → messages_in (drop place octets) ≡ [] → outcome transfer read ≡ outcome transfer octets
 undecided_is transfer octets read place front none =
-    let same : messages_in octets ≡ messages_in read = front.messages ∙ ap (λ ms. messages_in read ++ ms) none ∙ append-nil (messages_in read) in
+    let same : messages_in octets ≡ messages_in read =
+    front.messages ∙ ap (λ ms. messages_in read ++ ms) none ∙ append-nil (messages_in read) in
     ap (λ ms. or_incomplete (decided transfer ms)) (sym same)
 
-pub read_is : (transfer : Transfer) (octets read : Octets) → HasRead transfer octets read → outcome transfer read ≡ outcome transfer octets
+pub read_is : (transfer : Transfer) (octets read : Octets) → HasRead transfer octets read
+    → outcome transfer read ≡ outcome transfer octets
 read_is transfer octets read h = elim h.ended [
   | inl none ↦ undecided_is transfer octets read h.place h.front none
-  | inr some ↦ elim (decided transfer (messages_in read)) as (λ d. decided transfer (messages_in read) ≡ d → outcome transfer read ≡ outcome transfer octets) [
-    | Some decision ↦ λ is. decided_is transfer octets read h.place decision h.front is
-    | None ↦ λ is. absurd (let e : false ≡ true = rw is at some in cc)
-  ] refl
+  | inr some ↦ elim (decided transfer (messages_in read)) as (λ d. decided transfer (messages_in read) ≡ d
+      → outcome transfer read ≡ outcome transfer octets) [
+        | Some decision ↦ λ is. decided_is transfer octets read h.place decision h.front is
+        | None ↦ λ is. absurd (let e : false ≡ true = rw is at some in cc)
+      ] refl
 ]
 
 -- the version that came of what was read is that of all the octets
-pub version_from : (zone : Name) (octets read : Octets) (transfer : Transfer) (decision : Decision) → transfer ≡ transfer_of zone → HasRead transfer octets read → decision ≡ outcome transfer read → new_version decision ≡ version_in zone octets
+pub version_from : (zone : Name) (octets read : Octets) (transfer : Transfer) (decision : Decision)
+    → transfer ≡ transfer_of zone → HasRead transfer octets read → decision ≡ outcome transfer read
+    → new_version decision ≡ version_in zone octets
 unfolding version_in
 version_from zone octets read transfer decision is h came =
     ap new_version (came ∙ read_is transfer octets read h) ∙ ap (λ t. new_version (outcome t octets)) is

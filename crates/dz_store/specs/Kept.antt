@@ -20,7 +20,13 @@ pub record KeptZone : Type 0 where
 
 -- a kept zone, without where its version is in memory
 abbrev pub meaning_of : Kept → KeptZone
-meaning_of k = record { zone = k.zone; catalog = k.catalog; label = k.label; refreshed = k.refreshed; version = arc_value k.version }
+meaning_of k = record {
+  zone = k.zone;
+  catalog = k.catalog;
+  label = k.label;
+  refreshed = k.refreshed;
+  version = arc_value k.version;
+}
 
 -- a number in eight octets, the most significant first
 unfoldable pub eight : ℕ → Octets

@@ -1,5 +1,7 @@
 -- Meaning: what a payload says of a zone: it is read strictly, as just what is written of a kept or a forgotten one.
-use Rattle.std.specs.Prelude.{ℕ, ◌+◌, ◌^◌, Bool, ◌==◌, ◌&&◌, ◌||◌, nat_le, nat_lt, is_some, [], ◌∷◌, length, take, drop, slice_index, Option, Some, None, Ok, Err, option_map, option_and_then, if◌then◌else◌}
+use Rattle.std.specs.Prelude.{ℕ, ◌+◌, ◌^◌, Bool, ◌==◌, ◌&&◌, ◌||◌, nat_le, nat_lt, is_some, [], ◌∷◌, length, take}
+use Rattle.std.specs.Prelude.{drop, slice_index, Option, Some, None, Ok, Err, option_map, option_and_then}
+use Rattle.std.specs.Prelude.{if◌then◌else◌}
 use Rattle.std.specs.Str.{bytes_eq}
 use Rattle.dz_name.specs.Words.{Name, Octets}
 use Rattle.dz_name.specs.Label.{label_of}
@@ -70,7 +72,13 @@ version_in zone octets = new_version (outcome (transfer_of zone) octets)
 
 -- a kept zone, of its head and its version
 abbrev pub kept_with : Head → Zone → KeptZone
-kept_with head version = record { zone = head.zone; catalog = head.catalog; label = head.label; refreshed = head.refreshed; version = version }
+kept_with head version = record {
+  zone = head.zone;
+  catalog = head.catalog;
+  label = head.label;
+  refreshed = head.refreshed;
+  version = version;
+}
 
 -- just this is written of the kept zone
 unfoldable pub is_written_of : KeptZone → Octets → Bool

@@ -1,5 +1,6 @@
 -- Meaning: which record of a list counts for a zone.
-use Rattle.std.specs.Prelude.{◌≡◌, ◌⊎◌, ℕ, Bool, true, false, is_some, if◌then◌else◌, List, Option, Some, None, option_and_then}
+use Rattle.std.specs.Prelude.{◌≡◌, ◌⊎◌, ℕ, Bool, true, false, is_some, if◌then◌else◌, List, Option, Some, None}
+use Rattle.std.specs.Prelude.{option_and_then}
 use Rattle.std.specs.List.{fold}
 use Rattle.std.specs.Option.{option_map_or}
 use Rattle.dz_name.specs.Words.{Name, Octets}
@@ -42,7 +43,8 @@ store_of log = record { disk = log.disk; end = log.end; has_failed = log.has_fai
 
 -- a call of the disk failed, in this call or in an earlier one
 abbrev pub HasFailed : {D : Type 0} → (D → ℕ) → StoreOf D → StoreOf D → Type 0
-HasFailed faults old new = (new.has_failed ≡ true) × ((old.has_failed ≡ true) ⊎ HasRisen (faults old.disk) (faults new.disk))
+HasFailed faults old new =
+    (new.has_failed ≡ true) × ((old.has_failed ≡ true) ⊎ HasRisen (faults old.disk) (faults new.disk))
 
 -- each zone that one list keeps another one keeps, and no other
 abbrev pub KeepsSame : List Octets → List Octets → Type 0

@@ -2,7 +2,8 @@
 
 ghost use Rattle.std.specs.Prelude.{◌≡◌, ◌≤◌, true, length, option_map};
 ghost use Rattle.dz_store.specs.Kept.{number_of_eight};
-ghost use Rattle.dz_store.specs.Payload.{after_names, first_name, forgotten_of, head_of, names_of, reads, whole_name, zone_of};
+ghost use Rattle.dz_store.specs.Payload.{after_names, first_name, forgotten_of, head_of, names_of, reads, whole_name};
+ghost use Rattle.dz_store.specs.Payload.{zone_of};
 ghost use Rattle.dz_store.specs.Store.{is_kept};
 
 use dz_name::{Label, Name};

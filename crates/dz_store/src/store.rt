@@ -1,6 +1,7 @@
 //! Zones kept on a disk.
 
-ghost use Rattle.std.specs.Prelude.{◌≡◌, ◌⊎◌, ◌+◌, ◌<◌, ◌≤◌, ◌^◌, [], ◌∷◌, ◌++◌, ℕ, List, Some, Err, option_map, false, true, length, IfOk, OnOk, IfErr, IsErrOf};
+ghost use Rattle.std.specs.Prelude.{◌≡◌, ◌⊎◌, ◌+◌, ◌<◌, ◌≤◌, ◌^◌, [], ◌∷◌, ◌++◌, ℕ, List, Some, Err, option_map};
+ghost use Rattle.std.specs.Prelude.{false, true, length, IfOk, OnOk, IfErr, IsErrOf};
 ghost use Rattle.std.specs.Arc.{arc_value};
 ghost use Rattle.dz_io.specs.Counts.{HasRisen};
 ghost use Rattle.dz_disk.specs.Disk.{IsQuiet, IsSure, Leaves};

@@ -5,7 +5,8 @@ use Rattle.dz_name.specs.Name.{IsWithin}
 use Rattle.dz_table.specs.Slot.{SlotOf}
 use Rattle.dz_table.specs.Table.{closest, closest_above}
 
-pub above_is : (slots : List SlotOf) (name : Name) → 0 < length name → closest slots (drop 1 name) ≡ closest_above slots name
+pub above_is : (slots : List SlotOf) (name : Name) → 0 < length name
+    → closest slots (drop 1 name) ≡ closest_above slots name
 above_is slots [] some = absurd (omega arith)
 above_is slots (label ∷ labels) some = refl
 

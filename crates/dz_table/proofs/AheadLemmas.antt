@@ -15,7 +15,8 @@ use Rattle.dz_table.specs.inner.Ahead.{AreOf}
 own : (s : SlotOf) (ss : List SlotOf) → slot_of s.zone (s ∷ ss) ≡ Some s
 own s ss = let itself : same_name s.zone s.zone ≡ true = (same_decides s.zone s.zone).1 refl in rw itself refl
 
-of_more : (s : SlotOf) (all ts : List SlotOf) → AllByRecursion (λ t. slot_order s t ≡ Less) ts → AreOf all ts → AreOf (s ∷ all) ts
+of_more : (s : SlotOf) (all ts : List SlotOf) → AllByRecursion (λ t. slot_order s t ≡ Less) ts → AreOf all ts
+    → AreOf (s ∷ all) ts
 of_more s all [] lt h = tt
 of_more s all (t ∷ ts) lt h =
     let apart : same_name s.zone t.zone ≡ false = same_ties s.zone t.zone ∙ ap is_eq lt.0 in
@@ -28,6 +29,7 @@ of_itself [] up = tt
 of_itself (s ∷ ss) up = (own s ss, of_more s ss ss up.0 (of_itself ss up.1))
 
 -- what an iterator gave, before what is left
-pub given : {X B : Type 0} (view : X → B) (o : Option X) (s t : List B) → MatchOption o ((s ≡ []) × (t ≡ [])) (λ x. s ≡ view x ∷ t) → option_to_list (option_map view o) ++ t ≡ s
+pub given : {X B : Type 0} (view : X → B) (o : Option X) (s t : List B)
+    → MatchOption o ((s ≡ []) × (t ≡ [])) (λ x. s ≡ view x ∷ t) → option_to_list (option_map view o) ++ t ≡ s
 given view None s t h = h.1 ∙ sym h.0
 given view (Some x) s t h = sym h

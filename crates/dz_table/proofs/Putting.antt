@@ -1,5 +1,6 @@
 -- A slot put among others, and the slot of a zone taken out.
-use Rattle.std.proofs.Common.{◌≡◌, ◌≢◌, ℕ, ◌+◌, ◌≤◌, Bool, true, false, List, [], ◌∷◌, ◌++◌, length, length-append, refl, sym, ◌∙◌, ap, arith, inl, inr}
+use Rattle.std.proofs.Common.{◌≡◌, ◌≢◌, ℕ, ◌+◌, ◌≤◌, Bool, true, false, List, [], ◌∷◌, ◌++◌, length, length-append}
+use Rattle.std.proofs.Common.{refl, sym, ◌∙◌, ap, arith, inl, inr}
 use Rattle.std.specs.Prelude.{not, filter, Option, Some, None, if◌then◌else◌}
 use Rattle.std.specs.Option.{option_or}
 use Rattle.std.specs.List.{find}
@@ -24,18 +25,21 @@ find_append p [] ys = refl
 find_append p (x ∷ xs) ys = elim (cases_Bool (p x)) [ inl t ↦ rw t refl | inr f ↦ rw f (find_append p xs ys) ]
 
 -- a search among what passes a test that answers alike for all that is searched for
-find_filter : {X : Type 0} (p q : X → Bool) (b : Bool) → ((x : X) → p x ≡ true → q x ≡ b) → (xs : List X) → find p (filter q xs) ≡ (if b then find p xs else None)
+find_filter : {X : Type 0} (p q : X → Bool) (b : Bool) → ((x : X) → p x ≡ true → q x ≡ b) → (xs : List X)
+    → find p (filter q xs) ≡ (if b then find p xs else None)
 find_filter p q true h [] = refl
 find_filter p q false h [] = refl
 find_filter p q true h (x ∷ xs) =
     elim (cases_Bool (p x)) [
       | inl t ↦ rw (h x t, t) refl
-      | inr f ↦ elim (cases_Bool (q x)) [ inl t ↦ rw (t, f) (find_filter p q true h xs) | inr g ↦ rw (g, f) (find_filter p q true h xs) ]
+      | inr f ↦ elim (cases_Bool (q x))
+          [ inl t ↦ rw (t, f) (find_filter p q true h xs) | inr g ↦ rw (g, f) (find_filter p q true h xs) ]
     ]
 find_filter p q false h (x ∷ xs) =
     elim (cases_Bool (p x)) [
       | inl t ↦ rw (h x t) (find_filter p q false h xs)
-      | inr f ↦ elim (cases_Bool (q x)) [ inl t ↦ rw (t, f) (find_filter p q false h xs) | inr g ↦ rw g (find_filter p q false h xs) ]
+      | inr f ↦ elim (cases_Bool (q x))
+          [ inl t ↦ rw (t, f) (find_filter p q false h xs) | inr g ↦ rw g (find_filter p q false h xs) ]
     ]
 
 same_zone : (zone : List (List ℕ)) (s : SlotOf) → same_name s.zone zone ≡ true → s.zone ≡ zone
@@ -52,9 +56,11 @@ data Apart (a b : List (List ℕ)) : Type 0 where
 apart : (a b : List (List ℕ)) → a ≢ b → Apart a b
 apart a b ne =
     elim (canonical_order a b) as (λ o. canonical_order a b ≡ o → Apart a b) [
-      | Less ↦ λ e. first (ap is_lt e) (let r : canonical_order b a ≡ Greater = canonical_total.antisymm b a ∙ (rw e refl) in ap is_lt r)
+      | Less ↦ λ e. first (ap is_lt e)
+          (let r : canonical_order b a ≡ Greater = canonical_total.antisymm b a ∙ (rw e refl) in ap is_lt r)
       | Equal ↦ λ e. absurd (ne (canonical_same a b e))
-      | Greater ↦ λ e. second (ap is_lt e) (let r : canonical_order b a ≡ Less = canonical_total.antisymm b a ∙ (rw e refl) in ap is_lt r)
+      | Greater ↦ λ e. second (ap is_lt e)
+          (let r : canonical_order b a ≡ Less = canonical_total.antisymm b a ∙ (rw e refl) in ap is_lt r)
     ] refl
 
 pub put_own : (slots new : List SlotOf) (slot : SlotOf) → new ≡ put slots slot → slot_of slot.zone new ≡ Some slot
@@ -70,41 +76,56 @@ or_none : (r : Option SlotOf) → option_or r None ≡ r
 or_none None = refl
 or_none (Some slot) = refl
 
-pub put_others : (slots new : List SlotOf) (slot : SlotOf) (zone : List (List ℕ)) → new ≡ put slots slot → zone ≢ slot.zone → slot_of zone new ≡ slot_of zone slots
+pub put_others : (slots new : List SlotOf) (slot : SlotOf) (zone : List (List ℕ)) → new ≡ put slots slot
+    → zone ≢ slot.zone → slot_of zone new ≡ slot_of zone slots
 unfolding put
 put_others slots new slot zone e ne =
-    let front : (b : Bool) → comes_before zone slot.zone ≡ b → find (λ s. same_name s.zone zone) (filter (λ s. comes_before s.zone slot.zone) slots) ≡ (if b then slot_of zone slots else None) =
-    λ b h. find_filter (λ s. same_name s.zone zone) (λ s. comes_before s.zone slot.zone) b (λ s t. ap (λ z. comes_before z slot.zone) (same_zone zone s t) ∙ h) slots in
-    let back : (b : Bool) → comes_before slot.zone zone ≡ b → find (λ s. same_name s.zone zone) (filter (λ s. comes_before slot.zone s.zone) slots) ≡ (if b then slot_of zone slots else None) =
-    λ b h. find_filter (λ s. same_name s.zone zone) (λ s. comes_before slot.zone s.zone) b (λ s t. ap (λ z. comes_before slot.zone z) (same_zone zone s t) ∙ h) slots in
-    let f : same_name slot.zone zone ≡ false = false_from_ne_true (same_name slot.zone zone) (λ t. ne (sym (same_zone zone slot t))) in
+    let front : (b : Bool) → comes_before zone slot.zone ≡ b → find (λ s. same_name s.zone zone)
+    (filter (λ s. comes_before s.zone slot.zone) slots) ≡ (if b then slot_of zone slots else None) =
+    λ b h. find_filter (λ s. same_name s.zone zone) (λ s. comes_before s.zone slot.zone) b
+    (λ s t. ap (λ z. comes_before z slot.zone) (same_zone zone s t) ∙ h) slots in
+    let back : (b : Bool) → comes_before slot.zone zone ≡ b → find (λ s. same_name s.zone zone)
+    (filter (λ s. comes_before slot.zone s.zone) slots) ≡ (if b then slot_of zone slots else None) =
+    λ b h. find_filter (λ s. same_name s.zone zone) (λ s. comes_before slot.zone s.zone) b
+    (λ s t. ap (λ z. comes_before slot.zone z) (same_zone zone s t) ∙ h) slots in
+    let f : same_name slot.zone zone ≡ false =
+    false_from_ne_true (same_name slot.zone zone) (λ t. ne (sym (same_zone zone slot t))) in
     elim (apart zone slot.zone ne) [
-      | first h k ↦ rw (e, find_append (λ (s : SlotOf). same_name s.zone zone), f, front true h, back false k) (or_none (slot_of zone slots))
+      | first h k ↦ rw (e, find_append (λ (s : SlotOf). same_name s.zone zone), f, front true h, back false k)
+          (or_none (slot_of zone slots))
       | second h k ↦ rw (e, find_append (λ (s : SlotOf). same_name s.zone zone), f, front false h, back true k) refl
     ]
 
-pub without_rises : (slots new : List SlotOf) (zone : List (List ℕ)) → IsTable slots → new ≡ without slots zone → IsTable new
+pub without_rises : (slots new : List SlotOf) (zone : List (List ℕ)) → IsTable slots → new ≡ without slots zone
+    → IsTable new
 unfolding without
-without_rises slots new zone up e = rw e (IsStrictlySortedBy-filter slot_order (λ s. not (same_name s.zone zone)) slots up)
+without_rises slots new zone up e =
+    rw e (IsStrictlySortedBy-filter slot_order (λ s. not (same_name s.zone zone)) slots up)
 
 pub without_own : (slots new : List SlotOf) (zone : List (List ℕ)) → new ≡ without slots zone → slot_of zone new ≡ None
 unfolding without
 without_own slots new zone e =
     rw e (find_filter (λ s. same_name s.zone zone) (λ s. not (same_name s.zone zone)) false (λ s t. ap not t) slots)
 
-pub without_others : (slots new : List SlotOf) (zone other : List (List ℕ)) → new ≡ without slots zone → other ≢ zone → slot_of other new ≡ slot_of other slots
+pub without_others : (slots new : List SlotOf) (zone other : List (List ℕ)) → new ≡ without slots zone → other ≢ zone
+    → slot_of other new ≡ slot_of other slots
 unfolding without
 without_others slots new zone other e ne =
-    let f : same_name other zone ≡ false = false_from_ne_true (same_name other zone) (λ t. ne ((same_decides other zone).0 t)) in
-    rw e (find_filter (λ s. same_name s.zone other) (λ s. not (same_name s.zone zone)) true (λ s t. ap (λ z. not (same_name z zone)) (same_zone other s t) ∙ ap not f) slots)
+    let f : same_name other zone ≡ false =
+    false_from_ne_true (same_name other zone) (λ t. ne ((same_decides other zone).0 t)) in
+    rw e (find_filter (λ s. same_name s.zone other) (λ s. not (same_name s.zone zone)) true
+    (λ s t. ap (λ z. not (same_name z zone)) (same_zone other s t) ∙ ap not f) slots)
 
 -- one slot more at most
-sides : (zone : List (List ℕ)) (slots : List SlotOf) → length (filter (λ s. comes_before s.zone zone) slots) + length (filter (λ s. comes_before zone s.zone) slots) ≤ length slots
+sides : (zone : List (List ℕ)) (slots : List SlotOf) → length (filter (λ s. comes_before s.zone zone) slots) + length
+    (filter (λ s. comes_before zone s.zone) slots) ≤ length slots
 sides zone [] = omega arith
 sides zone (s ∷ slots) = go (canonical_order zone s.zone) refl (sides zone slots)
   where
-    go : (o : Ordering) → canonical_order zone s.zone ≡ o → length (filter (λ s. comes_before s.zone zone) slots) + length (filter (λ s. comes_before zone s.zone) slots) ≤ length slots
-        → length (filter (λ s. comes_before s.zone zone) (s ∷ slots)) + length (filter (λ s. comes_before zone s.zone) (s ∷ slots)) ≤ length (s ∷ slots)
+    go : (o : Ordering) → canonical_order zone s.zone ≡ o → length (filter (λ s. comes_before s.zone zone) slots)
+        + length (filter (λ s. comes_before zone s.zone) slots) ≤ length slots
+        → length (filter (λ s. comes_before s.zone zone) (s ∷ slots)) + length
+        (filter (λ s. comes_before zone s.zone) (s ∷ slots)) ≤ length (s ∷ slots)
     go Less e h = rw (e, canonical_total.antisymm s.zone zone ∙ ap ordering_reverse e) (omega arith)
     go Equal e h = rw (e, canonical_total.antisymm s.zone zone ∙ ap ordering_reverse e) (omega arith)
     go Greater e h = rw (e, canonical_total.antisymm s.zone zone ∙ ap ordering_reverse e) (omega arith)
@@ -112,4 +133,10 @@ sides zone (s ∷ slots) = go (canonical_order zone s.zone) refl (sides zone slo
 pub put_longer : (slots new : List SlotOf) (slot : SlotOf) → new ≡ put slots slot → length new ≤ length slots + 1
 unfolding put
 put_longer slots new slot e =
-    omega (arith, ap length e, sides slot.zone slots, length-append (filter (λ s. comes_before s.zone slot.zone) slots) (slot ∷ filter (λ s. comes_before slot.zone s.zone) slots))
+    omega (
+      arith,
+      ap length e,
+      sides slot.zone slots,
+      length-append (filter (λ s. comes_before s.zone slot.zone) slots)
+          (slot ∷ filter (λ s. comes_before slot.zone s.zone) slots),
+    )

@@ -1,6 +1,7 @@
 -- Meaning: slots of zones, and which one answers for a name (RFC 1034 section 4.3.2). A list of slots may be in any
 -- order, unless stated otherwise.
-use Rattle.std.specs.Prelude.{ℕ, ◌+◌, ◌*◌, ◌/◌, ◌^◌, ◌≤◌, Bool, not, ◌==◌, if◌then◌else◌, List, [], ◌∷◌, ◌++◌, length, filter, Option, Some, None}
+use Rattle.std.specs.Prelude.{ℕ, ◌+◌, ◌*◌, ◌/◌, ◌^◌, ◌≤◌, Bool, not, ◌==◌, if◌then◌else◌, List, [], ◌∷◌, ◌++◌, length}
+use Rattle.std.specs.Prelude.{filter, Option, Some, None}
 use Rattle.std.specs.Option.{option_or}
 use Rattle.std.specs.List.{find, All, Contains}
 use Rattle.std.specs.List.Sorted.{IsStrictlySortedBy}
@@ -55,9 +56,11 @@ closest_above slots (label ∷ labels) = closest slots labels
 -- the slot that answers for a name and a type: for a DS that of a zone above the name, if there is one (RFC 4035
 -- section 3.1.4.1)
 unfoldable pub closest_for : List SlotOf → Name → Kind → Option SlotOf
-closest_for slots name kind = if kind == TYPE_DS then option_or (closest_above slots name) (closest slots name) else closest slots name
+closest_for slots name kind =
+    if kind == TYPE_DS then option_or (closest_above slots name) (closest slots name) else closest slots name
 
--- the closest slot in other words: its zone encloses the name, and no other such zone has more labels (RFC 1034 section
+-- the closest slot in other words: its zone encloses the name, and no other such zone has more labels (RFC 1034
+-- section
 -- 4.3.2, step 2)
 pub record IsNearest (slots : List SlotOf) (name : Name) (slot : SlotOf) : Type 0 where
   pub held : Contains slots slot
@@ -69,7 +72,7 @@ abbrev pub IsClosest : List SlotOf → Name → Option SlotOf → Type 0
 IsClosest slots name None = All (λ other. ¬ IsWithin name other.zone) slots
 IsClosest slots name (Some slot) = IsNearest slots name slot
 
--- so many comparisons of zones so many searches of a table of so many slots take at most: each takes as many as the number
--- of chunks of slots and one has bits, and 22 more in one chunk
+-- so many comparisons of zones so many searches of a table of so many slots take at most: each takes as many as the
+-- number of chunks of slots and one has bits, and 22 more in one chunk
 abbrev pub SearchesTake : ℕ → ℕ → ℕ → Type 0
 SearchesTake slots searches taken = (bits : ℕ) → slots / 64 + 2 ≤ 2 ^ bits → taken ≤ searches * (bits + 22)

@@ -3,7 +3,8 @@
 ghost use Rattle.std.specs.Prelude.{◌≡◌, ◌≢◌, ◌≤◌, ◌+◌, ◌-◌, ◌/◌, [], Some, None, IfOk, IfSome, length, option_map};
 ghost use Rattle.dz_name.specs.Name.{IsWithin};
 ghost use Rattle.dz_name.specs.Words.{Name};
-ghost use Rattle.dz_table.specs.Table.{closest_for, closest_above, IsTable, IsClosest, put, without, slot_of, closest, SearchesTake};
+ghost use Rattle.dz_table.specs.Table.{closest_for, closest_above, IsTable, IsClosest, put, without, slot_of, closest};
+ghost use Rattle.dz_table.specs.Table.{SearchesTake};
 ghost use Rattle.dz_chunks.specs.Search.{TakesAtMost};
 
 use crate::ahead::Ahead;

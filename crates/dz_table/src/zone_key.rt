@@ -3,7 +3,8 @@
 ghost use Rattle.std.specs.Prelude.{◌≡◌, refl};
 ghost use Rattle.std.specs.Ordering.{as_partial_cmp};
 ghost use Rattle.dz_name.specs.Name.{canonical_order, same_name};
-ghost use Rattle.dz_name.specs.Order.{canonical_total, canonical_same, names_equal, names_partly_equal, names_ordered, same_ties};
+ghost use Rattle.dz_name.specs.Order.{canonical_total, canonical_same, names_equal, names_partly_equal, names_ordered};
+ghost use Rattle.dz_name.specs.Order.{same_ties};
 ghost use Rattle.dz_index.specs.SortKey.{key_of};
 ghost use Rattle.dz_index.specs.Lead.{lead_of};
 ghost use Rattle.dz_index.proofs.LeadLemmas.{lead_decides};

@@ -13,7 +13,8 @@ use Rattle.dz_message.specs.declared.fault.MessageFault.TheVariants.{ShortHeader
 use Rattle.dz_message.specs.Frame.{frame, first_size, first_messages}
 use Rattle.dz_message.specs.Reading.{question_in, many, content_of, message_of}
 use Rattle.dz_take.specs.declared.ask.Ask.TheVariants.{Axfr, Ixfr}
-use Rattle.dz_take.specs.declared.outcome.TakeFault.TheVariants.{Incomplete, Message, WrongId, WrongQuestion, Rcode, Shape, OldSerial}
+use Rattle.dz_take.specs.declared.outcome.TakeFault.TheVariants.{Incomplete, Message, WrongId, WrongQuestion, Rcode}
+use Rattle.dz_take.specs.declared.outcome.TakeFault.TheVariants.{Shape, OldSerial}
 use Rattle.dz_take.specs.Form.{form}
 use Rattle.dz_take.specs.Outcome.{answers, judge, decided_from, outcome}
 use Rattle.dz_take.specs.Transfer.{Transfer, up_to_date, refused}
@@ -44,24 +45,33 @@ unfolding first_messages first_size decided_from judge message_of number_of_two 
 an_empty_message = refl
 
 pub no_answer : outcome whole (frame (empty 2 0)) ≡ refused (Shape NotSoaFirst)
-unfolding first_messages first_size decided_from judge message_of content_of many question_in question_at behind_records name_at name_from element_at header_in number_of_two two form answers
+unfolding first_messages first_size decided_from judge message_of content_of many question_in question_at
+    behind_records name_at name_from element_at header_in number_of_two two form answers
 no_answer = refl
 
 pub another_id : outcome whole (frame (empty 9 5)) ≡ refused WrongId
-unfolding first_messages first_size decided_from judge message_of content_of many question_in question_at behind_records name_at name_from element_at header_in number_of_two two form answers
+unfolding first_messages first_size decided_from judge message_of content_of many question_in question_at
+    behind_records name_at name_from element_at header_in number_of_two two form answers
 another_id = refl
 
 pub a_code : outcome whole (frame (empty 2 5)) ≡ refused (Rcode 5)
-unfolding first_messages first_size decided_from judge message_of content_of many question_in question_at behind_records name_at name_from element_at header_in number_of_two two form answers
+unfolding first_messages first_size decided_from judge message_of content_of many question_in question_at
+    behind_records name_at name_from element_at header_in number_of_two two form answers
 a_code = refl
 
 pub no_question : outcome whole (frame (0 ∷ 2 ∷ 132 ∷ 0 ∷ 0 ∷ 0 ∷ 0 ∷ 0 ∷ 0 ∷ 0 ∷ 0 ∷ 0 ∷ [])) ≡ refused WrongQuestion
-unfolding first_messages first_size decided_from judge message_of content_of many behind_records header_in number_of_two two form answers
+unfolding first_messages first_size decided_from judge message_of content_of many behind_records header_in
+    number_of_two two form answers
 no_question = refl
 
 -- an SOA record of this serial, by its octets
 abbrev soa : Octets → Record
-soa serial = record { owner = example; kind = 6; ttl = 3600; rdata = 0 ∷ 0 ∷ serial ++ 0 ∷ 0 ∷ 0 ∷ 100 ∷ 0 ∷ 0 ∷ 0 ∷ 60 ∷ 0 ∷ 0 ∷ 2 ∷ 88 ∷ 0 ∷ 0 ∷ 0 ∷ 30 ∷ [] }
+soa serial = record {
+  owner = example;
+  kind = 6;
+  ttl = 3600;
+  rdata = 0 ∷ 0 ∷ serial ++ 0 ∷ 0 ∷ 0 ∷ 100 ∷ 0 ∷ 0 ∷ 0 ∷ 60 ∷ 0 ∷ 0 ∷ 2 ∷ 88 ∷ 0 ∷ 0 ∷ 0 ∷ 30 ∷ [];
+}
 
 -- the held version, of serial 5
 abbrev held : Zone

@@ -67,5 +67,6 @@ unfoldable pub form : Transfer → List Record → Option Decision
 form transfer [] = Some (refused (Shape NotSoaFirst))
 form transfer (first ∷ rest) =
     if is_apex_soa transfer.apex first
-    then or_else (settled transfer.held first) (decision_of transfer.apex (reading_of transfer.apex (base_of transfer.ask transfer.held) (first ∷ rest)))
+    then or_else (settled transfer.held first)
+    (decision_of transfer.apex (reading_of transfer.apex (base_of transfer.ask transfer.held) (first ∷ rest)))
     else Some (refused (Shape NotSoaFirst))

@@ -1,6 +1,7 @@
 -- Meaning: what comes of the octets of a transfer, which the first message that decides anything decides (RFC 5936
 -- section 2.2, RFC 1995 section 4).
-use Rattle.std.specs.Prelude.{◌≡◌, ℕ, suc, ◌<◌, Bool, false, ◌==◌, ◌&&◌, not, nat_lt, is_some, List, [], ◌∷◌, ◌++◌, length, take, slice_index_or, Option, Some, None, Result, Ok, Err, if◌then◌else◌}
+use Rattle.std.specs.Prelude.{◌≡◌, ℕ, suc, ◌<◌, Bool, false, ◌==◌, ◌&&◌, not, nat_lt, is_some, List, [], ◌∷◌, ◌++◌}
+use Rattle.std.specs.Prelude.{length, take, slice_index_or, Option, Some, None, Result, Ok, Err, if◌then◌else◌}
 use Rattle.std.specs.List.{flat_map}
 use Rattle.dz_name.specs.Words.{Octets}
 use Rattle.dz_name.specs.Name.{same_name}
@@ -14,7 +15,8 @@ use Rattle.dz_message.specs.Frame.{stream, messages_in}
 use Rattle.dz_message.specs.Message.{Content}
 use Rattle.dz_message.specs.Reading.{message_of}
 use Rattle.dz_message.specs.declared.fault.MessageFault.{MessageFault}
-use Rattle.dz_take.specs.declared.outcome.TakeFault.TheVariants.{Incomplete, Message, WrongId, WrongQuestion, Rcode, TooLong}
+use Rattle.dz_take.specs.declared.outcome.TakeFault.TheVariants.{Incomplete, Message, WrongId, WrongQuestion, Rcode}
+use Rattle.dz_take.specs.declared.outcome.TakeFault.TheVariants.{TooLong}
 use Rattle.dz_take.specs.Form.{form, or_else}
 use Rattle.dz_take.specs.Transfer.{Transfer, Decision, refused, kind_of}
 
@@ -67,7 +69,8 @@ judge transfer front message =
 -- what the first of these messages that decides anything decides, after others
 unfoldable pub decided_from : Transfer → List Octets → List Octets → Option Decision
 decided_from transfer front [] = None
-decided_from transfer front (message ∷ messages) = or_else (judge transfer front message) (decided_from transfer (front ++ message ∷ []) messages)
+decided_from transfer front (message ∷ messages) =
+    or_else (judge transfer front message) (decided_from transfer (front ++ message ∷ []) messages)
 
 -- what messages decide; none: more is to come
 abbrev pub decided : Transfer → List Octets → Option Decision

@@ -22,7 +22,8 @@ pub record Taken : Type 0 where
 
 -- a transfer of which nothing was read
 abbrev pub nothing_read : Name → Ask → ℕ → Option Zone → Taken
-nothing_read apex ask id held = record { transfer = record { apex = apex; ask = ask; id = id; held = held }; octets = [] }
+nothing_read apex ask id held =
+    record { transfer = record { apex = apex; ask = ask; id = id; held = held }; octets = [] }
 
 -- a held version is of the zone
 abbrev pub IsOfZone : Name → Option Zone → Type 0
@@ -56,9 +57,10 @@ standing_of up_to_date = None
 standing_of (new zone) = Some (standing zone.apex zone.records)
 standing_of (refused fault) = None
 
--- what came of a transfer is the outcome of its octets, and all of them are used; what is kept of the ZONEMD records is
--- what they say
-pub record IsFinished (transfer : Transfer) (octets : Octets) (result : Outcome) (shown : Option Standing) : Type 0 where
+-- what came of a transfer is the outcome of its octets, and all of them are used; what is kept of the ZONEMD records
+-- is what they say
+pub record IsFinished (transfer : Transfer) (octets : Octets) (result : Outcome)
+    (shown : Option Standing) : Type 0 where
   pub outcome : meaning_of result ≡ outcome transfer octets
   pub used : octets_used transfer octets ≡ length octets
   pub standing : ForSome shown (λ s. standing_of (meaning_of result) ≡ Some s)

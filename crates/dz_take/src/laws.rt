@@ -1,7 +1,8 @@
 //! Laws of what comes of a transfer. Each is a contract without a call, so its body is empty.
 
 ghost use Rattle.dz_take.specs.Fit.{OutcomesFit};
-ghost use Rattle.dz_take.specs.Laws.{MessagesDecide, FirstDecides, DecidingDecides, NoneDecides, FormDecides, FormStands};
+ghost use Rattle.dz_take.specs.Laws.{MessagesDecide, FirstDecides, DecidingDecides, NoneDecides, FormDecides};
+ghost use Rattle.dz_take.specs.Laws.{FormStands};
 
 /// The outcome is that of the messages, however their octets were cut; a part of a frame after them doesn't count.
 pub fn messages_decide()

@@ -14,7 +14,8 @@ ghost use Rattle.dz_xfr.specs.declared.fault.ShapeFault.TheVariants.{NotSoaFirst
 ghost use Rattle.dz_take.specs.declared.outcome.TakeFault.TheVariants as faults;
 ghost use Rattle.dz_take.specs.Taken.{meaning_of};
 ghost use Rattle.dz_take.specs.Transfer.{refused};
-ghost use Rattle.dz_take.specs.inner.Following.{Opens, IsWholeKind, IsIncrementalKind, Reads, records_in, IsUndecided, Refuses, IsBase, serial_settles};
+ghost use Rattle.dz_take.specs.inner.Following.{Opens, IsWholeKind, IsIncrementalKind, Reads, records_in, IsUndecided};
+ghost use Rattle.dz_take.specs.inner.Following.{Refuses, IsBase, serial_settles};
 
 use crate::outcome::{Outcome, TakeFault};
 use crate::transfer::Transfer;

@@ -20,10 +20,14 @@ none_from : (config : List CatalogSettings) (zone : Name) (o : Option ℕ) → h
 none_from config zone (Some number) = same_at (length config) number None
 none_from config zone None = refl
 
-pub nothing_held : (config : List CatalogSettings) (zone : Name) → held_at (after (opened_core config).list) zone ≡ None
+pub nothing_held : (config : List CatalogSettings) (zone : Name)
+    → held_at (after (opened_core config).list) zone ≡ None
 unfolding held_at
-nothing_held config zone = ap (λ s. held_at s zone) (opened_state config) ∙ none_from config zone (catalog_at (opened config) zone)
+nothing_held config zone = ap (λ s. held_at s zone) (opened_state config)
+    ∙ none_from config zone (catalog_at (opened config) zone)
 
 -- what the first list hands out
-pub given_opened : (config : List CatalogSettings) (job : JobOf) → job.flight.entries ≡ 1 → job.held ≡ None → IsGiven (opened_core config).list job
-given_opened config job entries none = given_now (opened_core config).list job entries (none ∙ sym (nothing_held config job.flight.zone))
+pub given_opened : (config : List CatalogSettings) (job : JobOf) → job.flight.entries ≡ 1 → job.held ≡ None
+    → IsGiven (opened_core config).list job
+given_opened config job entries none =
+    given_now (opened_core config).list job entries (none ∙ sym (nothing_held config job.flight.zone))

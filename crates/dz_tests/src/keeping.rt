@@ -24,6 +24,7 @@ use dz_transfer::{Report, work_and_keep};
 use std::alloc::{AllocError, Global};
 use std::marker::Brand;
 use std::process::Abort;
+use std::sync::ledger::{Blank, Share};
 use std::sync::{Mutex, Wait};
 use std::test::*;
 
@@ -71,12 +72,15 @@ fn work_at<R: Abort + Wait, J: Naming>(
     alloc: Global,
     shared: &Shared<MemorySink, J>,
     reading: &mut Reading,
+    share: &mut Share<J>,
     store: &Mutex<Store<MemoryDisk>>,
     moment: u64,
     message: &[u8],
 ) -> Report
     requires moment { moment < 2 ^ 40 }
     requires reading { (reading.old.is_out ≡ false) × (reading.old.book ≡ J.publisher) }
+    requires part { 0 < share.old.parts }
+    ensures parts { share.new.parts ≡ share.old.parts }
     ensures same { reading.new ≡ record reading.old { list = reading.new.list } }
     ensures seen { IsPrefix reading.old.list reading.new.list }
 {
@@ -85,7 +89,17 @@ fn work_at<R: Abort + Wait, J: Naming>(
         Err(_) => panic!(rt; "out of memory"),
     };
     let mut clock = MemoryClock::new(Vec::new(alloc), moment, 0);
-    work_and_keep(rt, alloc, shared, reading, &mut dialer, &mut clock, store).report
+    work_and_keep(
+        rt,
+        alloc,
+        shared,
+        reading,
+        share,
+        &mut dialer,
+        &mut clock,
+        store,
+    )
+    .report
 }
 
 /// The job of the member, which is due at once.
@@ -110,20 +124,42 @@ fn reset<R: Abort + Wait, J: Naming>(
     alloc: Global,
     publisher: Publisher,
     reading: Reading,
+    ledger: Blank,
     store: &Mutex<Store<MemoryDisk>>,
     messages: (&[u8], &[u8]),
 ) -> MemorySink
     requires publisher { (publisher.list ≡ []) × (publisher.staged ≡ None)
         × (publisher.book ≡ J.publisher) }
     requires reading { IsFresh J.publisher reading }
+    requires ledger { (ledger.name ≡ J.name) × (ledger.parts ≡ J.parts)
+        × (0 < ledger.parts) }
 {
     let (listing, relisting) = messages;
     let mut reading = reading;
-    let shared: Shared<MemorySink, J> = begin(rt, alloc, publisher);
-    let report = work_at(rt, alloc, &shared, &mut reading, store, 1000, listing);
+    let (starved, mut share) = ledger.open::<J>();
+    let shared: Shared<MemorySink, J> = begin(rt, alloc, publisher, starved);
+    let report = work_at(
+        rt,
+        alloc,
+        &shared,
+        &mut reading,
+        &mut share,
+        store,
+        1000,
+        listing,
+    );
     assert!(rt; matches!(report, Report::Published(1)));
     let job = member_job(rt, &shared, &mut reading);
-    let report = work_at(rt, alloc, &shared, &mut reading, store, 1100, relisting);
+    let report = work_at(
+        rt,
+        alloc,
+        &shared,
+        &mut reading,
+        &mut share,
+        store,
+        1100,
+        relisting,
+    );
     assert!(rt; matches!(report, Report::Published(2)));
     assert!(rt; shared.fail(rt, &mut reading, job, 1100).answer.is_ok());
     written(rt, shared)
@@ -143,7 +179,10 @@ fn a_member_that_is_reset_is_forgotten_and_its_catalog_is_kept(
     let relisting = relisting_message(&rt, alloc)?;
     let messages = (listing.as_slice(), relisting.as_slice());
     let (publisher, reading) = open_one(&rt, alloc);
-    let output = reset::<HostRuntime, Brand>(&rt, alloc, publisher, reading, &kept, messages);
+    let ledger = Blank::new(1);
+    let output = reset::<HostRuntime, Brand>(
+        &rt, alloc, publisher, reading, ledger, &kept, messages,
+    );
     assert_eq!(&rt; output.written(), WRITTEN);
     let mut kept = kept.into_inner();
     assert_eq!(&rt; store::latest(&rt, alloc, &mut kept, "example."), 0);

@@ -14,6 +14,7 @@ use std::alloc::Global;
 use std::marker::Brand;
 use std::process::Abort;
 use std::sync::Wait;
+use std::sync::ledger::{Blank, Book};
 use std::test::*;
 
 /// A provisioner of one catalog of this name.
@@ -22,15 +23,18 @@ fn begin<R: Abort + Wait, J: Naming>(
     alloc: Global,
     publisher: Publisher,
     catalog: &str,
+    starved: Book<J>,
 ) -> Provisioner<MemorySink, J>
-    requires { (publisher.list ≡ []) × (publisher.staged ≡ None) × (publisher.book ≡ J.publisher) }
+    requires publisher { (publisher.list ≡ []) × (publisher.staged ≡ None)
+        × (publisher.book ≡ J.publisher) }
+    requires starved { starved.total ≡ 0 }
     ensures { (config : List CatalogSettings) × (result.core ≡ opened_core config) }
 {
     let Ok(config) = config(rt, alloc, catalog) else {
         panic!(rt; "out of memory");
     };
     let output = MemorySink::new(alloc, Vec::new(alloc));
-    match Provisioner::start(rt, alloc, config, publisher, output) {
+    match Provisioner::start(rt, alloc, config, publisher, output, starved) {
         Ok(provisioner) => provisioner,
         Err(_) => panic!(rt; "out of memory"),
     }
@@ -55,6 +59,7 @@ fn written<R: Wait, J: Naming>(rt: &R, provisioner: Provisioner<MemorySink, J>) 
         publisher,
         output,
         log_failed: _,
+        starved: _,
     } = provisioner.close();
     publisher.close(rt);
     output
@@ -66,14 +71,17 @@ fn give_a_job_away<R: Abort + Wait, J: Naming + Send>(
     alloc: Global,
     own: Publisher,
     other: Publisher,
+    ledger: Blank,
 )
     requires own { (own.list ≡ []) × (own.staged ≡ None) × (own.book ≡ J.publisher) }
     requires other { (other.list ≡ []) × (other.staged ≡ None) }
+    requires ledger { (ledger.name ≡ J.name) × (ledger.parts ≡ J.parts) }
 {
-    let mut one: Provisioner<MemorySink, J> = begin(rt, alloc, own, "cat1.example.");
+    let (starved, _) = ledger.open::<J>();
+    let mut one: Provisioner<MemorySink, J> = begin(rt, alloc, own, "cat1.example.", starved);
     let job = first_job(rt, &mut one);
     let shared: Shared<MemorySink, J> = Locked::over(one);
-    refuse_a_job::<R, Brand>(rt, alloc, other, job);
+    refuse_a_job::<R, Brand>(rt, alloc, other, Blank::new(1), job);
     let output = written(rt, shared.close());
     assert_eq!(rt;
         output.written(),
@@ -82,11 +90,19 @@ fn give_a_job_away<R: Abort + Wait, J: Naming + Send>(
 }
 
 /// A provisioner of `cat2.example.` is given a job that isn't its own.
-fn refuse_a_job<R: Abort + Wait, J: Naming>(rt: &R, alloc: Global, own: Publisher, job: Job)
+fn refuse_a_job<R: Abort + Wait, J: Naming>(
+    rt: &R,
+    alloc: Global,
+    own: Publisher,
+    ledger: Blank,
+    job: Job,
+)
     requires own { (own.list ≡ []) × (own.staged ≡ None) × (own.book ≡ J.publisher) }
+    requires ledger { (ledger.name ≡ J.name) × (ledger.parts ≡ J.parts) }
     requires job { (job.flight.entries ≡ 1) × (job.held ≡ None) }
 {
-    let mut two: Provisioner<MemorySink, J> = begin(rt, alloc, own, "cat2.example.");
+    let (starved, _) = ledger.open::<J>();
+    let mut two: Provisioner<MemorySink, J> = begin(rt, alloc, own, "cat2.example.", starved);
     assert!(rt; matches!(two.fail(job, 0), Err(Unmade::NotInFlight(_))));
     assert_eq!(rt; two.count(), 1);
     let output = written(rt, two);
@@ -97,5 +113,5 @@ fn refuse_a_job<R: Abort + Wait, J: Naming>(rt: &R, alloc: Global, own: Publishe
 fn a_job_of_another_core_changes_nothing(rt: HostRuntime) {
     let (one, _) = open_one(&rt, rt.alloc());
     let (two, _) = open_one(&rt, rt.alloc());
-    give_a_job_away::<HostRuntime, Brand>(&rt, rt.alloc(), one, two);
+    give_a_job_away::<HostRuntime, Brand>(&rt, rt.alloc(), one, two, Blank::new(1));
 }

@@ -1,6 +1,6 @@
 //! Transfers of catalogs that have keys: what is signed is taken, and of the rest the fault is told (RFC 8945).
 
-ghost use Rattle.std.specs.Prelude.{◌≡◌, [], None, IfOk};
+ghost use Rattle.std.specs.Prelude.{◌≡◌, ◌<◌, [], None, IfOk};
 ghost use mathlib.Core.List.{IsPrefix};
 ghost use Rattle.dz_settings.specs.Config.{IsAllowed};
 ghost use Rattle.dz_desk.specs.Seen.{IsAtRest};
@@ -25,6 +25,7 @@ use std::alloc::{AllocError, Global};
 use std::marker::Brand;
 use std::process::Abort;
 use std::sync::Wait;
+use std::sync::ledger::{Blank, Book, Share};
 use std::test::*;
 
 /// The records of each message of an answer.
@@ -174,13 +175,16 @@ fn end<R: Abort + Wait, J: Naming>(
     rt: &R,
     alloc: Global,
     provisioned: &mut Provisioned<J>,
+    share: &mut Share<J>,
     job: Job,
     answer: Result<Vec<u8>, AllocError>,
 )
     requires reading { IsAtRest J.publisher provisioned.old.reading }
+    requires part { 0 < share.old.parts }
     requires given { IsGiven provisioned.old.reading.list job }
     ensures reading { IsAtRest J.publisher provisioned.new.reading }
     ensures seen { IsPrefix provisioned.old.reading.list provisioned.new.reading.list }
+    ensures parts { share.new.parts ≡ share.old.parts }
 {
     let Ok(octets) = answer else {
         panic!(rt; "out of memory");
@@ -189,7 +193,7 @@ fn end<R: Abort + Wait, J: Naming>(
         panic!(rt; "out of memory");
     };
     let Provisioned { shared, reading } = provisioned;
-    let ended = shared.settle(rt, alloc, reading, job, finished, 1000);
+    let ended = shared.settle(rt, alloc, reading, share, job, finished, 1000);
     assert!(rt; ended.answer.is_ok());
 }
 
@@ -212,11 +216,13 @@ fn begin<R: Abort + Wait, J: Naming>(
     alloc: Global,
     config: Result<Config, AllocError>,
     desk: (Publisher, Reading),
+    starved: Book<J>,
 ) -> Provisioned<J>
     requires config { IfOk config (λ c. IsAllowed c) }
     requires publisher { (desk.0.list ≡ []) × (desk.0.staged ≡ None)
         × (desk.0.book ≡ J.publisher) }
     requires reading { IsAtRest J.publisher desk.1 }
+    requires starved { starved.total ≡ 0 }
     ensures { IsAtRest J.publisher result.reading }
 {
     let (publisher, reading) = desk;
@@ -224,7 +230,7 @@ fn begin<R: Abort + Wait, J: Naming>(
         panic!(rt; "out of memory");
     };
     let output = MemorySink::new(alloc, Vec::new(alloc));
-    match Provisioner::start(rt, alloc, config, publisher, output) {
+    match Provisioner::start(rt, alloc, config, publisher, output, starved) {
         Ok(provisioner) => Provisioned {
             shared: Locked::over(provisioner),
             reading,
@@ -242,6 +248,7 @@ fn written<R: Wait, J: Naming>(rt: &R, provisioned: Provisioned<J>) -> MemorySin
         publisher,
         output,
         log_failed: _,
+        starved: _,
     } = shared.close().close();
     publisher.close(rt);
     output
@@ -252,20 +259,24 @@ fn play<R: Abort + Wait, J: Naming>(
     rt: &R,
     alloc: Global,
     desk: (Publisher, Reading),
+    ledger: Blank,
     change: Change,
 ) -> MemorySink
     requires publisher { (desk.0.list ≡ []) × (desk.0.staged ≡ None)
         × (desk.0.book ≡ J.publisher) }
     requires reading { IsAtRest J.publisher desk.1 }
+    requires ledger { (ledger.name ≡ J.name) × (ledger.parts ≡ J.parts)
+        × (0 < ledger.parts) }
 {
+    let (starved, mut share) = ledger.open::<J>();
     let config = signed_config(rt, alloc, &[(CATALOG, b"a secret")]);
-    let mut provisioned: Provisioned<J> = begin(rt, alloc, config, desk);
+    let mut provisioned: Provisioned<J> = begin(rt, alloc, config, desk, starved);
     let catalog = due(rt, &mut provisioned);
     let listed = answered(rt, alloc, &catalog, (CATALOG, LISTED), Change::Nothing);
-    end(rt, alloc, &mut provisioned, catalog, listed);
+    end(rt, alloc, &mut provisioned, &mut share, catalog, listed);
     let member = due(rt, &mut provisioned);
     let zone = answered(rt, alloc, &member, (MEMBER, ZONE), change);
-    end(rt, alloc, &mut provisioned, member, zone);
+    end(rt, alloc, &mut provisioned, &mut share, member, zone);
     written(rt, provisioned)
 }
 
@@ -274,22 +285,26 @@ fn play_move<R: Abort + Wait, J: Naming>(
     rt: &R,
     alloc: Global,
     desk: (Publisher, Reading),
+    ledger: Blank,
 ) -> MemorySink
     requires publisher { (desk.0.list ≡ []) × (desk.0.staged ≡ None)
         × (desk.0.book ≡ J.publisher) }
     requires reading { IsAtRest J.publisher desk.1 }
+    requires ledger { (ledger.name ≡ J.name) × (ledger.parts ≡ J.parts)
+        × (0 < ledger.parts) }
 {
+    let (starved, mut share) = ledger.open::<J>();
     let config = signed_config(rt, alloc, &[(CATALOG, b"a secret"), (OTHER, b"another")]);
-    let mut provisioned: Provisioned<J> = begin(rt, alloc, config, desk);
+    let mut provisioned: Provisioned<J> = begin(rt, alloc, config, desk, starved);
     let catalog = due(rt, &mut provisioned);
     let listed = answered(rt, alloc, &catalog, (CATALOG, LISTED), Change::Nothing);
-    end(rt, alloc, &mut provisioned, catalog, listed);
+    end(rt, alloc, &mut provisioned, &mut share, catalog, listed);
     let other = due(rt, &mut provisioned);
     let member = due(rt, &mut provisioned);
     let zone = answered(rt, alloc, &member, (MEMBER, ZONE), Change::Nothing);
     let moved = answered(rt, alloc, &other, (OTHER, MOVED), Change::Nothing);
-    end(rt, alloc, &mut provisioned, other, moved);
-    end(rt, alloc, &mut provisioned, member, zone);
+    end(rt, alloc, &mut provisioned, &mut share, other, moved);
+    end(rt, alloc, &mut provisioned, &mut share, member, zone);
     written(rt, provisioned)
 }
 
@@ -298,7 +313,7 @@ fn what_is_signed_is_taken_and_of_the_rest_the_fault_is_told(rt: HostRuntime) {
     let alloc = rt.alloc();
     'cases: for (change, want) in CASES {
         let desk = open_one(&rt, alloc);
-        let output = play::<HostRuntime, Brand>(&rt, alloc, desk, *change);
+        let output = play::<HostRuntime, Brand>(&rt, alloc, desk, Blank::new(1), *change);
         assert!(rt; output.written().ends_with(want));
     }
 }
@@ -307,7 +322,7 @@ fn what_is_signed_is_taken_and_of_the_rest_the_fault_is_told(rt: HostRuntime) {
 fn a_member_that_moved_to_another_key_is_refused_once(rt: HostRuntime) {
     let alloc = rt.alloc();
     let desk = open_one(&rt, alloc);
-    let output = play_move::<HostRuntime, Brand>(&rt, alloc, desk);
+    let output = play_move::<HostRuntime, Brand>(&rt, alloc, desk, Blank::new(1));
     assert!(rt;
         output.written().ends_with(
             b"\nmoved example. cat1.example. cat2.example.\nrefused example. tsig 4\n"

@@ -1,6 +1,6 @@
 //! A transfer worker: jobs that are asked for, fetched over a link, and ended.
 
-ghost use Rattle.std.specs.Prelude.{◌≡◌, false, [], None, IfOk};
+ghost use Rattle.std.specs.Prelude.{◌≡◌, ◌<◌, false, [], None, IfOk};
 ghost use Rattle.dz_desk.specs.Seen.{IsFresh};
 
 use crate::configs::config;
@@ -17,6 +17,7 @@ use std::alloc::{AllocError, Global};
 use std::marker::Brand;
 use std::process::Abort;
 use std::sync::Wait;
+use std::sync::ledger::{Blank, Book, Share};
 use std::test::*;
 
 /// The query for all of cat1.example., with ID 1, after its length (RFC 5936 section 2.1).
@@ -34,14 +35,17 @@ pub fn begin<R: Abort + Wait, J: Naming>(
     rt: &R,
     alloc: Global,
     publisher: Publisher,
+    starved: Book<J>,
 ) -> Shared<MemorySink, J>
-    requires { (publisher.list ≡ []) × (publisher.staged ≡ None) × (publisher.book ≡ J.publisher) }
+    requires publisher { (publisher.list ≡ []) × (publisher.staged ≡ None)
+        × (publisher.book ≡ J.publisher) }
+    requires starved { starved.total ≡ 0 }
 {
     let Ok(config) = config(rt, alloc, CATALOG) else {
         panic!(rt; "out of memory");
     };
     let output = MemorySink::new(alloc, Vec::new(alloc));
-    match Provisioner::start(rt, alloc, config, publisher, output) {
+    match Provisioner::start(rt, alloc, config, publisher, output, starved) {
         Ok(provisioner) => Locked::over(provisioner),
         Err(_) => panic!(rt; "out of memory"),
     }
@@ -54,6 +58,7 @@ pub fn written<R: Wait, J: Naming>(rt: &R, shared: Shared<MemorySink, J>) -> Mem
         publisher,
         output,
         log_failed: _,
+        starved: _,
     } = shared.close().close();
     publisher.close(rt);
     output
@@ -80,15 +85,18 @@ fn work<R: Abort + Wait, J: Naming>(
     alloc: Global,
     shared: &Shared<MemorySink, J>,
     reading: &mut Reading,
+    share: &mut Share<J>,
     dialer: &mut MemoryDialer,
 ) -> Report
     requires reading { (reading.old.is_out ≡ false) × (reading.old.book ≡ J.publisher) }
+    requires part { 0 < share.old.parts }
     requires dialer { dialer.old.out ≡ None }
     ensures same { reading.new ≡ record reading.old { list = reading.new.list } }
+    ensures parts { share.new.parts ≡ share.old.parts }
     ensures back { dialer.new.out ≡ None }
 {
     let mut clock = clock(alloc, 0);
-    work_one(rt, alloc, shared, reading, dialer, &mut clock).report
+    work_one(rt, alloc, shared, reading, share, dialer, &mut clock).report
 }
 
 /// That the catalog is published, and that its one link came back of its primary, which was asked for it.
@@ -111,20 +119,24 @@ fn fail<R: Abort + Wait, J: Naming>(
     rt: &R,
     alloc: Global,
     desk: (Publisher, Reading),
+    ledger: Blank,
     one: &mut MemoryDialer,
     other: &mut MemoryDialer,
 ) -> MemorySink
     requires publisher { (desk.0.list ≡ []) × (desk.0.staged ≡ None)
         × (desk.0.book ≡ J.publisher) }
     requires reading { IsFresh J.publisher desk.1 }
+    requires ledger { (ledger.name ≡ J.name) × (ledger.parts ≡ J.parts)
+        × (0 < ledger.parts) }
     requires dialers { (one.old.out ≡ None) × (other.old.out ≡ None) }
 {
     let (publisher, mut reading) = desk;
-    let shared: Shared<MemorySink, J> = begin(rt, alloc, publisher);
-    let published = work(rt, alloc, &shared, &mut reading, one);
+    let (starved, mut share) = ledger.open::<J>();
+    let shared: Shared<MemorySink, J> = begin(rt, alloc, publisher, starved);
+    let published = work(rt, alloc, &shared, &mut reading, &mut share, one);
     expect_published(rt, &published, one);
-    let failed = work(rt, alloc, &shared, &mut reading, other);
-    let idle = work(rt, alloc, &shared, &mut reading, other);
+    let failed = work(rt, alloc, &shared, &mut reading, &mut share, other);
+    let idle = work(rt, alloc, &shared, &mut reading, &mut share, other);
     expect_failed(rt, (&failed, &idle), reading.count(), other.faults());
     written(rt, shared)
 }
@@ -141,7 +153,7 @@ fn expect_fault<R: Abort + Wait>(
     let mut one = listing_dialer(rt, alloc)?;
     let mut other = dialer(alloc, STREAM.to_vec(alloc)?, row.0, row.1)?;
     let desk = open_one(rt, alloc);
-    let output = fail::<R, Brand>(rt, alloc, desk, &mut one, &mut other);
+    let output = fail::<R, Brand>(rt, alloc, desk, Blank::new(1), &mut one, &mut other);
     assert_eq!(rt; output.written(), FAILED, "{row:?}");
     Ok(())
 }
@@ -159,17 +171,29 @@ fn serve<R: Abort + Wait, J: Naming>(
     rt: &R,
     alloc: Global,
     desk: (Publisher, Reading),
+    ledger: Blank,
     dialer: &mut MemoryDialer,
 ) -> (Transfers, MemorySink)
     requires publisher { (desk.0.list ≡ []) × (desk.0.staged ≡ None)
         × (desk.0.book ≡ J.publisher) }
     requires reading { IsFresh J.publisher desk.1 }
+    requires ledger { (ledger.name ≡ J.name) × (ledger.parts ≡ J.parts)
+        × (0 < ledger.parts) }
     requires dialer { dialer.old.out ≡ None }
 {
     let (publisher, mut reading) = desk;
+    let (starved, mut share) = ledger.open::<J>();
     let mut clock = clock(alloc, 1);
-    let shared: Shared<MemorySink, J> = begin(rt, alloc, publisher);
-    let done = serve_transfers(rt, alloc, &shared, &mut reading, dialer, &mut clock);
+    let shared: Shared<MemorySink, J> = begin(rt, alloc, publisher, starved);
+    let done = serve_transfers(
+        rt,
+        alloc,
+        &shared,
+        &mut reading,
+        &mut share,
+        dialer,
+        &mut clock,
+    );
     (done, written(rt, shared))
 }
 
@@ -185,7 +209,7 @@ fn a_worker_goes_on_until_its_clock_stops_it(rt: HostRuntime) -> Result<(), Allo
     let alloc = rt.alloc();
     let mut dialer = listing_dialer(&rt, alloc)?;
     let desk = open_one(&rt, alloc);
-    let (done, output) = serve::<HostRuntime, Brand>(&rt, alloc, desk, &mut dialer);
+    let (done, output) = serve::<HostRuntime, Brand>(&rt, alloc, desk, Blank::new(1), &mut dialer);
     expect_stopped(&rt, &done, &dialer);
     assert_eq!(&rt; output.written(), FAILED);
     Ok(())

@@ -5,8 +5,10 @@ use Rattle.dz_timer.specs.Timing.{Timing, is_due, succeeded, failed, ended, noti
 -- a NOTIFY makes a zone due: at once, or at the end of the job in flight, however it ends
 pub record IsDueAfterNotify (timing : Timing) (now : ℕ) : Type 0 where
   pub idle : timing.busy ≡ false → is_due (notified timing) now ≡ true
-  pub success : timing.busy ≡ true → (moment refresh : ℕ) → is_due (succeeded (notified timing) moment refresh) now ≡ true
-  pub failure : timing.busy ≡ true → (moment : ℕ) (retry : Option ℕ) → is_due (failed (notified timing) moment retry) now ≡ true
+  pub success : timing.busy ≡ true → (moment refresh : ℕ)
+      → is_due (succeeded (notified timing) moment refresh) now ≡ true
+  pub failure : timing.busy ≡ true → (moment : ℕ) (retry : Option ℕ)
+      → is_due (failed (notified timing) moment retry) now ≡ true
   pub neither : timing.busy ≡ true → is_due (ended (notified timing)) now ≡ true
 
 -- every NOTIFY makes the zone due

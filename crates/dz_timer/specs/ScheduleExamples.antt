@@ -20,7 +20,8 @@ failure_asks_the_next = refl
 failure_waits_for_retry : (failed asking 115 (Some 60) 3).timing.next ≡ 175
 failure_waits_for_retry = refl
 
-three_failures_ask_the_first_again : (failed (departed (failed (departed (failed asking 115 (Some 60) 3)) 175 (Some 60) 3)) 235 (Some 60) 3).turn ≡ 0
+three_failures_ask_the_first_again :
+    (failed (departed (failed (departed (failed asking 115 (Some 60) 3)) 175 (Some 60) 3)) 235 (Some 60) 3).turn ≡ 0
 three_failures_ask_the_first_again = refl
 
 one_primary_is_asked_again : (failed asking 115 (Some 60) 1).turn ≡ 0
@@ -29,7 +30,8 @@ one_primary_is_asked_again = refl
 failure_asks_for_the_same : (failed asking 115 None 3).whole ≡ false
 failure_asks_for_the_same = refl
 
-refusal_asks_for_the_whole : refused asking 115 (Some 60) 3 ≡ record { timing = record { next = 175; again = false; busy = false }; whole = true; turn = 1 }
+refusal_asks_for_the_whole : refused asking 115 (Some 60) 3
+    ≡ record { timing = record { next = 175; again = false; busy = false }; whole = true; turn = 1 }
 refusal_asks_for_the_whole = refl
 
 failure_keeps_the_whole : (failed (departed (refused asking 115 (Some 60) 3)) 175 (Some 60) 3).whole ≡ true
@@ -38,10 +40,12 @@ failure_keeps_the_whole = refl
 success_asks_for_differences : (succeeded (departed (refused asking 115 (Some 60) 3)) 175 100).whole ≡ false
 success_asks_for_differences = refl
 
-notify_keeps_the_whole_and_the_turn : notified (refused asking 115 (Some 60) 3) ≡ record { timing = record { next = 0; again = false; busy = false }; whole = true; turn = 1 }
+notify_keeps_the_whole_and_the_turn : notified (refused asking 115 (Some 60) 3)
+    ≡ record { timing = record { next = 0; again = false; busy = false }; whole = true; turn = 1 }
 notify_keeps_the_whole_and_the_turn = refl
 
-other_primaries_keep_the_wait : turned_back (refused asking 115 (Some 60) 3) ≡ record { timing = record { next = 175; again = false; busy = false }; whole = true; turn = 0 }
+other_primaries_keep_the_wait : turned_back (refused asking 115 (Some 60) 3)
+    ≡ record { timing = record { next = 175; again = false; busy = false }; whole = true; turn = 0 }
 other_primaries_keep_the_wait = refl
 
 -- a zone that waits for this moment

@@ -15,13 +15,16 @@ pub record IsLeast (zones : List ValuesOf) (place : ℕ) (values : ValuesOf) : T
 
 -- the first zone is the least in this sense
 abbrev pub FirstIsLeast : Type 0
-FirstIsLeast = (zones : List ValuesOf) (place : ℕ) → position (is_first zones) zones ≡ Some place → (values : ValuesOf) × IsLeast zones place values
+FirstIsLeast = (zones : List ValuesOf) (place : ℕ) → position (is_first zones) zones ≡ Some place
+    → (values : ValuesOf) × IsLeast zones place values
 
 -- there is no first zone exactly where each zone has a job in flight
 abbrev pub NoneIsIdle : Type 0
-NoneIsIdle = (zones : List ValuesOf) → (position (is_first zones) zones ≡ None) ↔ All (λ values. values.timing.busy ≡ true) zones
+NoneIsIdle = (zones : List ValuesOf)
+    → (position (is_first zones) zones ≡ None) ↔ All (λ values. values.timing.busy ≡ true) zones
 
 -- some zone is due exactly where the first zone is
 abbrev pub FirstIsDue : Type 0
-FirstIsDue = (zones : List ValuesOf) (place : ℕ) (values : ValuesOf) (now : ℕ) → position (is_first zones) zones ≡ Some place → slice_get zones place ≡ Some values
+FirstIsDue = (zones : List ValuesOf) (place : ℕ) (values : ValuesOf) (now : ℕ)
+    → position (is_first zones) zones ≡ Some place → slice_get zones place ≡ Some values
     → list_any (λ other. is_due other.timing now) zones ≡ is_due values.timing now

@@ -1,6 +1,7 @@
 -- Meaning: when the next job of a zone is due, and how long a version answers (RFC 1035 section 3.3.13, RFC 1996
 -- section 3.11).
-use Rattle.std.specs.Prelude.{ℕ, ◌+◌, Bool, true, false, not, ◌&&◌, ◌||◌, nat_le, nat_lt, max, Option, Some, None, if◌then◌else◌}
+use Rattle.std.specs.Prelude.{ℕ, ◌+◌, Bool, true, false, not, ◌&&◌, ◌||◌, nat_le, nat_lt, max, Option, Some, None}
+use Rattle.std.specs.Prelude.{if◌then◌else◌}
 use Rattle.dz_timer.specs.declared.timer.TheConstants.{UNHELD_RETRY}
 
 -- the timing of a zone: the moment in seconds from which its next job is due, whether a NOTIFY came while a job was in
@@ -43,8 +44,8 @@ failed timing now None = ended_at timing (now + UNHELD_RETRY)
 abbrev pub ended : Timing → Timing
 ended timing = ended_at timing timing.next
 
--- a NOTIFY makes the zone due at once, as if its REFRESH had passed (RFC 1996 section 3.11); where a job is in flight, it
--- is due again at the end of that job
+-- a NOTIFY makes the zone due at once, as if its REFRESH had passed (RFC 1996 section 3.11); where a job is in flight,
+-- it is due again at the end of that job
 abbrev pub notified : Timing → Timing
 notified timing = record timing { next = 0; again = timing.busy || timing.again }
 

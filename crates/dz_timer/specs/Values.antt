@@ -3,8 +3,8 @@ use Rattle.std.specs.Prelude.{ℕ, ◌+◌, ◌%◌, Bool, true, false, Option}
 use Rattle.dz_timer.specs.Timing.{Timing}
 use Rattle.dz_timer.specs.Timing as timer
 
--- the values of a zone: its timing, whether its next job asks for the whole zone, and the number of the primary that it
--- asks
+-- the values of a zone: its timing, whether its next job asks for the whole zone, and the number of the primary that
+-- it asks
 pub record ValuesOf : Type 0 where
   pub timing : Timing
   pub whole : Bool
@@ -20,7 +20,8 @@ departed values = record values { timing = timer.departed values.timing }
 
 -- after a success differences are asked for again (RFC 1995 section 4), of the same primary
 abbrev pub succeeded : ValuesOf → ℕ → ℕ → ValuesOf
-succeeded values moment refresh = record values { timing = timer.succeeded values.timing moment refresh; whole = false }
+succeeded values moment refresh =
+    record values { timing = timer.succeeded values.timing moment refresh; whole = false }
 
 -- the number of the primary after this one, of the given number, in rotation
 abbrev pub next_turn : ℕ → ℕ → ℕ
@@ -28,7 +29,8 @@ next_turn turn primaries = (turn + 1) % primaries
 
 -- after a failure the next primary is asked for the same as before
 abbrev pub failed : ValuesOf → ℕ → Option ℕ → ℕ → ValuesOf
-failed values now retry primaries = record values { timing = timer.failed values.timing now retry; turn = next_turn values.turn primaries }
+failed values now retry primaries =
+    record values { timing = timer.failed values.timing now retry; turn = next_turn values.turn primaries }
 
 -- a response that isn't accepted is a failure, and the whole zone is asked for next (RFC 1995 section 4)
 abbrev pub refused : ValuesOf → ℕ → Option ℕ → ℕ → ValuesOf

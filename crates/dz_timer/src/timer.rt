@@ -1,7 +1,8 @@
 //! The timing of one zone.
 
 ghost use Rattle.std.specs.Prelude.{◌≡◌, ◌<◌, ◌^◌, true, false};
-ghost use Rattle.dz_timer.specs.Timing.{fresh, is_due, departed, wait, ended_at, succeeded, failed, ended, notified, is_live};
+ghost use Rattle.dz_timer.specs.Timing.{fresh, is_due, departed, wait, ended_at, succeeded, failed, ended, notified};
+ghost use Rattle.dz_timer.specs.Timing.{is_live};
 
 use std::marker::Model;
 use std::mem::size_of;

@@ -1,6 +1,7 @@
 //! The first of the earliest of many moments, by a tournament.
 
-ghost use Rattle.std.specs.Prelude.{◌≡◌, ◌+◌, ◌<◌, ◌^◌, length, map, slice_set, slice_index, IfOk, IfSome, IfNone, false};
+ghost use Rattle.std.specs.Prelude.{◌≡◌, ◌+◌, ◌<◌, ◌^◌, length, map, slice_set, slice_index, IfOk, IfSome, IfNone};
+ghost use Rattle.std.specs.Prelude.{false};
 ghost use Rattle.std.specs.List.{All};
 ghost use Rattle.dz_timer.specs.inner.Tournament.{IsTournament, AreOwn, IsFirstOfLeast, IsSoon, moments, wait_of};
 

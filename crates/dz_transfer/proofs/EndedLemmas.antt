@@ -1,5 +1,6 @@
--- What has not ended by a list is ended by an entry behind it.
-use Rattle.std.proofs.Common.{◌≡◌, ℕ, ◌≤◌, List, [], ◌∷◌, ◌++◌, length, fold, None, Some, refl, sym, ◌∙◌, arith, inl, inr}
+-- What has not ended by a list is ended by an entry after it.
+use Rattle.std.proofs.Common.{◌≡◌, ℕ, ◌≤◌, List, [], ◌∷◌, ◌++◌, length, fold, None, Some, refl, sym, ◌∙◌, arith, inl}
+use Rattle.std.proofs.Common.{inr}
 use Rattle.std.proofs.lemmas.Bool.{cases_Bool}
 use mathlib.Core.List.{IsPrefix}
 use Rattle.dz_name.specs.Words.{Name}
@@ -22,7 +23,8 @@ rest_legal s [] fs legal = legal
 rest_legal s (e ∷ es) fs legal = rest_legal (step s e) es fs legal.1
 
 module _ (zone : Name) (i : ℕ) where
-  ended_rest : (s : State) (es fs : List Entry) → ended_from s es zone i ≡ None → ended_from s (es ++ fs) zone i ≡ ended_from (fold step s es) fs zone i
+  ended_rest : (s : State) (es fs : List Entry) → ended_from s es zone i ≡ None
+      → ended_from s (es ++ fs) zone i ≡ ended_from (fold step s es) fs zone i
   unfolding ended_from
   ended_rest s [] fs none = refl
   ended_rest s (e ∷ es) fs none = elim (cases_Bool (ends s e zone i)) [
@@ -30,7 +32,8 @@ module _ (zone : Name) (i : ℕ) where
     | inr f ↦ rw f (ended_rest (step s e) es fs (rw f at none))
   ]
 
-  ended_behind : (s : State) (fs : List Entry) (n : ℕ) → IsLegalFrom s fs → ended_from s fs zone i ≡ Some n → s.count ≤ n
+  ended_behind : (s : State) (fs : List Entry) (n : ℕ) → IsLegalFrom s fs → ended_from s fs zone i ≡ Some n
+      → s.count ≤ n
   unfolding ended_from IsLegalFrom
   ended_behind s [] n legal some = absurd (cc)
   ended_behind s (e ∷ fs) n legal some = elim (cases_Bool (ends s e zone i)) [
@@ -38,10 +41,13 @@ module _ (zone : Name) (i : ℕ) where
     | inr f ↦ omega (arith, count_one s e legal.0, ended_behind (step s e) fs n legal.1 (rw f at some))
   ]
 
-  parts : (list more : List Entry) (n : ℕ) → IsLegal (list ++ more) → ended list zone i ≡ None → ended (list ++ more) zone i ≡ Some n → length list ≤ n
+  parts : (list more : List Entry) (n : ℕ) → IsLegal (list ++ more) → ended list zone i ≡ None
+      → ended (list ++ more) zone i ≡ Some n → length list ≤ n
   parts list more n legal none some =
-      let rest = ended_behind (fold step nothing list) more n (rest_legal nothing list more legal) (sym (ended_rest nothing list more none) ∙ some) in
+      let rest = ended_behind (fold step nothing list) more n (rest_legal nothing list more legal)
+      (sym (ended_rest nothing list more none) ∙ some) in
       omega (arith, rest, count_from nothing list (front_legal nothing list more legal))
 
-  pub ended_late : (list later : List Entry) (n : ℕ) → IsPrefix list later → IsLegal later → ended list zone i ≡ None → ended later zone i ≡ Some n → length list ≤ n
+  pub ended_late : (list later : List Entry) (n : ℕ) → IsPrefix list later → IsLegal later → ended list zone i ≡ None
+      → ended later zone i ≡ Some n → length list ≤ n
   ended_late list later n p legal none some = parts list p.0 n (rw (sym p.1) at legal) none (rw (sym p.1) at some)

@@ -1,4 +1,5 @@
 pub mod EndedLemmas
+pub mod NotedLemmas
 pub mod ServeLemmas
 pub mod StepLemmas
 pub mod WorkLemmas

@@ -1,5 +1,6 @@
 -- Answer: what a transfer worker shows of all its dials.
-use Rattle.std.specs.Prelude.{⊤, ◌≡◌, ◌≤◌, ◌<◌, ◌⊎◌, ◌+◌, ◌-◌, ◌^◌, ℕ, Bool, true, false, List, [], ◌∷◌, ◌++◌, length, take, option_to_list, Option}
+use Rattle.std.specs.Prelude.{⊤, ◌≡◌, ◌≤◌, ◌<◌, ◌⊎◌, ◌+◌, ◌-◌, ◌^◌, ℕ, Bool, true, false, List, [], ◌∷◌, ◌++◌, length}
+use Rattle.std.specs.Prelude.{take, option_to_list, Option}
 use Rattle.dz_io.specs.Counts.{HasRisen, HasRisenBy}
 use Rattle.dz_io.specs.Device.{Gains}
 use Rattle.dz_io.specs.Links.{Dialled}
@@ -13,8 +14,8 @@ use Rattle.dz_transfer.specs.declared.serve.Transfers.{Transfers}
 use Rattle.dz_transfer.specs.declared.serve.TransferEnd.TheVariants as ends
 use Rattle.dz_transfer.specs.Receipts.{IsDialFor}
 
--- a call that dialled: its job, its link where the dial came about, how the job ended if it did, the length of the list that
--- was seen then, and the report
+-- a call that dialled: its job, its link where the dial came about, how the job ended if it did, the length of the
+-- list that was seen then, and the report
 pub record Dial : Type 0 where
   pub job : JobOf
   pub link : Option Dialled
@@ -31,11 +32,12 @@ abbrev pub endings_in : List Dial → List EndingOf
 endings_in [] = []
 endings_in (d ∷ ds) = option_to_list d.ending ++ endings_in ds
 
--- each dial has a report of its own, by a beginning of the list. These beginnings never shrink, and what a report tells is
--- no older than the beginning before it
+-- each dial has a report of its own, by a beginning of the list. These beginnings never shrink, and what a report
+-- tells is no older than the beginning before it
 abbrev pub IsServed : ℕ → List Entry → List Dial → Type 0
 IsServed from list [] = from ≤ length list
-IsServed from list (d ∷ ds) = (from ≤ d.upto) × (IsDialFor d.answer d.job d.link d.ending from (take d.upto list) × IsServed d.upto list ds)
+IsServed from list (d ∷ ds) =
+    (from ≤ d.upto) × (IsDialFor d.answer d.job d.link d.ending from (take d.upto list) × IsServed d.upto list ds)
 
 -- how many dials were told as these: a fault of the link, which the count of faults covers; and the two that leave no
 -- trace in the links, no job in flight and want of memory
@@ -77,10 +79,12 @@ LogFaultIsLast [] = ⊤
 LogFaultIsLast (d ∷ []) = ⊤
 LogFaultIsLast (d ∷ e ∷ ds) = (d.answer ≡ report.LogFault → ⊥) × LogFaultIsLast (e ∷ ds)
 
--- what a transfer worker did, from a length of the seen list to a seen list: the links of these dials joined those that
--- came back to the dialer, its count of faults covers theirs, and its own counts and endings are those of the dials. The
--- log's fault is told of a dial only where the worker ended by it
-pub record IsTransfers (done : Transfers) (from : ℕ) (list : List Entry) (before after : Option (List Dialled)) (faults now : ℕ) : Type 0 where
+-- what a transfer worker did, from a length of the seen list to a seen list: the links of these dials joined those
+-- that came back to the dialer, its count of faults covers theirs, and its own counts and endings are those of the
+-- dials. As many lines of want of memory were written as dials ended for want of memory. The log's fault is told of a
+-- dial only where the worker ended by it
+pub record IsTransfers (done : Transfers) (lines : ℕ) (from : ℕ) (list : List Entry)
+    (before after : Option (List Dialled)) (faults now : ℕ) : Type 0 where
   pub dials : List Dial
   pub gains : Gains (links_in dials) before after
   pub served : IsServed from list dials
@@ -88,6 +92,7 @@ pub record IsTransfers (done : Transfers) (from : ℕ) (list : List Entry) (befo
   pub counted : HasRisenBy (link_faults dials) faults now
   pub absent : Counts (sum_of absent_of dials) done.absent
   pub starved : Counts (sum_of starved_of dials) done.starved
+  pub noted : lines ≡ sum_of starved_of dials
   pub shown : DialsShow done.dialed dials faults now
   pub last : LogFaultIsLast dials
   pub stopped : done.end ≡ ends.Stopped → HaveNoLogFault dials

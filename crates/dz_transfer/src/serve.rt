@@ -1,6 +1,6 @@
 //! The work of a transfer worker.
 
-ghost use Rattle.std.specs.Prelude.{◌≡◌, ◌≤◌, ◌+◌, false, true, [], length, None};
+ghost use Rattle.std.specs.Prelude.{◌≡◌, ◌≤◌, ◌<◌, ◌+◌, false, true, [], length, None};
 ghost use Rattle.std.specs.List.{All};
 ghost use mathlib.Core.List.{IsPrefix};
 ghost use Rattle.dz_provision.specs.Endings.{EndsAmong};
@@ -14,6 +14,7 @@ use dz_io::{Clock, Dialer, Rest};
 use dz_provision::{Endings, Jobs};
 use std::alloc::Global;
 use std::sync::Wait;
+use std::sync::ledger::Share;
 
 /// Why a transfer worker ended.
 #[derive(Clone, Copy, Debug, PartialEq, Eq)]
@@ -39,23 +40,28 @@ pub struct Transfers {
 }
 
 /// Makes transfers until the clock says that it is enough, or a write to the log has failed. It rests between two of them,
-/// longer where nothing can be done for now.
+/// longer where nothing can be done for now. The share, which counts nothing yet, counts the lines that its calls write of
+/// want of memory.
 #[tactic(auto, using(dz_desk::proofs::PrefixLemmas::prefix_self, dz_desk::proofs::PrefixLemmas::prefix_trans))]
 pub fn serve_transfers<B: Jobs, D: Dialer, C: Clock, R: Wait>(
     rt: &R,
     alloc: Global,
     jobs: &B,
     reading: &mut Reading,
+    share: &mut Share<B::Counted>,
     dialer: &mut D,
     clock: &mut C,
 ) -> Transfers
     requires out { reading.old.is_out ≡ false }
     requires own { reading.old.book ≡ B.publisher }
+    requires share { (share.old.amount ≡ 0) × (0 < share.old.parts) }
     requires dialer { D.out dialer.old ≡ None }
     ensures same { reading.new ≡ record reading.old { list = reading.new.list } }
     ensures seen { IsPrefix reading.old.list reading.new.list }
     ensures back { D.out dialer.new ≡ None }
-    ensures served { IsTransfers result (length reading.old.list) reading.new.list
+    ensures parts { share.new.parts ≡ share.old.parts }
+    ensures served { IsTransfers result share.new.amount
+        (length reading.old.list) reading.new.list
         (D.links dialer.old) (D.links dialer.new) (D.faults dialer.old) (D.faults dialer.new) }
     ensures later { D.faults dialer.old ≤ D.faults dialer.new }
     ensures moments { All (EndsAmong (C.may_give clock.old)) result.endings }
@@ -66,7 +72,7 @@ pub fn serve_transfers<B: Jobs, D: Dialer, C: Clock, R: Wait>(
 {
     let mut done = nothing();
     'jobs: for _ in rt.forever() {
-        let worked = work_one(rt, alloc, jobs, reading, dialer, clock);
+        let worked = work_one(rt, alloc, jobs, reading, share, dialer, clock);
         let report = worked.report;
         done = joined(done, worked);
         if is_log_fault(&report) {

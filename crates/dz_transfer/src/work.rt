@@ -1,9 +1,9 @@
 //! One call of a transfer worker.
 
-ghost use Rattle.std.specs.Prelude.{◌≡◌, ◌≤◌, None, true, false, length, IfSome};
+ghost use Rattle.std.specs.Prelude.{◌≡◌, ◌≤◌, ◌<◌, ◌+◌, None, true, false, length, IfSome};
 ghost use mathlib.Core.List.{IsPrefix};
 ghost use Rattle.dz_io.specs.Counts.{HasRisen};
-ghost use Rattle.dz_provision.specs.Endings.{EndsAmong};
+ghost use Rattle.dz_provision.specs.Endings.{EndsAmong, starved_in};
 ghost use Rattle.dz_provision.specs.Receipts.{IsDueAt};
 ghost use Rattle.dz_transfer.specs.Receipts.{HasDialled, IsWork, LeavesDialer, IsAtMoment};
 ghost use Rattle.dz_transfer.specs.inner.Marks.{is_busy};
@@ -16,6 +16,7 @@ use dz_io::{Clock, Dialer};
 use dz_provision::{Ending, Jobs};
 use std::alloc::Global;
 use std::sync::Wait;
+use std::sync::ledger::Share;
 
 /// What one call came to, whether it dialled, and how its job ended, where it did.
 #[derive(Drop)]
@@ -27,18 +28,20 @@ pub struct Worked {
 
 /// Asks for a job, and where there is one makes its transfer: it dials the job's primary, reads what it gives, and ends the
 /// job by that. Nothing is locked while it reads. The clock is asked for the moment of the job, and once the link was given
-/// back for that of its end.
+/// back for that of its end. The share counts the line that is written of want of memory.
 #[tactic(auto, using(dz_desk::proofs::PrefixLemmas::prefix_trans))]
 pub fn work_one<B: Jobs, D: Dialer, C: Clock, R: Wait>(
     rt: &R,
     alloc: Global,
     jobs: &B,
     reading: &mut Reading,
+    share: &mut Share<B::Counted>,
     dialer: &mut D,
     clock: &mut C,
 ) -> Worked
     requires out { reading.old.is_out ≡ false }
     requires own { reading.old.book ≡ B.publisher }
+    requires part { 0 < share.old.parts }
     requires dialer { D.out dialer.old ≡ None }
     ensures same { reading.new ≡ record reading.old { list = reading.new.list } }
     ensures seen { IsPrefix reading.old.list reading.new.list }
@@ -53,6 +56,8 @@ pub fn work_one<B: Jobs, D: Dialer, C: Clock, R: Wait>(
         → HasRisen (D.faults dialer.old) (D.faults dialer.new) }
     ensures memory { result.report ≡ Report.OutOfMemory
         → D.faults dialer.new ≡ D.faults dialer.old }
+    ensures parts { share.new.parts ≡ share.old.parts }
+    ensures counted { share.new.amount ≡ share.old.amount + starved_in result.ending }
     ensures log { result.report ≡ Report.LogFault → B.may_fail }
     ensures moment { IsAtMoment result.report (C.may_give clock.old) }
     ensures ended { IfSome result.ending (EndsAmong (C.may_give clock.old)) }
@@ -66,22 +71,24 @@ pub fn work_one<B: Jobs, D: Dialer, C: Clock, R: Wait>(
             dialed: false,
             ending: None,
         },
-        Ok(job) => transfer(rt, alloc, jobs, reading, dialer, clock, job),
+        Ok(job) => transfer(rt, alloc, jobs, reading, share, dialer, clock, job),
     }
 }
 
-/// Makes the transfer of a job and ends the job.
+/// Makes the transfer of a job and ends the job, and the share counts its line of want of memory.
 fn transfer<B: Jobs, D: Dialer, C: Clock, R: Wait>(
     rt: &R,
     alloc: Global,
     jobs: &B,
     reading: &mut Reading,
+    share: &mut Share<B::Counted>,
     dialer: &mut D,
     clock: &mut C,
     job: Job,
 ) -> Worked
     requires out { reading.old.is_out ≡ false }
     requires own { reading.old.book ≡ B.publisher }
+    requires part { 0 < share.old.parts }
     requires dialer { D.out dialer.old ≡ None }
     requires due { IsDueAt job reading.old.list }
     ensures same { reading.new ≡ record reading.old { list = reading.new.list } }
@@ -97,6 +104,8 @@ fn transfer<B: Jobs, D: Dialer, C: Clock, R: Wait>(
         → HasRisen (D.faults dialer.old) (D.faults dialer.new) }
     ensures memory { result.report ≡ Report.OutOfMemory
         → D.faults dialer.new ≡ D.faults dialer.old }
+    ensures parts { share.new.parts ≡ share.old.parts }
+    ensures counted { share.new.amount ≡ share.old.amount + starved_in result.ending }
     ensures log { result.report ≡ Report.LogFault → B.may_fail }
     ensures ended { IfSome result.ending (EndsAmong (C.may_give clock.old)) }
     ensures give { C.may_give clock.new ≡ C.may_give clock.old }
@@ -105,7 +114,7 @@ fn transfer<B: Jobs, D: Dialer, C: Clock, R: Wait>(
     match fetch(alloc, dialer, &job) {
         Fetched::Finished(finished) => {
             let now = clock.now();
-            let ended = jobs.settle(rt, alloc, reading, job, finished, now);
+            let ended = jobs.settle(rt, alloc, reading, share, job, finished, now);
             dialled(settled_report(ended.answer), ended.ending)
         }
         Fetched::LinkFault => {
@@ -115,7 +124,7 @@ fn transfer<B: Jobs, D: Dialer, C: Clock, R: Wait>(
         }
         Fetched::OutOfMemory => {
             let now = clock.now();
-            let ended = jobs.starve(rt, reading, job, now);
+            let ended = jobs.starve(rt, reading, share, job, now);
             dialled(
                 failed_report(ended.answer, Report::OutOfMemory),
                 ended.ending,

@@ -1,5 +1,6 @@
 -- Numbers of six octets, and how long MACs, TSIG records and signed messages are.
-use Rattle.std.proofs.Common.{◌≡◌, ℕ, zero, suc, ◌+◌, ◌*◌, ◌≤◌, ◌++◌, ◌∙◌, ap, refl, length, List, arith, append_assoc, length-append, length-drop}
+use Rattle.std.proofs.Common.{◌≡◌, ℕ, zero, suc, ◌+◌, ◌*◌, ◌≤◌, ◌++◌, ◌∙◌, ap, refl, length, List, arith, append_assoc}
+use Rattle.std.proofs.Common.{length-append, length-drop}
 use Rattle.std.proofs.lemmas.List.{length-take-le}
 use Rattle.dz_name.specs.Words.{Name, Octets}
 use Rattle.dz_name.specs.Name.{wire_of}
@@ -20,25 +21,29 @@ unfolding wire_of tsig_rdata
 rdata_long time mac id long = simp (length-append, length_two, length_six) (omega (arith, long))
 
 -- a TSIG record piece by piece
-pub tsig_joined : (key : Name) (time : ℕ) (mac : Octets) (id : ℕ) (old first second third : Octets) → length mac ≡ 32 → first ≡ old ++ wire_of key → second ≡ first ++ tsig_head 61
+pub tsig_joined : (key : Name) (time : ℕ) (mac : Octets) (id : ℕ) (old first second third : Octets) → length mac ≡ 32
+    → first ≡ old ++ wire_of key → second ≡ first ++ tsig_head 61
     → third ≡ second ++ tsig_rdata time mac id → third ≡ old ++ tsig_octets key time mac id
 unfolding tsig_octets
 tsig_joined key time mac id old first second third long a b c =
     let n : length (tsig_rdata time mac id) ≡ 61 = rdata_long time mac id long in
     rw n (c ∙ (ap (λ o. o ++ tsig_rdata time mac id) (b ∙ ap (λ o. o ++ tsig_head 61) a)
-    ∙ (append_assoc (old ++ wire_of key) (tsig_head 61) (tsig_rdata time mac id) ∙ append_assoc old (wire_of key) (tsig_head 61 ++ tsig_rdata time mac id))))
+    ∙ (append_assoc (old ++ wire_of key) (tsig_head 61) (tsig_rdata time mac id)
+    ∙ append_assoc old (wire_of key) (tsig_head 61 ++ tsig_rdata time mac id))))
 
 head_long : (size : ℕ) → length (tsig_head size) ≡ 10
 unfolding tsig_head two four
 head_long size = refl
 
 -- a message with a TSIG is as much longer as the TSIG is long
-pub with_tsig_long : (key : Name) (time : ℕ) (mac m : Octets) → length mac ≡ 32 → 12 ≤ length m → length (with_tsig key time mac m) ≡ length m + (length (wire_of key) + 71)
+pub with_tsig_long : (key : Name) (time : ℕ) (mac m : Octets) → length mac ≡ 32 → 12 ≤ length m
+    → length (with_tsig key time mac m) ≡ length m + (length (wire_of key) + 71)
 unfolding with_tsig tsig_octets
 with_tsig_long key time mac m long header =
     let rdata = tsig_rdata time mac (number_of_two m) in
     let size : length rdata ≡ 61 = rdata_long time mac (number_of_two m) long in
-    simp (length-append, length_two) (omega (arith, size, head_long (length rdata), length-take-le 10 m (omega (arith, header)), length-drop 12 m, header))
+    simp (length-append, length_two) (omega
+    (arith, size, head_long (length rdata), length-take-le 10 m (omega (arith, header)), length-drop 12 m, header))
 
 -- ---- a MAC has 32 octets
 digest_long : (h : List ℕ) (n : ℕ) → length (digest_bytes h n) ≡ 4 * n

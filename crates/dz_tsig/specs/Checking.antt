@@ -1,5 +1,6 @@
 -- Meaning: which streams of messages are signed with a key (RFC 8945 sections 5.2, 5.3.1 and 5.4).
-use Rattle.std.specs.Prelude.{◌≡◌, ℕ, ◌+◌, ◌-◌, Bool, true, false, ◌==◌, ◌&&◌, ◌||◌, not, nat_le, is_none, List, [], ◌∷◌, ◌++◌, Option, Some, None, Result, Ok, Err, if◌then◌else◌}
+use Rattle.std.specs.Prelude.{◌≡◌, ℕ, ◌+◌, ◌-◌, Bool, true, false, ◌==◌, ◌&&◌, ◌||◌, not, nat_le, is_none, List, []}
+use Rattle.std.specs.Prelude.{◌∷◌, ◌++◌, Option, Some, None, Result, Ok, Err, if◌then◌else◌}
 use Rattle.std.specs.Str.{bytes_eq}
 use Rattle.dz_name.specs.Words.{Octets}
 use Rattle.dz_name.specs.Name.{same_name}
@@ -79,7 +80,8 @@ none_follows (m ∷ ms) = false
 -- messages in a row; the fault is that of the first message that has one
 unfoldable pub steps : Key → ℕ → State → List Octets → Result State TsigFault
 steps key moment state [] = Ok state
-steps key moment state (m ∷ ms) = then_steps (λ next. steps key moment next ms) (step key moment (none_follows ms) state m)
+steps key moment state (m ∷ ms) =
+    then_steps (λ next. steps key moment next ms) (step key moment (none_follows ms) state m)
 
 -- the fault that a step led to, if it led to one
 abbrev pub fault_in : Result State TsigFault → Option TsigFault

@@ -22,12 +22,17 @@ pub record IsPlain (m : Octets) : Type 0 where
 
 -- what is signed has no fault at its moment
 abbrev pub SignedHasNoFault : Type 0
-SignedHasNoFault = (key : Key) (mac : Octets) (moment : ℕ) (ms : List Octets) → IsName key.name → moment < 2 ^ 48 → AllByRecursion IsPlain ms
-    → AreShort (signed_messages key moment mac ms) → tsig_fault key mac (stream (signed_messages key moment mac ms)) moment ≡ None
+SignedHasNoFault = (key : Key) (mac : Octets) (moment : ℕ) (ms : List Octets) → IsName key.name → moment < 2 ^ 48
+    → AllByRecursion IsPlain ms
+    → AreShort (signed_messages key moment mac ms)
+    → tsig_fault key mac (stream (signed_messages key moment mac ms)) moment ≡ None
 
 -- a stream without a fault has the fault Mac once the TSIG of a message has another MAC, whatever messages follow it
 abbrev pub ChangedMacIsFound : Type 0
-ChangedMacIsFound = (key : Key) (request : Octets) (moment : ℕ) (earlier later others : List Octets) (m other : Octets) (tsig : Tsig) (mac : Octets)
-    → AreShort (earlier ++ m ∷ later) → AreShort (earlier ++ other ∷ others) → tsig_fault key request (stream (earlier ++ m ∷ later)) moment ≡ None
-    → signature_of m ≡ Present tsig → signature_of other ≡ Present (record tsig { mac = mac }) → without_tsig other (record tsig { mac = mac }) ≡ without_tsig m tsig → mac ≢ tsig.mac
+ChangedMacIsFound = (key : Key) (request : Octets) (moment : ℕ) (earlier later others : List Octets) (m other : Octets)
+    (tsig : Tsig) (mac : Octets)
+    → AreShort (earlier ++ m ∷ later) → AreShort (earlier ++ other ∷ others)
+    → tsig_fault key request (stream (earlier ++ m ∷ later)) moment ≡ None
+    → signature_of m ≡ Present tsig → signature_of other ≡ Present (record tsig { mac = mac })
+    → without_tsig other (record tsig { mac = mac }) ≡ without_tsig m tsig → mac ≢ tsig.mac
     → tsig_fault key request (stream (earlier ++ other ∷ others)) moment ≡ Some faults.Mac

@@ -1,6 +1,7 @@
 -- Meaning: the TSIG of a message: absent, malformed, or a record that can be read (RFC 8945 sections 4.2 and 5.2).
 -- Questions and other records are passed over by their shape.
-use Rattle.std.specs.Prelude.{ℕ, zero, suc, ◌+◌, ◌-◌, ◌==◌, ◌&&◌, not, Bool, nat_lt, length, drop, slice_index, Option, Some, None, Ok, Err, if◌then◌else◌}
+use Rattle.std.specs.Prelude.{ℕ, zero, suc, ◌+◌, ◌-◌, ◌==◌, ◌&&◌, not, Bool, nat_lt, length, drop, slice_index, Option}
+use Rattle.std.specs.Prelude.{Some, None, Ok, Err, if◌then◌else◌}
 use Rattle.dz_name.specs.Words.{Octets}
 use Rattle.dz_name.specs.Reading.{Reading, name_at}
 use Rattle.dz_name.specs.declared.dns.TheConstants.{HEADER_OCTETS}
@@ -54,7 +55,8 @@ found m is_last octets x =
     if is_last && length x.2 == 0 then signed_by (tsig_at m (length m - length octets) x.0.head x.1)
     else Malformed
 
--- the TSIG among records of which the first has this shape; the flag says whether the last of them is an additional one
+-- the TSIG among records of which the first has this shape; the flag says whether the last of them is an additional
+-- one
 abbrev pub shown : Octets → Bool → Octets → (Octets → Signature) → Option (Shape × Octets × Octets) → Signature
 shown m is_last octets more None = Malformed
 shown m is_last octets more (Some x) =
@@ -74,7 +76,8 @@ count_in header k = slice_index header.counts k
 abbrev pub signature_after : Octets → Header → Option Octets → Signature
 signature_after m header None = Malformed
 signature_after m header (Some records) =
-    signature_among m (not (count_in header 3 == 0)) (count_in header 1 + count_in header 2 + count_in header 3) records
+    signature_among m (not (count_in header 3 == 0))
+    (count_in header 1 + count_in header 2 + count_in header 3) records
 
 -- the TSIG of a message; octets that aren't a message by their shape are malformed
 unfoldable pub signature_of : Octets → Signature

@@ -61,7 +61,8 @@ tsig_octets key time mac id = wire_of key ++ (tsig_head (length (tsig_rdata time
 -- a message to which a TSIG is added: one additional record more; its ID is the original ID
 unfoldable pub with_tsig : Name → ℕ → Octets → Octets → Octets
 with_tsig key time mac m =
-    take 10 m ++ (two (number_of_two (drop 10 m) + 1) ++ (drop HEADER_OCTETS m ++ tsig_octets key time mac (number_of_two m)))
+    take 10 m
+    ++ (two (number_of_two (drop 10 m) + 1) ++ (drop HEADER_OCTETS m ++ tsig_octets key time mac (number_of_two m)))
 
 -- the MAC of a query (RFC 8945 section 5.1)
 unfoldable pub request_mac : Key → Octets → ℕ → Octets

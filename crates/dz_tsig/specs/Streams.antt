@@ -12,11 +12,13 @@ use Rattle.dz_tsig.specs.declared.sign.TheConstants.{FUDGE}
 
 -- what is digested after a message that is signed: in the first one the variables, and in a later one the timers
 abbrev pub own_variables_or_timers : Key → ℕ → Bool → Octets
-own_variables_or_timers key moment is_first = if is_first then variables key.name moment FUDGE 0 [] else timers moment FUDGE
+own_variables_or_timers key moment is_first =
+    if is_first then variables key.name moment FUDGE 0 [] else timers moment FUDGE
 
 -- the MAC of a message that follows another MAC: that of the request, or that of the message before
 unfoldable pub next_mac : Key → ℕ → Bool → Octets → Octets → Octets
-next_mac key moment is_first prior m = hmac key.secret (mac_octets prior ++ m ++ own_variables_or_timers key moment is_first)
+next_mac key moment is_first prior m =
+    hmac key.secret (mac_octets prior ++ m ++ own_variables_or_timers key moment is_first)
 
 -- messages, each signed after the MAC of the one before
 unfoldable pub signed_from : Key → ℕ → Bool → Octets → List Octets → List Octets

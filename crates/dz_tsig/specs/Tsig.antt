@@ -1,5 +1,6 @@
 -- Meaning: TSIG records (RFC 8945 section 4.2).
-use Rattle.std.specs.Prelude.{ℕ, ◌+◌, ◌==◌, nat_lt, [], ◌∷◌, codes, length, take, drop, Option, Some, None, if◌then◌else◌}
+use Rattle.std.specs.Prelude.{ℕ, ◌+◌, ◌==◌, nat_lt, [], ◌∷◌, codes, length, take, drop, Option, Some, None}
+use Rattle.std.specs.Prelude.{if◌then◌else◌}
 use Rattle.dz_name.specs.Words.{Name, Octets}
 use Rattle.dz_name.specs.Numbers.{number_of_two}
 use Rattle.dz_tsig.specs.Numbers.{number_of_six}

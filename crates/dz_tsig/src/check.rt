@@ -3,7 +3,8 @@
 ghost use Rattle.std.specs.Prelude.{◌≡◌, ◌++◌, drop, is_none, ℕ, Option};
 ghost use Rattle.dz_name.specs.Words.{Octets};
 ghost use Rattle.dz_message.specs.Frame.{messages_in};
-ghost use Rattle.dz_tsig.specs.Checking.{Tells, first_state, is_of_key, is_timely, none_follows, signed_step, step, tsig_fault, unsigned_step};
+ghost use Rattle.dz_tsig.specs.Checking.{Tells, first_state, is_of_key, is_timely, none_follows, signed_step, step};
+ghost use Rattle.dz_tsig.specs.Checking.{tsig_fault, unsigned_step};
 ghost use Rattle.dz_tsig.specs.Hmac.{hmac};
 ghost use Rattle.dz_settings.specs.Key.{IsKey};
 ghost use Rattle.dz_tsig.specs.Signing.{mac_octets, variables, variables_or_timers, without_tsig};

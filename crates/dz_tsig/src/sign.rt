@@ -5,7 +5,8 @@ ghost use Rattle.dz_name.specs.Words.{Octets};
 ghost use Rattle.dz_name.specs.Name.{wire_of};
 ghost use Rattle.dz_name.specs.Numbers.{number_of_two};
 ghost use Rattle.dz_settings.specs.Key.{IsKey};
-ghost use Rattle.dz_tsig.specs.Signing.{error_other, id_error_other, mac_octets, owner_class_ttl, request_mac, with_tsig, signed, timers, tsig_head, tsig_octets, tsig_rdata, variables};
+ghost use Rattle.dz_tsig.specs.Signing.{error_other, id_error_other, mac_octets, owner_class_ttl, request_mac};
+ghost use Rattle.dz_tsig.specs.Signing.{with_tsig, signed, timers, tsig_head, tsig_octets, tsig_rdata, variables};
 ghost use Rattle.dz_tsig.specs.Tsig.{hmac_sha256};
 ghost use Rattle.dz_tsig.specs.inner.Hashing.{IsOf};
 

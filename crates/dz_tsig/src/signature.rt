@@ -2,7 +2,8 @@
 
 ghost use Rattle.std.specs.Prelude.{◌≡◌, ◌<◌, ◌≤◌, ◌+◌, ◌==◌, ◌&&◌, length, drop, option_map, IfSome};
 ghost use Rattle.dz_header.specs.Shape.{behind_owner};
-ghost use Rattle.dz_tsig.specs.Signature.{after_question, after_questions, count_in, found, signature_among, signature_after, signature_of};
+ghost use Rattle.dz_tsig.specs.Signature.{after_question, after_questions, count_in, found, signature_among};
+ghost use Rattle.dz_tsig.specs.Signature.{signature_after, signature_of};
 ghost use Rattle.dz_tsig.specs.inner.Places.{IsPlaced};
 
 use crate::tsig::{Tsig, tsig_at};

@@ -7,7 +7,8 @@ use Rattle.dz_xfr.specs.declared.fault.ShapeFault.{ShapeFault}
 use Rattle.dz_xfr.specs.declared.fault.ShapeFault.TheVariants.{AfterEnd}
 use Rattle.dz_xfr.specs.Stands.{Reading, more, complete, misfit}
 
--- where a reading is: amid the form; after its last record, with the zone's records; or after a record that doesn't fit
+-- where a reading is: amid the form; after its last record, with the zone's records; or after a record that doesn't
+-- fit
 pub data Place (X : Type 0) : Type 0 where
   amid : X → Place X
   ended : List Record → Place X

@@ -31,7 +31,9 @@ pub data Reading : Type 0 where
 -- form and none itself. Or no whole form goes on with some record, and the fault is that of the first such record
 pub data Stands (Form : Forms) (Blames : Blaming) (records : List Record) : Reading → Type 0 where
   is_complete : {zone : List Record} → Form records zone → Stands Form Blames records (complete zone)
-  after_end : (front rest : List Record) (r : Record) → records ≡ front ++ r ∷ rest → IsComplete Form front → Stands Form Blames records (misfit AfterEnd)
+  after_end : (front rest : List Record) (r : Record) → records ≡ front ++ r ∷ rest → IsComplete Form front
+      → Stands Form Blames records (misfit AfterEnd)
   is_front : GoesOn Form records → ¬ (IsComplete Form records) → Stands Form Blames records more
-  is_misfit : (front rest : List Record) (r : Record) {fault : ShapeFault} → records ≡ front ++ r ∷ rest → GoesOn Form front → ¬ (IsComplete Form front)
+  is_misfit : (front rest : List Record) (r : Record) {fault : ShapeFault} → records ≡ front ++ r ∷ rest
+      → GoesOn Form front → ¬ (IsComplete Form front)
       → ¬ (GoesOn Form (front ++ r ∷ [])) → Blames front r fault → Stands Form Blames records (misfit fault)

@@ -1,5 +1,7 @@
 -- The faults of records in any order, and of records in canonical order.
-use Rattle.std.proofs.Common.{◌≡◌, ℕ, ◌≤◌, Bool, true, false, not, ◌&&◌, ◌||◌, cond, List, [], ◌∷◌, length, refl, sym, ◌∙◌, ap, subst, arith, is_lt, Ordering, Less, Equal, Greater, Some, None, inl, inr, get_or, take, drop, suc, ◌-◌}
+use Rattle.std.proofs.Common.{◌≡◌, ℕ, ◌≤◌, Bool, true, false, not, ◌&&◌, ◌||◌, cond, List, [], ◌∷◌, length, refl, sym}
+use Rattle.std.proofs.Common.{◌∙◌, ap, subst, arith, is_lt, Ordering, Less, Equal, Greater, Some, None, inl, inr}
+use Rattle.std.proofs.Common.{get_or, take, drop, suc, ◌-◌}
 use Rattle.std.proofs.lemmas.List.{take_all}
 use Rattle.std.specs.Ordering.{ordering_reverse, ordering_then, nat_cmp}
 use Rattle.std.specs.Prelude.{All, filter, ◌==◌, nat_lt, if◌then◌else◌}
@@ -13,9 +15,12 @@ use Rattle.dz_name.specs.Order.{canonical_total, canonical_same, same_decides, n
 use Rattle.dz_record.specs.Record.{Record, IsRecord, record_order, soa_of}
 use Rattle.dz_record.specs.Records.{in_order}
 use Rattle.dz_zone.specs.inner.Neighbours.{neighbours_from, neighbours}
-use Rattle.dz_zone.specs.Valid.{some_two, at_apex, no_soa, soa_twice, soa_below, no_ns, out_of_zone, cname_beside, owned_twice, too_many, is_beside_any, is_cname_and_other, clash, both_are, fault_of}
-use Rattle.dz_zone.specs.declared.fault.ZoneFault.TheVariants.{NoSoa, SoaTwice, SoaBelow, NoNs, OutOfZone, CnameBeside, CnameTwice, DnameTwice, TooMany}
-use Rattle.dz_zone.proofs.Pairs.{any_puts, sum_puts, length_puts, two_puts, two_neighbours, ascends_filter, each_kept, each_true, two_filter, front_no, adjacent_answer}
+use Rattle.dz_zone.specs.Valid.{some_two, at_apex, no_soa, soa_twice, soa_below, no_ns, out_of_zone, cname_beside}
+use Rattle.dz_zone.specs.Valid.{owned_twice, too_many, is_beside_any, is_cname_and_other, clash, both_are, fault_of}
+use Rattle.dz_zone.specs.declared.fault.ZoneFault.TheVariants.{NoSoa, SoaTwice, SoaBelow, NoNs, OutOfZone, CnameBeside}
+use Rattle.dz_zone.specs.declared.fault.ZoneFault.TheVariants.{CnameTwice, DnameTwice, TooMany}
+use Rattle.dz_zone.proofs.Pairs.{any_puts, sum_puts, length_puts, two_puts, two_neighbours, ascends_filter, each_kept}
+use Rattle.dz_zone.proofs.Pairs.{each_true, two_filter, front_no, adjacent_answer}
 use Rattle.dz_zone.proofs.RecordLemmas.{before, rising_ascends, in_order_puts}
 
 lt_first : (a b : Ordering) → is_lt (ordering_then a b) ≡ false → is_lt a ≡ false
@@ -43,7 +48,8 @@ owner_between : (x y z : Record) → before y x ≡ false → before z y ≡ fal
 owner_between x y z a b e =
     let back : is_lt (canonical_order x.owner y.owner) ≡ false = rw (← e) at (owner_not_before y z b) in
     canonical_same x.owner y.owner
-    (neither (canonical_order y.owner x.owner) (canonical_order x.owner y.owner) (canonical_total.antisymm x.owner y.owner) (owner_not_before x y a) back)
+    (neither (canonical_order y.owner x.owner) (canonical_order x.owner y.owner)
+    (canonical_total.antisymm x.owner y.owner) (owner_not_before x y a) back)
 
 nat_not_before : (a b : ℕ) → is_lt (nat_cmp b a) ≡ false → a ≤ b
 nat_not_before a b h = grind (arith, nat_tests)
@@ -53,7 +59,8 @@ unfolding before
 kind_not_before x y h e =
     let o = canonical_order y.owner x.owner in
     let k = nat_cmp y.kind x.kind in
-    let tied : o ≡ Equal = subst (λ n. canonical_order y.owner n ≡ Equal) (sym e) (tied_itself canonical_total y.owner) in
+    let tied : o ≡ Equal =
+    subst (λ n. canonical_order y.owner n ≡ Equal) (sym e) (tied_itself canonical_total y.owner) in
     nat_not_before x.kind y.kind (lt_second o k tied (lt_first (ordering_then o k) _ h))
 
 owners_are : (a b : Record) → same_name a.owner b.owner ≡ true → a.owner ≡ b.owner
@@ -65,7 +72,8 @@ owners_same a b e = (same_decides a.owner b.owner).1 e
 kind_is : (a b : ℕ) → a ≡ b → (a == b) ≡ true
 kind_is a b e = grind (arith, nat_tests)
 
-pub both_gap : (kind : ℕ) (x y z : Record) → true ≡ true → before y x ≡ false → before z y ≡ false → both_are kind x z ≡ true → (both_are kind x y || both_are kind y z) ≡ true
+pub both_gap : (kind : ℕ) (x y z : Record) → true ≡ true → before y x ≡ false → before z y ≡ false
+    → both_are kind x z ≡ true → (both_are kind x y || both_are kind y z) ≡ true
 unfolding both_are
 both_gap kind x y z k a b h =
     let parts = and_parts (same_name x.owner z.owner) (x.kind == kind && z.kind == kind) h in
@@ -90,7 +98,8 @@ gap_bits false false true f g h = refl
 gap_bits false true true true g h = absurd (cc)
 gap_bits false true true false g h = refl
 
-pub clash_gap : (x y z : Record) → not (is_beside_any y.kind) ≡ true → before y x ≡ false → before z y ≡ false → clash x z ≡ true → (clash x y || clash y z) ≡ true
+pub clash_gap : (x y z : Record) → not (is_beside_any y.kind) ≡ true → before y x ≡ false → before z y ≡ false
+    → clash x z ≡ true → (clash x y || clash y z) ≡ true
 unfolding clash
 clash_gap x y z k a b h =
     let parts = and_parts (same_name x.owner z.owner) (is_cname_and_other x z || is_cname_and_other z x) h in
@@ -118,7 +127,8 @@ swap_or false b c d e = rw (← e) refl
 
 pub clash_back : (x y : Record) → clash x y ≡ clash y x
 unfolding clash
-clash_back x y = swap_or (same_name x.owner y.owner) (is_cname_and_other x y) (same_name y.owner x.owner) (is_cname_and_other y x) (names_equal.symm x.owner y.owner)
+clash_back x y = swap_or (same_name x.owner y.owner) (is_cname_and_other x y) (same_name y.owner x.owner)
+    (is_cname_and_other y x) (names_equal.symm x.owner y.owner)
 
 and_swap : (a b c d : Bool) → a ≡ c → (a && (b && d)) ≡ (c && (d && b))
 and_swap true b c d e = rw (← e) (and_turn b d)
@@ -126,7 +136,8 @@ and_swap false b c d e = rw (← e) refl
 
 pub both_back : (kind : ℕ) (x y : Record) → both_are kind x y ≡ both_are kind y x
 unfolding both_are
-both_back kind x y = and_swap (same_name x.owner y.owner) (x.kind == kind) (same_name y.owner x.owner) (y.kind == kind) (names_equal.symm x.owner y.owner)
+both_back kind x y = and_swap (same_name x.owner y.owner) (x.kind == kind) (same_name y.owner x.owner) (y.kind == kind)
+    (names_equal.symm x.owner y.owner)
 
 beside_apart : (k : ℕ) → is_beside_any k ≡ true → (k == 5) ≡ false
 beside_apart k h = grind (arith, nat_tests)
@@ -143,7 +154,8 @@ clash_kept : (x y : Record) → keep x ≡ false → clash x y ≡ false
 unfolding clash
 clash_kept x y h =
     elim (cases_Bool (is_beside_any x.kind)) [
-      | inl t ↦ rw t (no_bits (same_name x.owner y.owner) (x.kind == 5) (y.kind == 5) (is_beside_any y.kind) (beside_apart x.kind t))
+      | inl t ↦ rw t (no_bits (same_name x.owner y.owner) (x.kind == 5) (y.kind == 5) (is_beside_any y.kind)
+          (beside_apart x.kind t))
       | inr f ↦ let g = rw f at h in absurd (cc)
     ]
 
@@ -156,7 +168,8 @@ pub beside_walk : (first : Record) (rest : List Record) → IsStrictlySortedBy r
 beside_walk first rest up =
     let all = first ∷ rest in
     let whole : neighbours clash (filter keep all) ≡ some_two clash all =
-    sym (two_neighbours before clash keep clash_gap (filter keep all) (each_kept keep all) (ascends_filter before keep all (rising_ascends all up)))
+    sym (two_neighbours before clash keep clash_gap (filter keep all) (each_kept keep all)
+    (ascends_filter before keep all (rising_ascends all up)))
     ∙ two_filter clash keep clash_kept clash_kept_back all in
     elim (cases_Bool (keep first)) [
       | inl t ↦ rw t at whole
@@ -216,7 +229,8 @@ found_passes p (s ∷ rs) r e =
     ]
 
 -- what is known of all records is known of one that is found
-pub found_held : (p : Record → Bool) (rs : List Record) (r : Record) → Some r ≡ find p rs → All IsRecord rs → IsRecord r
+pub found_held : (p : Record → Bool) (rs : List Record) (r : Record) → Some r ≡ find p rs → All IsRecord rs
+    → IsRecord r
 found_held p [] r e held = absurd (cc)
 found_held p (s ∷ rs) r e held =
     elim (cases_Bool (p s)) [
@@ -224,13 +238,16 @@ found_held p (s ∷ rs) r e held =
       | inr f ↦ found_held p rs r (rw f at e) (λ k d lt. held (suc k) d (omega arith))
     ]
 
-pub soa_kind : (apex : List (List ℕ)) (rs : List Record) (r : Record) → Some r ≡ find (at_apex 6 apex) rs → soa_of r ≡ None → ⊥
+pub soa_kind : (apex : List (List ℕ)) (rs : List Record) (r : Record) → Some r ≡ find (at_apex 6 apex) rs
+    → soa_of r ≡ None → ⊥
 soa_kind apex rs r e none =
     let t = (and_parts (r.kind == 6) (same_name r.owner apex) (found_passes (at_apex 6 apex) rs r e)).0 in
     let g = rw t at none in cc
 
-pub beside_split : (rs : List Record) (first : Record) → 1 ≤ length rs → first ≡ get_or rs 0 first → IsStrictlySortedBy record_order rs
-    → neighbours_from clash first (filter (λ r. not (is_beside_any r.kind)) (take (length rs - 1) (drop 1 rs))) ≡ some_two clash rs
+pub beside_split : (rs : List Record) (first : Record) → 1 ≤ length rs → first ≡ get_or rs 0 first
+    → IsStrictlySortedBy record_order rs
+    → neighbours_from clash first (filter (λ r. not (is_beside_any r.kind)) (take (length rs - 1) (drop 1 rs)))
+    ≡ some_two clash rs
 beside_split [] first h e up = absurd (omega arith)
 beside_split (r ∷ rs) first h e up =
     let n : suc (length rs) - 1 ≡ length rs = omega arith in
@@ -238,8 +255,10 @@ beside_split (r ∷ rs) first h e up =
 
 -- where no fault holds, there aren't too many records
 last_no : (a b c d e f g h i : Bool) → (
-    if a then Some NoSoa else if b then Some SoaTwice else if c then Some SoaBelow else if d then Some NoNs else if e then Some OutOfZone
-    else if f then Some CnameBeside else if g then Some CnameTwice else if h then Some DnameTwice else if i then Some TooMany else None
+    if a then Some NoSoa else if b then Some SoaTwice else if c then Some SoaBelow else if d then Some NoNs else if e
+    then Some OutOfZone
+    else if f then Some CnameBeside else if g then Some CnameTwice else if h then Some DnameTwice else if i
+    then Some TooMany else None
     ) ≡ None → i ≡ false
 last_no true b c d e f g h i n = absurd (cc)
 last_no false true c d e f g h i n = absurd (cc)
@@ -255,5 +274,7 @@ last_no false false false false false false false false false n = refl
 pub few_records : (apex : List (List ℕ)) (rs : List Record) → fault_of apex rs ≡ None → length rs ≤ 250000
 unfolding fault_of
 few_records apex rs h =
-    let few : nat_lt 250000 (length rs) ≡ false = last_no (no_soa apex rs) (soa_twice apex rs) (soa_below apex rs) (no_ns apex rs) (out_of_zone apex rs) (cname_beside rs) (owned_twice 5 rs) (owned_twice 39 rs) (too_many rs) h in
+    let few : nat_lt 250000 (length rs) ≡ false =
+    last_no (no_soa apex rs) (soa_twice apex rs) (soa_below apex rs) (no_ns apex rs) (out_of_zone apex rs)
+    (cname_beside rs) (owned_twice 5 rs) (owned_twice 39 rs) (too_many rs) h in
     grind (arith, nat_tests)

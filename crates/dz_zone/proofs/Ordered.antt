@@ -1,5 +1,6 @@
 -- A stable sort, and of elements that tie the first.
-use Rattle.std.proofs.Common.{◌≡◌, ℕ, ◌<◌, Bool, true, false, not, List, [], ◌∷◌, length, refl, sym, ◌∙◌, ap, arith, get_or, inl, inr, zero, suc}
+use Rattle.std.proofs.Common.{◌≡◌, ℕ, ◌<◌, Bool, true, false, not, List, [], ◌∷◌, length, refl, sym, ◌∙◌, ap, arith}
+use Rattle.std.proofs.Common.{get_or, inl, inr, zero, suc}
 use Rattle.std.specs.Prelude.{filter, if◌then◌else◌, ⊤}
 use Rattle.std.specs.List.{AllByRecursion, dedup, dedup_from}
 use Rattle.std.specs.List.Sorted.{IsSortedBy, IsStableBy, ties}
@@ -36,7 +37,8 @@ unfoldable pub Climbs : {X : Type 0} → (X → X → Bool) → List X → Type 
 Climbs lt [] = ⊤
 Climbs lt (x ∷ xs) = AllByRecursion (λ y. lt x y ≡ true) xs × Climbs lt xs
 
-filter_in : {X : Type 0} (p q : X → Bool) → ((s : X) → p s ≡ true → q s ≡ true) → (xs : List X) → filter p (filter q xs) ≡ filter p xs
+filter_in : {X : Type 0} (p q : X → Bool) → ((s : X) → p s ≡ true → q s ≡ true) → (xs : List X)
+    → filter p (filter q xs) ≡ filter p xs
 filter_in p q h [] = refl
 filter_in p q h (x ∷ xs) =
     elim (cases_Bool (q x)) [
@@ -47,7 +49,8 @@ filter_in p q h (x ∷ xs) =
       ]
     ]
 
-filter_out : {X : Type 0} (p q : X → Bool) → ((s : X) → p s ≡ true → q s ≡ false) → (xs : List X) → filter p (filter q xs) ≡ []
+filter_out : {X : Type 0} (p q : X → Bool) → ((s : X) → p s ≡ true → q s ≡ false) → (xs : List X)
+    → filter p (filter q xs) ≡ []
 filter_out p q h [] = refl
 filter_out p q h (x ∷ xs) =
     elim (cases_Bool (q x)) [
@@ -62,11 +65,13 @@ filter_none : {X : Type 0} (p : X → Bool) (xs : List X) → AllByRecursion (λ
 filter_none p [] h = refl
 filter_none p (x ∷ xs) h = rw h.0 (filter_none p xs h.1)
 
-pub each_more : {X : Type 0} (P Q : X → Type 0) → ((x : X) → P x → Q x) → (xs : List X) → AllByRecursion P xs → AllByRecursion Q xs
+pub each_more : {X : Type 0} (P Q : X → Type 0) → ((x : X) → P x → Q x) → (xs : List X) → AllByRecursion P xs
+    → AllByRecursion Q xs
 each_more P Q f [] h = tt
 each_more P Q f (x ∷ xs) h = (f x h.0, each_more P Q f xs h.1)
 
-all_put : {X : Type 0} (lt : X → X → Bool) (P : X → Type 0) (x : X) (ys : List X) → P x → AllByRecursion P ys → AllByRecursion P (put lt x ys)
+all_put : {X : Type 0} (lt : X → X → Bool) (P : X → Type 0) (x : X) (ys : List X) → P x → AllByRecursion P ys
+    → AllByRecursion P (put lt x ys)
 unfolding put
 all_put lt P x [] p h = (p, tt)
 all_put lt P x (y ∷ ys) p h =
@@ -75,7 +80,8 @@ all_put lt P x (y ∷ ys) p h =
       | inr f ↦ rw f (p, h)
     ]
 
-all_dedup : {X : Type 0} (same : X → X → Bool) (P : X → Type 0) (k : X) (ys : List X) → P k → AllByRecursion P ys → AllByRecursion P (dedup_from same k ys)
+all_dedup : {X : Type 0} (same : X → X → Bool) (P : X → Type 0) (k : X) (ys : List X) → P k → AllByRecursion P ys
+    → AllByRecursion P (dedup_from same k ys)
 all_dedup same P k [] p h = (p, tt)
 all_dedup same P k (y ∷ ys) p h =
     elim (cases_Bool (same y k)) [
@@ -122,15 +128,18 @@ module _ {X : Type 0} (lt : X → X → Bool) (o : IsStrictWeakOrder lt) where
         | inr g ↦ absurd (both_ways (lt x y) (o.chain x z y g f) t)
       ]
 
-  none_tie : (x y : X) (ys : List X) → lt x y ≡ true → AllByRecursion (λ z. lt z y ≡ false) ys → filter (ties lt x) (y ∷ ys) ≡ []
+  none_tie : (x y : X) (ys : List X) → lt x y ≡ true → AllByRecursion (λ z. lt z y ≡ false) ys
+      → filter (ties lt x) (y ∷ ys) ≡ []
   none_tie x y ys t h =
       rw (no_tie_before x y t)
-      (filter_none (ties lt x) ys (each_more (λ z. lt z y ≡ false) (λ z. ties lt x z ≡ false) (λ z f. no_tie_before x z (before_all x y z t f)) ys h))
+      (filter_none (ties lt x) ys (each_more (λ z. lt z y ≡ false) (λ z. ties lt x z ≡ false)
+      (λ z f. no_tie_before x z (before_all x y z t f)) ys h))
 
   some_tie : (x : X) (xs : List X) → filter (ties lt x) (x ∷ xs) ≡ x ∷ filter (ties lt x) xs
   some_tie x xs = rw (tie_itself x) refl
 
-  tails_alike : (x y z : X) (xs ys : List X) → x ≡ y → filter (ties lt z) (x ∷ xs) ≡ filter (ties lt z) (y ∷ ys) → filter (ties lt z) xs ≡ filter (ties lt z) ys
+  tails_alike : (x y z : X) (xs ys : List X) → x ≡ y → filter (ties lt z) (x ∷ xs) ≡ filter (ties lt z) (y ∷ ys)
+      → filter (ties lt z) xs ≡ filter (ties lt z) ys
   tails_alike x y z xs ys e h =
       elim (cases_Bool (ties lt z y)) [
         | inl t ↦ let g = rw (e, t) at h in (same_heads y y (filter (ties lt z) xs) (filter (ties lt z) ys) g).1
@@ -138,7 +147,8 @@ module _ {X : Type 0} (lt : X → X → Bool) (o : IsStrictWeakOrder lt) where
       ]
 
   -- two lists that ascend, and hold the same of each class of ties in the same order, are one
-  pub alike : (xs ys : List X) → Ascends lt xs → Ascends lt ys → ((x : X) → filter (ties lt x) xs ≡ filter (ties lt x) ys) → xs ≡ ys
+  pub alike : (xs ys : List X) → Ascends lt xs → Ascends lt ys
+      → ((x : X) → filter (ties lt x) xs ≡ filter (ties lt x) ys) → xs ≡ ys
   unfolding Ascends
   alike [] [] a b h = refl
   alike [] (y ∷ ys) a b h = let e = h y ∙ some_tie y ys in absurd (cc)
@@ -156,7 +166,8 @@ module _ {X : Type 0} (lt : X → X → Bool) (o : IsStrictWeakOrder lt) where
         ]
       ]
 
-  ascends_pairs : (xs : List X) → ((i j : ℕ) (d : X) → i < j → j < length xs → lt (get_or xs j d) (get_or xs i d) ≡ false) → Ascends lt xs
+  ascends_pairs : (xs : List X)
+      → ((i j : ℕ) (d : X) → i < j → j < length xs → lt (get_or xs j d) (get_or xs i d) ≡ false) → Ascends lt xs
   unfolding Ascends
   ascends_pairs [] up = tt
   ascends_pairs (x ∷ xs) up = (
@@ -173,7 +184,8 @@ module _ {X : Type 0} (lt : X → X → Bool) (o : IsStrictWeakOrder lt) where
   ascends_put x (y ∷ ys) a =
       elim (cases_Bool (lt y x)) [
         | inl t ↦ rw t (all_put lt (λ z. lt z y ≡ false) x ys (o.one_way y x t) a.0, ascends_put x ys a.1)
-        | inr f ↦ rw f ((f, each_more (λ z. lt z y ≡ false) (λ z. lt z x ≡ false) (λ z g. o.chain z y x g f) ys a.0), a)
+        | inr f ↦
+            rw f ((f, each_more (λ z. lt z y ≡ false) (λ z. lt z x ≡ false) (λ z g. o.chain z y x g f) ys a.0), a)
       ]
 
   pub ascends_puts : (xs : List X) → Ascends lt (puts lt xs)
@@ -189,7 +201,8 @@ module _ {X : Type 0} (lt : X → X → Bool) (o : IsStrictWeakOrder lt) where
         | inl t ↦ elim (cases_Bool (ties lt z y)) [
           | inl s ↦
               let n : ties lt z x ≡ false =
-              false_from_ne_true (ties lt z x) (λ r. both_ways (ties lt y x) (no_tie_before y x t) (tie_trans y z x (tie_back z y s) r)) in
+              false_from_ne_true (ties lt z x)
+              (λ r. both_ways (ties lt y x) (no_tie_before y x t) (tie_trans y z x (tie_back z y s) r)) in
               let h : filter (ties lt z) (put lt x ys) ≡ filter (ties lt z) ys = put_keeps z x ys ∙ rw n refl in
               rw (t, s, n, h) refl
           | inr s ↦ rw (t, s) (put_keeps z x ys)
@@ -197,7 +210,8 @@ module _ {X : Type 0} (lt : X → X → Bool) (o : IsStrictWeakOrder lt) where
         | inr f ↦ rw f refl
       ]
 
-  filter_cons : (p : X → Bool) (x : X) (xs ys : List X) → filter p xs ≡ filter p ys → filter p (x ∷ xs) ≡ filter p (x ∷ ys)
+  filter_cons : (p : X → Bool) (x : X) (xs ys : List X) → filter p xs ≡ filter p ys
+      → filter p (x ∷ xs) ≡ filter p (x ∷ ys)
   filter_cons p x xs ys h = rw h refl
 
   pub puts_keep : (z : X) (xs : List X) → filter (ties lt z) (puts lt xs) ≡ filter (ties lt z) xs
@@ -211,15 +225,18 @@ module _ {X : Type 0} (lt : X → X → Bool) (o : IsStrictWeakOrder lt) where
   firsts_keep z (x ∷ xs) =
       elim (cases_Bool (ties lt z x)) [
         | inl t ↦
-            let out = filter_out (ties lt z) (λ y. not (ties lt x y)) (λ s r. rw (tie_trans x z s (tie_back z x t) r) refl) (firsts (ties lt) xs) in
+            let out = filter_out (ties lt z) (λ y. not (ties lt x y))
+            (λ s r. rw (tie_trans x z s (tie_back z x t) r) refl) (firsts (ties lt) xs) in
             rw (t, out) refl
         | inr f ↦
             let inside = filter_in (ties lt z) (λ y. not (ties lt x y))
-            (λ s r. not_from_false (ties lt x s) (false_from_ne_true (ties lt x s) (λ q. both_ways (ties lt z x) f (tie_trans z s x r (tie_back x s q))))) (firsts (ties lt) xs) in
+            (λ s r. not_from_false (ties lt x s) (false_from_ne_true (ties lt x s)
+            (λ q. both_ways (ties lt z x) f (tie_trans z s x r (tie_back x s q))))) (firsts (ties lt) xs) in
             rw (f, inside) (firsts_keep z xs)
       ]
 
-  ascends_dedup : (k : X) (ys : List X) → AllByRecursion (λ y. lt y k ≡ false) ys → Ascends lt ys → Ascends lt (dedup_from (ties lt) k ys)
+  ascends_dedup : (k : X) (ys : List X) → AllByRecursion (λ y. lt y k ≡ false) ys → Ascends lt ys
+      → Ascends lt (dedup_from (ties lt) k ys)
   unfolding Ascends
   ascends_dedup k [] above a = (tt, tt)
   ascends_dedup k (y ∷ ys) above a =
@@ -228,7 +245,8 @@ module _ {X : Type 0} (lt : X → X → Bool) (o : IsStrictWeakOrder lt) where
         | inr f ↦ rw f (all_dedup (ties lt) (λ z. lt z k ≡ false) y ys above.0 above.1, ascends_dedup y ys a.0 a.1)
       ]
 
-  dedup_keeps : (z k : X) (ys : List X) → AllByRecursion (λ y. lt y k ≡ false) ys → Ascends lt ys → filter (ties lt z) (dedup_from (ties lt) k ys) ≡ first_of (filter (ties lt z) (k ∷ ys))
+  dedup_keeps : (z k : X) (ys : List X) → AllByRecursion (λ y. lt y k ≡ false) ys → Ascends lt ys
+      → filter (ties lt z) (dedup_from (ties lt) k ys) ≡ first_of (filter (ties lt z) (k ∷ ys))
   unfolding Ascends
   dedup_keeps z k [] above a = elim (cases_Bool (ties lt z k)) [ inl t ↦ rw t refl | inr f ↦ rw f refl ]
   dedup_keeps z k (y ∷ ys) above a =
@@ -236,16 +254,23 @@ module _ {X : Type 0} (lt : X → X → Bool) (o : IsStrictWeakOrder lt) where
         | inl t ↦ elim (cases_Bool (ties lt z k)) [
           | inl s ↦ let h = rw s at (dedup_keeps z k ys above.1 a.1) in rw (t, s) h
           | inr s ↦
-              let n : ties lt z y ≡ false = false_from_ne_true (ties lt z y) (λ r. both_ways (ties lt z k) s (tie_trans z y k r t)) in
+              let n : ties lt z y ≡ false =
+              false_from_ne_true (ties lt z y) (λ r. both_ways (ties lt z k) s (tie_trans z y k r t)) in
               let h = rw s at (dedup_keeps z k ys above.1 a.1) in
               rw (t, s, n) h
         ]
         | inr f ↦
-            let before : lt k y ≡ true = elim (cases_Bool (lt k y)) [ inl s ↦ s | inr s ↦ absurd (both_ways (ties lt y k) f (tie_from y k above.0 s)) ] in
+            let before : lt k y ≡ true = elim (cases_Bool (lt k y)) [
+              | inl s ↦ s
+              | inr s ↦ absurd (both_ways (ties lt y k) f (tie_from y k above.0 s))
+            ] in
             elim (cases_Bool (ties lt z k)) [
               | inl s ↦
                   let none : filter (ties lt z) (y ∷ ys) ≡ [] =
-                  none_tie z y ys (elim (cases_Bool (lt z y)) [ inl r ↦ r | inr r ↦ absurd (both_ways (lt k y) (o.chain k z y ((tie_parts z k s).1) r) before) ]) a.0 in
+                  none_tie z y ys (elim (cases_Bool (lt z y)) [
+                    | inl r ↦ r
+                    | inr r ↦ absurd (both_ways (lt k y) (o.chain k z y ((tie_parts z k s).1) r) before)
+                  ]) a.0 in
                   let h = dedup_keeps z y ys a.0 a.1 ∙ ap first_of none in
                   rw (f, s, h) refl
               | inr s ↦ rw (f, s) (dedup_keeps z y ys a.0 a.1)
@@ -257,22 +282,27 @@ module _ {X : Type 0} (lt : X → X → Bool) (o : IsStrictWeakOrder lt) where
   ascends_deduped [] a = tt
   ascends_deduped (y ∷ ys) a = ascends_dedup y ys a.0 a.1
 
-  deduped_keeps : (z : X) (ys : List X) → Ascends lt ys → filter (ties lt z) (dedup (ties lt) ys) ≡ first_of (filter (ties lt z) ys)
+  deduped_keeps : (z : X) (ys : List X) → Ascends lt ys
+      → filter (ties lt z) (dedup (ties lt) ys) ≡ first_of (filter (ties lt z) ys)
   unfolding Ascends
   deduped_keeps z [] a = refl
   deduped_keeps z (y ∷ ys) a = dedup_keeps z y ys a.0 a.1
 
   -- what a stable sort and the removal of ties leave
-  pub tidied : (xs ys : List X) → IsSortedBy lt ys → IsStableBy lt xs ys → dedup (ties lt) ys ≡ puts lt (firsts (ties lt) xs)
+  pub tidied : (xs ys : List X) → IsSortedBy lt ys → IsStableBy lt xs ys
+      → dedup (ties lt) ys ≡ puts lt (firsts (ties lt) xs)
   tidied xs ys up stable =
       let a = ascends ys up in
-      alike (dedup (ties lt) ys) (puts lt (firsts (ties lt) xs)) (ascends_deduped ys a) (ascends_puts (firsts (ties lt) xs))
-      (λ z. deduped_keeps z ys a ∙ (ap first_of (stable z) ∙ (sym (firsts_keep z xs) ∙ sym (puts_keep z (firsts (ties lt) xs)))))
+      alike (dedup (ties lt) ys) (puts lt (firsts (ties lt) xs)) (ascends_deduped ys a)
+      (ascends_puts (firsts (ties lt) xs))
+      (λ z. deduped_keeps z ys a
+      ∙ (ap first_of (stable z) ∙ (sym (firsts_keep z xs) ∙ sym (puts_keep z (firsts (ties lt) xs)))))
 
   pub climbs_ascends : (xs : List X) → Climbs lt xs → Ascends lt xs
   unfolding Climbs Ascends
   climbs_ascends [] h = tt
-  climbs_ascends (x ∷ xs) h = (each_more (λ y. lt x y ≡ true) (λ y. lt y x ≡ false) (λ y t. o.one_way x y t) xs h.0, climbs_ascends xs h.1)
+  climbs_ascends (x ∷ xs) h =
+      (each_more (λ y. lt x y ≡ true) (λ y. lt y x ≡ false) (λ y t. o.one_way x y t) xs h.0, climbs_ascends xs h.1)
 
   climbs_kept : (z : X) (xs : List X) → Climbs lt xs → filter (ties lt z) xs ≡ first_of (filter (ties lt z) xs)
   unfolding Climbs
@@ -283,7 +313,8 @@ module _ {X : Type 0} (lt : X → X → Bool) (o : IsStrictWeakOrder lt) where
             let p = tie_parts z x t in
             let none = filter_none (ties lt z) xs
             (each_more (λ y. lt x y ≡ true) (λ y. ties lt z y ≡ false)
-            (λ y s. false_from_ne_true (ties lt z y) (λ r. both_ways (ties lt x y) (no_tie_before x y s) (tie_trans x z y (tie_back z x t) r))) xs h.0) in
+            (λ y s. false_from_ne_true (ties lt z y)
+            (λ r. both_ways (ties lt x y) (no_tie_before x y s) (tie_trans x z y (tie_back z x t) r))) xs h.0) in
             rw (t, none) refl
         | inr f ↦ rw f (climbs_kept z xs h.1)
       ]

@@ -24,8 +24,14 @@ owners_in_order records up at d within =
     let long : length (owners_of records) ≡ length records = length-map records (λ r. r.owner) in
     let next : at + 1 < length records = omega (arith, long) in
     let less = Less-from_sorted record_order records at (at + 1) nowhere up (omega arith) next in
-    rw (get_or-map (λ r. r.owner) records at nowhere d (omega arith), get_or-map (λ r. r.owner) records (at + 1) nowhere d next)
-    (first_le (canonical_order (get_or records at nowhere).owner (get_or records (at + 1) nowhere).owner) (nat_cmp (get_or records at nowhere).kind (get_or records (at + 1) nowhere).kind) _ less)
+    rw (
+      get_or-map (λ r. r.owner) records at nowhere d (omega arith),
+      get_or-map (λ r. r.owner) records (at + 1) nowhere d next,
+    )
+    (first_le (canonical_order (get_or records at nowhere).owner (get_or records (at + 1) nowhere).owner)
+    (nat_cmp (get_or records at nowhere).kind (get_or records (at + 1) nowhere).kind) _ less)
 
-pub owner_at : (records : List Record) (at : ℕ) (r : Record) (name : List (List ℕ)) → at < length records → r ≡ get_or records at r → name ≡ r.owner → name ≡ get_or (owners_of records) at name
-owner_at records at r name within is owned = owned ∙ (ap (λ s. s.owner) is ∙ sym (get_or-map (λ s. s.owner) records at r name within))
+pub owner_at : (records : List Record) (at : ℕ) (r : Record) (name : List (List ℕ)) → at < length records
+    → r ≡ get_or records at r → name ≡ r.owner → name ≡ get_or (owners_of records) at name
+owner_at records at r name within is owned =
+    owned ∙ (ap (λ s. s.owner) is ∙ sym (get_or-map (λ s. s.owner) records at r name within))

@@ -1,5 +1,6 @@
 -- Pairs of elements, and what a list in order keeps.
-use Rattle.std.proofs.Common.{◌≡◌, ℕ, ◌+◌, ◌<◌, Bool, true, false, not, ◌||◌, List, [], ◌∷◌, length, refl, sym, ◌∙◌, ap, arith, get_or, drop, inl, inr, zero, suc, ◌≤◌}
+use Rattle.std.proofs.Common.{◌≡◌, ℕ, ◌+◌, ◌<◌, Bool, true, false, not, ◌||◌, List, [], ◌∷◌, length, refl, sym, ◌∙◌}
+use Rattle.std.proofs.Common.{ap, arith, get_or, drop, inl, inr, zero, suc, ◌≤◌}
 use Rattle.std.specs.Prelude.{filter}
 use Rattle.std.specs.List.{AllByRecursion, list_any, sum_by, IsAllAdjacentAnswer, AllAdjacentBelow}
 use Rattle.std.proofs.lemmas.Bool.{cases_Bool, or_cases, or_left, or_right}
@@ -35,14 +36,18 @@ module _ {X : Type 0} (lt : X → X → Bool) where
   sum_put f x [] = sum_by-cons f x []
   sum_put f x (y ∷ ys) =
       elim (cases_Bool (lt y x)) [
-        | inl t ↦ rw t (let a = sum_by-cons f y (put lt x ys) in let b = sum_by-cons f y ys in let h = sum_put f x ys in omega arith)
+        | inl t ↦ rw t (let a = sum_by-cons f y (put lt x ys) in
+            let b = sum_by-cons f y ys in let h = sum_put f x ys in omega arith)
         | inr g ↦ rw g (sum_by-cons f x (y ∷ ys))
       ]
 
   pub sum_puts : (f : X → ℕ) (xs : List X) → sum_by f (puts lt xs) ≡ sum_by f xs
   unfolding puts
   sum_puts f [] = refl
-  sum_puts f (x ∷ xs) = let a = sum_put f x (puts lt xs) in let b = sum_by-cons f x xs in let h = sum_puts f xs in omega arith
+  sum_puts f (x ∷ xs) =
+      let a = sum_put f x (puts lt xs) in
+      let b = sum_by-cons f x xs in
+      let h = sum_puts f xs in omega arith
 
   length_put : (x : X) (ys : List X) → length (put lt x ys) ≡ suc (length ys)
   unfolding put
@@ -64,23 +69,27 @@ module _ {X : Type 0} (lt : X → X → Bool) where
   two_step false true false d = refl
   two_step false false c d = refl
 
-  two_put : (t : X → X → Bool) → ((x y : X) → t x y ≡ t y x) → (x : X) (ys : List X) → some_two t (put lt x ys) ≡ (list_any (t x) ys || some_two t ys)
+  two_put : (t : X → X → Bool) → ((x y : X) → t x y ≡ t y x) → (x : X) (ys : List X)
+      → some_two t (put lt x ys) ≡ (list_any (t x) ys || some_two t ys)
   unfolding put some_two
   two_put t back x [] = refl
   two_put t back x (y ∷ ys) =
       elim (cases_Bool (lt y x)) [
-        | inl u ↦ rw (u, any_put (t y) x ys, two_put t back x ys, back y x) (two_step (t x y) (list_any (t y) ys) (list_any (t x) ys) (some_two t ys))
+        | inl u ↦ rw (u, any_put (t y) x ys, two_put t back x ys, back y x)
+            (two_step (t x y) (list_any (t y) ys) (list_any (t x) ys) (some_two t ys))
         | inr f ↦ rw f refl
       ]
 
-  pub two_puts : (t : X → X → Bool) → ((x y : X) → t x y ≡ t y x) → (xs : List X) → some_two t (puts lt xs) ≡ some_two t xs
+  pub two_puts : (t : X → X → Bool) → ((x y : X) → t x y ≡ t y x) → (xs : List X)
+      → some_two t (puts lt xs) ≡ some_two t xs
   unfolding puts some_two
   two_puts t back [] = refl
   two_puts t back (x ∷ xs) = two_put t back x (puts lt xs) ∙ rw (any_puts (t x) xs, two_puts t back xs) refl
 
   far : (t : X → X → Bool) (keep : X → Bool)
       → ((x y z : X) → keep y ≡ true → lt y x ≡ false → lt z y ≡ false → t x z ≡ true → (t x y || t y z) ≡ true)
-      → (x y : X) (zs : List X) → keep y ≡ true → lt y x ≡ false → AllByRecursion (λ z. lt z y ≡ false) zs → list_any (t x) zs ≡ true → (t x y || list_any (t y) zs) ≡ true
+      → (x y : X) (zs : List X) → keep y ≡ true → lt y x ≡ false → AllByRecursion (λ z. lt z y ≡ false) zs
+      → list_any (t x) zs ≡ true → (t x y || list_any (t y) zs) ≡ true
   far t keep gap x y [] k b above h = absurd (cc)
   far t keep gap x y (z ∷ zs) k b above h =
       elim (or_cases (t x z) (list_any (t x) zs) h) [
@@ -103,7 +112,8 @@ module _ {X : Type 0} (lt : X → X → Bool) where
   -- where what is between two elements that pass the test passes it with one of them, neighbours pass it too
   two_from : (t : X → X → Bool) (keep : X → Bool)
       → ((x y z : X) → keep y ≡ true → lt y x ≡ false → lt z y ≡ false → t x z ≡ true → (t x y || t y z) ≡ true)
-      → (x : X) (ys : List X) → AllByRecursion (λ y. keep y ≡ true) ys → Ascends lt (x ∷ ys) → some_two t (x ∷ ys) ≡ neighbours_from t x ys
+      → (x : X) (ys : List X) → AllByRecursion (λ y. keep y ≡ true) ys → Ascends lt (x ∷ ys)
+      → some_two t (x ∷ ys) ≡ neighbours_from t x ys
   unfolding some_two neighbours_from Ascends
   two_from t keep gap x [] k a = refl
   two_from t keep gap x (y ∷ ys) k a =
@@ -117,10 +127,12 @@ module _ {X : Type 0} (lt : X → X → Bool) where
   two_neighbours t keep gap [] k a = refl
   two_neighbours t keep gap (x ∷ xs) k a = two_from t keep gap x xs k.1 a
 
-  each_filter : (P : X → Type 0) (keep : X → Bool) (xs : List X) → AllByRecursion P xs → AllByRecursion P (filter keep xs)
+  each_filter : (P : X → Type 0) (keep : X → Bool) (xs : List X) → AllByRecursion P xs
+      → AllByRecursion P (filter keep xs)
   each_filter P keep [] h = tt
   each_filter P keep (x ∷ xs) h =
-      elim (cases_Bool (keep x)) [ inl t ↦ rw t (h.0, each_filter P keep xs h.1) | inr f ↦ rw f (each_filter P keep xs h.1) ]
+      elim (cases_Bool (keep x))
+      [ inl t ↦ rw t (h.0, each_filter P keep xs h.1) | inr f ↦ rw f (each_filter P keep xs h.1) ]
 
   pub ascends_filter : (keep : X → Bool) (xs : List X) → Ascends lt xs → Ascends lt (filter keep xs)
   unfolding Ascends
@@ -140,7 +152,8 @@ pub each_true : {X : Type 0} (xs : List X) → AllByRecursion (λ x. true ≡ tr
 each_true [] = tt
 each_true (x ∷ xs) = (refl, each_true xs)
 
-pub any_filter : {X : Type 0} (p keep : X → Bool) → ((x : X) → keep x ≡ false → p x ≡ false) → (xs : List X) → list_any p (filter keep xs) ≡ list_any p xs
+pub any_filter : {X : Type 0} (p keep : X → Bool) → ((x : X) → keep x ≡ false → p x ≡ false) → (xs : List X)
+    → list_any p (filter keep xs) ≡ list_any p xs
 any_filter p keep h [] = refl
 any_filter p keep h (x ∷ xs) =
     elim (cases_Bool (keep x)) [
@@ -152,7 +165,8 @@ pub any_no : {X : Type 0} (p : X → Bool) → ((x : X) → p x ≡ false) → (
 any_no p h [] = refl
 any_no p h (x ∷ xs) = rw (h x) (any_no p h xs)
 
-pub two_filter : {X : Type 0} (t : X → X → Bool) (keep : X → Bool) → ((x y : X) → keep x ≡ false → t x y ≡ false) → ((x y : X) → keep y ≡ false → t x y ≡ false)
+pub two_filter : {X : Type 0} (t : X → X → Bool) (keep : X → Bool) → ((x y : X) → keep x ≡ false → t x y ≡ false)
+    → ((x y : X) → keep y ≡ false → t x y ≡ false)
     → (xs : List X) → some_two t (filter keep xs) ≡ some_two t xs
 unfolding some_two
 two_filter t keep left right [] = refl
@@ -163,40 +177,51 @@ two_filter t keep left right (x ∷ xs) =
     ]
 
 -- a first element that passes the test with no other
-pub front_no : {X : Type 0} (t : X → X → Bool) (x : X) → ((y : X) → t x y ≡ false) → (xs : List X) → neighbours_from t x xs ≡ neighbours t xs
+pub front_no : {X : Type 0} (t : X → X → Bool) (x : X) → ((y : X) → t x y ≡ false) → (xs : List X)
+    → neighbours_from t x xs ≡ neighbours t xs
 unfolding neighbours_from
 front_no t x h [] = refl
 front_no t x h (y ∷ ys) = rw (h y) refl
 
-all_adjacent : {X : Type 0} (e : X → X → Bool) (x : X) (ys : List X) → AllAdjacentBelow (λ a b. true ≡ e a b) (x ∷ ys) (length (x ∷ ys)) → neighbours_from (λ a b. not (e a b)) x ys ≡ false
+all_adjacent : {X : Type 0} (e : X → X → Bool) (x : X) (ys : List X)
+    → AllAdjacentBelow (λ a b. true ≡ e a b) (x ∷ ys) (length (x ∷ ys))
+    → neighbours_from (λ a b. not (e a b)) x ys ≡ false
 unfolding neighbours_from
 all_adjacent e x [] h = refl
 all_adjacent e x (y ∷ ys) h =
     let first : true ≡ e x y = h 0 x (omega arith) in
-    rw (← first) (all_adjacent e y ys (λ k d inside. let n : suc k + 1 ≡ suc (k + 1) = omega arith in rw n at (h (suc k) d (omega arith))))
+    rw (← first) (all_adjacent e y ys (λ k d inside. let n : suc k + 1 ≡ suc (k + 1) = omega arith in
+    rw n at (h (suc k) d (omega arith))))
 
-some_adjacent : {X : Type 0} (e : X → X → Bool) (k : ℕ) (x : X) (ys : List X) → k + 1 < length (x ∷ ys) → ((d : X) → false ≡ e (get_or (x ∷ ys) k d) (get_or (x ∷ ys) (k + 1) d)) → neighbours_from (λ a b. not (e a b)) x ys ≡ true
+some_adjacent : {X : Type 0} (e : X → X → Bool) (k : ℕ) (x : X) (ys : List X)
+    → k + 1 < length (x ∷ ys) → ((d : X) → false ≡ e (get_or (x ∷ ys) k d) (get_or (x ∷ ys) (k + 1) d))
+    → neighbours_from (λ a b. not (e a b)) x ys ≡ true
 unfolding neighbours_from
 some_adjacent e k x [] inside h = absurd (omega arith)
 some_adjacent e zero x (y ∷ ys) inside h = let first : false ≡ e x y = h x in rw (← first) refl
 some_adjacent e (suc k) x (y ∷ ys) inside h =
     let n : suc k + 1 ≡ suc (k + 1) = omega arith in
-    or_right (not (e x y)) (neighbours_from (λ a b. not (e a b)) y ys) (some_adjacent e k y ys (omega arith) (λ d. rw n at (h d)))
+    or_right (not (e x y)) (neighbours_from (λ a b. not (e a b)) y ys)
+    (some_adjacent e k y ys (omega arith) (λ d. rw n at (h d)))
 
 -- what `is_sorted_by` answers
-pub adjacent_answer : {X : Type 0} (e : X → X → Bool) (xs : List X) (r : Bool) → IsAllAdjacentAnswer (λ a b c. c ≡ e a b) xs r → not r ≡ neighbours (λ a b. not (e a b)) xs
+pub adjacent_answer : {X : Type 0} (e : X → X → Bool) (xs : List X) (r : Bool)
+    → IsAllAdjacentAnswer (λ a b c. c ≡ e a b) xs r → not r ≡ neighbours (λ a b. not (e a b)) xs
 adjacent_answer e [] true h = refl
 adjacent_answer e [] false h = absurd (omega (arith, h.1))
 adjacent_answer e (x ∷ xs) true h = sym (all_adjacent e x xs h)
 adjacent_answer e (x ∷ xs) false h = sym (some_adjacent e h.0 x xs h.1 h.2)
 
 -- a pass over neighbours that leaves out what the test doesn't keep: a step, what is left out, and the end
-pub walk_step : {X : Type 0} (t : X → X → Bool) (keep : X → Bool) (last x : X) (rest : List X) (i : ℕ) → i < length rest → x ≡ get_or rest i x → keep x ≡ true
-    → neighbours_from t last (filter keep (drop i rest)) ≡ (t last x || neighbours_from t x (filter keep (drop (i + 1) rest)))
+pub walk_step : {X : Type 0} (t : X → X → Bool) (keep : X → Bool) (last x : X) (rest : List X) (i : ℕ)
+    → i < length rest → x ≡ get_or rest i x → keep x ≡ true
+    → neighbours_from t last (filter keep (drop i rest))
+    ≡ (t last x || neighbours_from t x (filter keep (drop (i + 1) rest)))
 unfolding neighbours_from
 walk_step t keep last x rest i h e k = rw (drop_more rest i x h, ← e, k) refl
 
-pub walk_end : {X : Type 0} (t : X → X → Bool) (keep : X → Bool) (last : X) (rest : List X) (i : ℕ) → length rest ≤ i → neighbours_from t last (filter keep (drop i rest)) ≡ false
+pub walk_end : {X : Type 0} (t : X → X → Bool) (keep : X → Bool) (last : X) (rest : List X) (i : ℕ) → length rest ≤ i
+    → neighbours_from t last (filter keep (drop i rest)) ≡ false
 unfolding neighbours_from
 walk_end t keep last rest i h = rw (drop_all i rest h) refl
 

@@ -1,5 +1,6 @@
 -- The order of records, and what it ties.
-use Rattle.std.proofs.Common.{◌≡◌, Bool, true, false, not, ◌&&◌, List, [], ◌∷◌, refl, sym, ◌∙◌, ap, is_lt, is_eq, is_gt, Ordering, Less, Equal, Greater}
+use Rattle.std.proofs.Common.{◌≡◌, Bool, true, false, not, ◌&&◌, List, [], ◌∷◌, refl, sym, ◌∙◌, ap, is_lt, is_eq}
+use Rattle.std.proofs.Common.{is_gt, Ordering, Less, Equal, Greater}
 use Rattle.std.specs.Ordering.{ordering_reverse}
 use Rattle.std.specs.Bool.{Decides}
 use Rattle.std.specs.List.{dedup, IsAllAdjacentAnswer}
@@ -44,7 +45,8 @@ turn_gt Greater p e = rw e refl
 placed_put : (r : Record) (ss : List Record) → insertion r ss ≡ put before r ss
 unfolding insertion put before
 placed_put r [] = refl
-placed_put r (s ∷ ss) = rw (turn_gt (record_order s r) (record_order r s) (record_total.antisymm r s), placed_put r ss) refl
+placed_put r (s ∷ ss) =
+    rw (turn_gt (record_order s r) (record_order r s) (record_total.antisymm r s), placed_put r ss) refl
 
 pub in_order_puts : (rs : List Record) → in_order rs ≡ puts before rs
 unfolding in_order puts
@@ -65,7 +67,11 @@ canonical rs = sym (in_order_puts (distinct rs) ∙ ap (puts before) (distinct_f
 climbs : (rs : List Record) → IsStrictlySortedBy record_order rs → Climbs before rs
 unfolding Climbs IsStrictlySortedBy before
 climbs [] h = tt
-climbs (r ∷ rs) h = (each_more (λ s. record_order r s ≡ Less) (λ s. is_lt (record_order r s) ≡ true) (λ s e. ap is_lt e) rs h.0, climbs rs h.1)
+climbs (r ∷ rs) h = (
+  each_more (λ s. record_order r s ≡ Less) (λ s. is_lt (record_order r s) ≡ true)
+      (λ s e. ap is_lt e) rs h.0,
+  climbs rs h.1,
+)
 
 pub rising_ascends : (rs : List Record) → IsStrictlySortedBy record_order rs → Ascends before rs
 rising_ascends rs h = climbs_ascends before before_ranks rs (climbs rs h)
@@ -74,10 +80,12 @@ pub rising_canonical : (rs : List Record) → IsStrictlySortedBy record_order rs
 rising_canonical rs h = climbed before before_ranks rs (climbs rs h) ∙ canonical rs
 
 -- what a stable sort and the removal of those that are the same leave
-pub sorted_canonical : (rs ss : List Record) → IsSortedBy (λ a b. is_lt (record_order a b)) ss → IsStableBy (λ a b. is_lt (record_order a b)) rs ss → dedup same_record ss ≡ in_order (distinct rs)
+pub sorted_canonical : (rs ss : List Record) → IsSortedBy (λ a b. is_lt (record_order a b)) ss
+    → IsStableBy (λ a b. is_lt (record_order a b)) rs ss → dedup same_record ss ≡ in_order (distinct rs)
 unfolding before
 sorted_canonical rs ss up stable =
-    ap (λ same. dedup same ss) (λ i a b. same_before a b i) ∙ (tidied before before_ranks rs ss up stable ∙ canonical rs)
+    ap (λ same. dedup same ss) (λ i a b. same_before a b i)
+    ∙ (tidied before before_ranks rs ss up stable ∙ canonical rs)
 
 lt_less : (o : Ordering) → is_lt o ≡ true → o ≡ Less
 lt_less Less h = refl
@@ -85,21 +93,30 @@ lt_less Equal h = absurd (cc)
 lt_less Greater h = absurd (cc)
 
 -- where each comes before the next, each comes before all that follow it
-rise_from : (r : Record) (ss : List Record) → neighbours_from (λ a b. not (is_before a b)) r ss ≡ false → IsStrictlySortedBy record_order (r ∷ ss)
+rise_from : (r : Record) (ss : List Record) → neighbours_from (λ a b. not (is_before a b)) r ss ≡ false
+    → IsStrictlySortedBy record_order (r ∷ ss)
 unfolding neighbours_from IsStrictlySortedBy
 rise_from r [] h = (tt, tt)
 rise_from r (s ∷ ss) h =
     let parts = or_parts (not (is_before r s)) (neighbours_from (λ a b. not (is_before a b)) s ss) h in
     let rest = rise_from s ss parts.1 in
-    let first = lt_less (record_order r s) (not-false (is_before r s) parts.0) in
-    ((first, each_more (λ t. record_order s t ≡ Less) (λ t. record_order r t ≡ Less) (λ t l. record_total.trans r s t first l) ss rest.0), rest)
+    let first = lt_less (record_order r s) (not-false (is_before r s) parts.0) in (
+      (
+        first,
+        each_more (λ t. record_order s t ≡ Less) (λ t. record_order r t ≡ Less)
+            (λ t l. record_total.trans r s t first l) ss rest.0,
+      ),
+      rest,
+    )
 
-risen_from : (r : Record) (ss : List Record) → IsStrictlySortedBy record_order (r ∷ ss) → neighbours_from (λ a b. not (is_before a b)) r ss ≡ false
+risen_from : (r : Record) (ss : List Record) → IsStrictlySortedBy record_order (r ∷ ss)
+    → neighbours_from (λ a b. not (is_before a b)) r ss ≡ false
 unfolding neighbours_from IsStrictlySortedBy
 risen_from r [] h = refl
 risen_from r (s ∷ ss) h = rw h.0.0 (risen_from s ss h.1)
 
-rise_decides : (rs : List Record) → Decides (not (neighbours (λ a b. not (is_before a b)) rs)) (IsStrictlySortedBy record_order rs)
+rise_decides : (rs : List Record)
+    → Decides (not (neighbours (λ a b. not (is_before a b)) rs)) (IsStrictlySortedBy record_order rs)
 unfolding IsStrictlySortedBy
 rise_decides [] = (λ t. tt, λ h. refl)
 rise_decides (r ∷ rs) =
@@ -110,5 +127,6 @@ not_turn : (a b : Bool) → not a ≡ b → a ≡ not b
 not_turn true b e = rw (← e) refl
 not_turn false b e = rw (← e) refl
 
-pub rise_walk : (rs : List Record) (r : Bool) → IsAllAdjacentAnswer (λ a b c. c ≡ is_before a b) rs r → Decides r (IsStrictlySortedBy record_order rs)
+pub rise_walk : (rs : List Record) (r : Bool) → IsAllAdjacentAnswer (λ a b c. c ≡ is_before a b) rs r
+    → Decides r (IsStrictlySortedBy record_order rs)
 rise_walk rs r h = rw (not_turn r _ (adjacent_answer is_before rs r h)) (rise_decides rs)

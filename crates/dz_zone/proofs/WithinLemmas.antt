@@ -1,5 +1,6 @@
 -- The owners of a zone without a fault are within its apex.
-use Rattle.std.proofs.Common.{◌≡◌, ℕ, ◌<◌, zero, suc, List, [], ◌∷◌, length, get_or, None, Bool, true, false, refl, inl, inr, arith}
+use Rattle.std.proofs.Common.{◌≡◌, ℕ, ◌<◌, zero, suc, List, [], ◌∷◌, length, get_or, None, Bool, true, false, refl}
+use Rattle.std.proofs.Common.{inl, inr, arith}
 use Rattle.std.specs.Prelude.{not}
 use Rattle.std.specs.List.{list_any}
 use Rattle.std.proofs.lemmas.Bool.{cases_Bool}
@@ -28,19 +29,27 @@ none_outside apex rs h =
       ]
     ]
 
-none_passes : (p : Record → Bool) (rs : List Record) → list_any p rs ≡ false → (k : ℕ) (d : Record) → k < length rs → p (get_or rs k d) ≡ false
+none_passes : (p : Record → Bool) (rs : List Record) → list_any p rs ≡ false → (k : ℕ) (d : Record) → k < length rs
+    → p (get_or rs k d) ≡ false
 none_passes p [] h k d lt = absurd (omega arith)
 none_passes p (r ∷ rs) h zero d lt =
     elim (cases_Bool (p r)) [ inl t ↦ let g = rw t at h in absurd (cc) | inr f ↦ f ]
 none_passes p (r ∷ rs) h (suc k) d lt =
-    elim (cases_Bool (p r)) [ inl t ↦ let g = rw t at h in absurd (cc) | inr f ↦ none_passes p rs (rw f at h) k d (omega arith) ]
+    elim (cases_Bool (p r)) [
+      | inl t ↦
+          let g = rw t at h in absurd (cc)
+      | inr f ↦ none_passes p rs (rw f at h) k d (omega arith)
+    ]
 
 not_false : (b : Bool) → not b ≡ false → b ≡ true
 not_false true h = refl
 not_false false h = absurd (cc)
 
-pub all_within : (apex : List (List ℕ)) (rs : List Record) → fault_of apex rs ≡ None → (k : ℕ) (d : Record) → k < length rs → is_within (get_or rs k d).owner apex ≡ true
-all_within apex rs none k d lt = not_false _ (none_passes (λ r. not (is_within r.owner apex)) rs (none_outside apex rs none) k d lt)
+pub all_within : (apex : List (List ℕ)) (rs : List Record) → fault_of apex rs ≡ None → (k : ℕ) (d : Record)
+    → k < length rs → is_within (get_or rs k d).owner apex ≡ true
+all_within apex rs none k d lt =
+    not_false _ (none_passes (λ r. not (is_within r.owner apex)) rs (none_outside apex rs none) k d lt)
 
-pub owners_within : (zone : Zone) → IsValid zone → (k : ℕ) (d : Record) → k < length zone.records → is_within (get_or zone.records k d).owner zone.apex ≡ true
+pub owners_within : (zone : Zone) → IsValid zone → (k : ℕ) (d : Record) → k < length zone.records
+    → is_within (get_or zone.records k d).owner zone.apex ≡ true
 owners_within zone is k d lt = all_within zone.apex zone.records is.faultless k d lt

@@ -1,12 +1,14 @@
 -- Judge: each fault, and zones without one, computed by the checker.
 use Rattle.std.specs.Prelude.{◌≡◌, refl, [], ◌∷◌, Some, None, codes}
 use Rattle.dz_name.specs.Words.{Name, Kind, Octets}
-use Rattle.dz_name.specs.declared.dns.TheConstants.{TYPE_A, TYPE_CNAME, TYPE_DNAME, TYPE_NS, TYPE_NSEC, TYPE_RRSIG, TYPE_SOA}
+use Rattle.dz_name.specs.declared.dns.TheConstants.{TYPE_A, TYPE_CNAME, TYPE_DNAME, TYPE_NS, TYPE_NSEC, TYPE_RRSIG}
+use Rattle.dz_name.specs.declared.dns.TheConstants.{TYPE_SOA}
 use Rattle.dz_record.specs.Record.{Record}
 use Rattle.dz_record.specs.Records.{distinct, insertion, in_order}
 use Rattle.dz_zone.specs.Valid.{some_two, clash, both_are, fault_of}
 use Rattle.dz_zone.specs.Version.{zone_of}
-use Rattle.dz_zone.specs.declared.fault.ZoneFault.TheVariants.{NoSoa, SoaTwice, SoaBelow, NoNs, OutOfZone, CnameBeside, CnameTwice, DnameTwice}
+use Rattle.dz_zone.specs.declared.fault.ZoneFault.TheVariants.{NoSoa, SoaTwice, SoaBelow, NoNs, OutOfZone, CnameBeside}
+use Rattle.dz_zone.specs.declared.fault.ZoneFault.TheVariants.{CnameTwice, DnameTwice}
 
 -- a record whose RDATA tells it from others alone
 abbrev record_of : Kind → Name → Octets → Record
@@ -71,7 +73,8 @@ unfolding fault_of some_two clash both_are
 two_dname = refl
 
 -- RRSIG and NSEC may be beside a CNAME, and so may a record below its owner
-pub cname_signed : fault_of apex (soa ∷ ns ∷ of_c TYPE_RRSIG [] ∷ of_c TYPE_CNAME [] ∷ of_c TYPE_NSEC [] ∷ record_of TYPE_A (codes "a" ∷ below (codes "c")) [] ∷ []) ≡ None
+pub cname_signed : fault_of apex (soa ∷ ns ∷ of_c TYPE_RRSIG [] ∷ of_c TYPE_CNAME [] ∷ of_c TYPE_NSEC []
+    ∷ record_of TYPE_A (codes "a" ∷ below (codes "c")) [] ∷ []) ≡ None
 unfolding fault_of some_two clash both_are
 cname_signed = refl
 
@@ -114,7 +117,8 @@ pub outside_before_beside : fault_of apex (soa ∷ ns ∷ outside_it ∷ of_c TY
 unfolding fault_of some_two clash both_are
 outside_before_beside = refl
 
-pub beside_before_twice : fault_of apex (soa ∷ ns ∷ of_c TYPE_CNAME [] ∷ of_c TYPE_CNAME (1 ∷ []) ∷ of_c TYPE_A [] ∷ [])
+pub beside_before_twice : fault_of apex
+    (soa ∷ ns ∷ of_c TYPE_CNAME [] ∷ of_c TYPE_CNAME (1 ∷ []) ∷ of_c TYPE_A [] ∷ [])
     ≡ Some CnameBeside
 unfolding fault_of some_two clash both_are
 beside_before_twice = refl

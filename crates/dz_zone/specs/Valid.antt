@@ -1,13 +1,16 @@
 -- Meaning: what is wrong with the records of a zone (RFC 1034 section 3.6.2, RFC 1035 section 5.2, RFC 2181 sections
 -- 6.1 and 10.1). The records are in any order, and no two of them are the same.
-use Rattle.std.specs.Prelude.{Bool, false, ◌==◌, ◌&&◌, ◌||◌, not, nat_lt, List, [], ◌∷◌, length, Option, Some, None, if◌then◌else◌}
+use Rattle.std.specs.Prelude.{Bool, false, ◌==◌, ◌&&◌, ◌||◌, not, nat_lt, List, [], ◌∷◌, length, Option, Some, None}
+use Rattle.std.specs.Prelude.{if◌then◌else◌}
 use Rattle.std.specs.List.{list_any, count_by}
 use Rattle.dz_name.specs.Words.{Name, Kind}
 use Rattle.dz_name.specs.Name.{same_name, is_within}
-use Rattle.dz_name.specs.declared.dns.TheConstants.{TYPE_CNAME, TYPE_DNAME, TYPE_NS, TYPE_NSEC, TYPE_RRSIG, TYPE_SOA, ZONE_RECORDS}
+use Rattle.dz_name.specs.declared.dns.TheConstants.{TYPE_CNAME, TYPE_DNAME, TYPE_NS, TYPE_NSEC, TYPE_RRSIG, TYPE_SOA}
+use Rattle.dz_name.specs.declared.dns.TheConstants.{ZONE_RECORDS}
 use Rattle.dz_record.specs.Record.{Record}
 use Rattle.dz_zone.specs.declared.fault.ZoneFault.{ZoneFault}
-use Rattle.dz_zone.specs.declared.fault.ZoneFault.TheVariants.{NoSoa, SoaTwice, SoaBelow, NoNs, OutOfZone, CnameBeside, CnameTwice, DnameTwice, TooMany}
+use Rattle.dz_zone.specs.declared.fault.ZoneFault.TheVariants.{NoSoa, SoaTwice, SoaBelow, NoNs, OutOfZone, CnameBeside}
+use Rattle.dz_zone.specs.declared.fault.ZoneFault.TheVariants.{CnameTwice, DnameTwice, TooMany}
 
 -- some element of a list and a later one pass the test
 unfoldable pub some_two : {X : Type 0} → (X → X → Bool) → List X → Bool

@@ -1,6 +1,7 @@
 -- Meaning: versions of zones, and which records make one (RFC 1034 section 3.6.2, RFC 2181 section 5, RFC 4034 section
 -- 6).
-use Rattle.std.specs.Prelude.{◌≡◌, ℕ, ◌<◌, length, slice_index_or, Bool, ◌==◌, ◌&&◌, ◌||◌, not, List, map, Option, Some, None}
+use Rattle.std.specs.Prelude.{◌≡◌, ℕ, ◌<◌, length, slice_index_or, Bool, ◌==◌, ◌&&◌, ◌||◌, not, List, map, Option}
+use Rattle.std.specs.Prelude.{Some, None}
 use Rattle.std.specs.List.{All, find, list_any}
 use Rattle.std.specs.List.Sorted.{IsStrictlySortedBy}
 use Rattle.dz_name.specs.Words.{Name, Kind}
@@ -51,10 +52,12 @@ is_secure zone = list_any (λ r. is_of_dnssec r.kind) zone.records
 
 -- the last NSEC before a place among the records
 abbrev pub IsLastNsec : List Record → ℕ → Option ℕ → Type 0
-IsLastNsec records place None = (k : ℕ) (d : Record) → k < place → k < length records → (slice_index_or records k d).kind ≡ TYPE_NSEC → ⊥
+IsLastNsec records place None = (k : ℕ) (d : Record) → k < place → k < length records
+    → (slice_index_or records k d).kind ≡ TYPE_NSEC → ⊥
 IsLastNsec records place (Some last) =
     (last < place) × (last < length records) × ((d : Record) → (slice_index_or records last d).kind ≡ TYPE_NSEC)
-    × ((k : ℕ) (d : Record) → last < k → k < place → k < length records → (slice_index_or records k d).kind ≡ TYPE_NSEC → ⊥)
+    × ((k : ℕ) (d : Record) → last < k → k < place → k < length records
+    → (slice_index_or records k d).kind ≡ TYPE_NSEC → ⊥)
 
 -- the SOA record of the apex (RFC 1035 section 3.3.13)
 abbrev pub apex_soa : Zone → Option Record

@@ -7,7 +7,9 @@ ghost use Rattle.dz_record.specs.Record.{record_order};
 ghost use Rattle.dz_zone.specs.inner.Kinds.{kinds_of};
 ghost use Rattle.dz_zone.specs.inner.Neighbours.{neighbours_from};
 ghost use Rattle.dz_zone.specs.inner.Singletons.{is_singleton, has_singletons, has_soa};
-ghost use Rattle.dz_zone.specs.Valid.{at_apex, no_soa, soa_twice, soa_below, no_ns, out_of_zone, is_beside_any, is_cname_and_other, clash, cname_beside, both_are, owned_twice, too_many, fault_of};
+ghost use Rattle.dz_zone.specs.Valid.{at_apex, no_soa, soa_twice, soa_below, no_ns, out_of_zone, is_beside_any};
+ghost use Rattle.dz_zone.specs.Valid.{is_cname_and_other, clash, cname_beside, both_are, owned_twice, too_many};
+ghost use Rattle.dz_zone.specs.Valid.{fault_of};
 
 use crate::fault::ZoneFault;
 use crate::kinds::Kinds;

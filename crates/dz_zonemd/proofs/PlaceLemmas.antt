@@ -1,10 +1,12 @@
 -- The ZONEMD records of an apex are one run of records in order.
-use Rattle.std.proofs.Common.{◌≡◌, ℕ, ◌+◌, ◌-◌, ◌<◌, ◌≤◌, Bool, true, false, List, [], ◌∷◌, ◌++◌, length, take, drop, get_or, get_or-drop, refl, sym, ◌∙◌, ap, arith, length-drop, inl, inr}
+use Rattle.std.proofs.Common.{◌≡◌, ℕ, ◌+◌, ◌-◌, ◌<◌, ◌≤◌, Bool, true, false, List, [], ◌∷◌, ◌++◌, length, take, drop}
+use Rattle.std.proofs.Common.{get_or, get_or-drop, refl, sym, ◌∙◌, ap, arith, length-drop, inl, inr}
 use Rattle.std.specs.Prelude.{filter, ◌==◌, ◌&&◌}
 use Rattle.std.specs.List.{All}
 use Rattle.std.specs.List.Sorted.{IsStrictlySortedBy, IsSortedBy, IsNonDecreasingBy, IsPartitionedBy}
 use Rattle.std.specs.Cmp.{IsTotalOrder, on_total, then_total, nat_cmp_total}
-use Rattle.std.specs.Ordering.{is_lt, is_le, is_eq, is_gt, ordering_index, ordering_then, ordering_reverse, nat_cmp, on, then_cmp}
+use Rattle.std.specs.Ordering.{is_lt, is_le, is_eq, is_gt, ordering_index, ordering_then, ordering_reverse, nat_cmp}
+use Rattle.std.specs.Ordering.{on, then_cmp}
 use Rattle.std.specs.declared.cmp.Ordering.{Ordering}
 use Rattle.std.specs.declared.cmp.Ordering.TheVariants.{Less, Equal, Greater}
 use Rattle.std.proofs.lemmas.Bool.{cases_lt}
@@ -40,13 +42,16 @@ turned_not_less Less h = refl
 turned_not_less Equal h = refl
 turned_not_less Greater h = absurd (cc)
 
-keys_rise : (records : List Record) → IsStrictlySortedBy record_order records → IsSortedBy (λ a b. is_lt (key_order (key a) (key b))) records
+keys_rise : (records : List Record) → IsStrictlySortedBy record_order records
+    → IsSortedBy (λ a b. is_lt (key_order (key a) (key b))) records
 keys_rise records up k d low within =
     let a = get_or records k d in
     let b = get_or records (k + 1) d in
-    rw (key_total.antisymm (key b) (key a)) (turned_not_less (key_order (key a) (key b)) (front_not_greater (key_order (key a) (key b)) _ (Less-from_sorted record_order records k (k + 1) d up (omega arith) within)))
+    rw (key_total.antisymm (key b) (key a)) (turned_not_less (key_order (key a) (key b)) (front_not_greater
+    (key_order (key a) (key b)) _ (Less-from_sorted record_order records k (k + 1) d up (omega arith) within)))
 
-rises : (apex : Name) (records : List Record) → IsStrictlySortedBy record_order records → IsNonDecreasingBy (λ r. ordering_index (from_zonemds apex r)) records
+rises : (apex : Name) (records : List Record) → IsStrictlySortedBy record_order records
+    → IsNonDecreasingBy (λ r. ordering_index (from_zonemds apex r)) records
 rises apex records up = searchable_from_sorted key_total key records (apex, 63) (keys_rise records up)
 
 below_less : (o p : Ordering) → ordering_index o ≤ ordering_index p → is_lt p ≡ true → is_lt o ≡ true
@@ -64,11 +69,15 @@ below_le Greater Less h k = absurd (omega arith)
 below_le Greater Equal h k = absurd (omega arith)
 
 -- what the searches ask
-pub parted_before : (apex : Name) (records : List Record) → IsStrictlySortedBy record_order records → IsPartitionedBy (λ r. is_lt (from_zonemds apex r)) records
-parted_before apex records up i j d le within h = below_less (from_zonemds apex (get_or records i d)) (from_zonemds apex (get_or records j d)) (rises apex records up i j d le within) h
+pub parted_before : (apex : Name) (records : List Record) → IsStrictlySortedBy record_order records
+    → IsPartitionedBy (λ r. is_lt (from_zonemds apex r)) records
+parted_before apex records up i j d le within h = below_less (from_zonemds apex (get_or records i d))
+    (from_zonemds apex (get_or records j d)) (rises apex records up i j d le within) h
 
-pub parted_upto : (apex : Name) (records : List Record) → IsStrictlySortedBy record_order records → IsPartitionedBy (λ r. is_le (from_zonemds apex r)) records
-parted_upto apex records up i j d le within h = below_le (from_zonemds apex (get_or records i d)) (from_zonemds apex (get_or records j d)) (rises apex records up i j d le within) h
+pub parted_upto : (apex : Name) (records : List Record) → IsStrictlySortedBy record_order records
+    → IsPartitionedBy (λ r. is_le (from_zonemds apex r)) records
+parted_upto apex records up i j d le within h = below_le (from_zonemds apex (get_or records i d))
+    (from_zonemds apex (get_or records j d)) (rises apex records up i j d le within) h
 
 lt_is_le : (o : Ordering) → is_lt o ≡ true → is_le o ≡ true
 lt_is_le Less h = refl
@@ -91,7 +100,8 @@ le_not_lt_eq Equal h k = refl
 le_not_lt_eq Greater h k = absurd (cc)
 
 -- the search for the end leads no nearer to the beginning than that for the begin
-pub places_rise : (apex : Name) (records : List Record) (i j : ℕ) → i ≤ length records → IsBegin apex records i → IsEnd apex records j → i ≤ j
+pub places_rise : (apex : Name) (records : List Record) (i j : ℕ) → i ≤ length records → IsBegin apex records i
+    → IsEnd apex records j → i ≤ j
 places_rise apex [] i j within low high = omega arith
 places_rise apex (r ∷ rs) i j within low high = elim (cases_lt j i) [
   | inr le ↦ le
@@ -103,11 +113,13 @@ places_rise apex (r ∷ rs) i j within low high = elim (cases_lt j i) [
 
 none_pass : (p : Record → Bool) (rs : List Record) → All (λ r. p r ≡ false) rs → filter p rs ≡ []
 none_pass p [] none = refl
-none_pass p (r ∷ rs) none = rw (All-head (λ r. p r ≡ false) r rs none) (none_pass p rs (All-tail (λ r. p r ≡ false) r rs none))
+none_pass p (r ∷ rs) none =
+    rw (All-head (λ r. p r ≡ false) r rs none) (none_pass p rs (All-tail (λ r. p r ≡ false) r rs none))
 
 all_pass : (p : Record → Bool) (rs : List Record) → All (λ r. p r ≡ true) rs → filter p rs ≡ rs
 all_pass p [] each = refl
-all_pass p (r ∷ rs) each = rw (All-head (λ r. p r ≡ true) r rs each) (ap (λ xs. r ∷ xs) (all_pass p rs (All-tail (λ r. p r ≡ true) r rs each)))
+all_pass p (r ∷ rs) each = rw (All-head (λ r. p r ≡ true) r rs each)
+    (ap (λ xs. r ∷ xs) (all_pass p rs (All-tail (λ r. p r ≡ true) r rs each)))
 
 never : (b : Bool) → false ≡ (b && false)
 never true = refl
@@ -126,9 +138,11 @@ both_equal Equal a b = equal_is a b ∙ always (a == b)
 both_equal Greater a b = never (a == b)
 
 is_key : (apex : Name) (r : Record) → is_eq (from_zonemds apex r) ≡ is_zonemd apex r
-is_key apex r = both_equal (canonical_order r.owner apex) r.kind 63 ∙ ap (λ b. (r.kind == 63) && b) (sym (same_ties r.owner apex))
+is_key apex r = both_equal (canonical_order r.owner apex) r.kind 63
+    ∙ ap (λ b. (r.kind == 63) && b) (sym (same_ties r.owner apex))
 
-pub run_is : (apex : Name) (records : List Record) (i j : ℕ) → i ≤ length records → j ≤ length records → IsBegin apex records i → IsEnd apex records j
+pub run_is : (apex : Name) (records : List Record) (i j : ℕ) → i ≤ length records → j ≤ length records
+    → IsBegin apex records i → IsEnd apex records j
     → take (j - i) (drop i records) ≡ zonemds apex records
 run_is apex records i j low_in high_in low high =
     let seen = from_zonemds apex in
@@ -144,14 +158,17 @@ run_is apex records i j low_in high_in low high =
     all_pass p (take (j - i) rest) (λ k d h.
     let m : k < j - i = omega arith in
     rw (get_or-take (j - i) rest k d m, get_or-drop i records k d)
-    (le_not_lt_eq (seen (get_or records (i + k) d)) (low.1 (i + k) d (omega arith) (omega arith)) (high.0 (i + k) d (omega arith) (omega arith)))) in
+    (le_not_lt_eq (seen (get_or records (i + k) d)) (low.1 (i + k) d (omega arith) (omega arith))
+    (high.0 (i + k) d (omega arith) (omega arith)))) in
     let back : filter p (drop (j - i) rest) ≡ [] =
     none_pass p (drop (j - i) rest) (λ k d h.
     let m : i + ((j - i) + k) ≡ j + k = omega arith in
     let len : j + k < length records = omega (arith, length-drop (j - i) rest, length-drop i records) in
     rw (get_or-drop (j - i) rest k d, get_or-drop i records ((j - i) + k) d, m)
     (not_le_not_eq (seen (get_or records (j + k) d)) (high.1 (j + k) d (omega arith) len))) in
-    let parts : filter p records ≡ filter p (take i records) ++ filter p rest = ap (filter p) (sym (take-append-drop i records)) ∙ filter-append p (take i records) rest in
+    let parts : filter p records ≡ filter p (take i records) ++ filter p rest =
+    ap (filter p) (sym (take-append-drop i records)) ∙ filter-append p (take i records) rest in
     let more : filter p rest ≡ filter p (take (j - i) rest) ++ filter p (drop (j - i) rest) =
     ap (filter p) (sym (take-append-drop (j - i) rest)) ∙ filter-append p (take (j - i) rest) (drop (j - i) rest) in
-    sym (parts ∙ rw (front, more, middle, back) (append-nil (take (j - i) rest))) ∙ filter_agree p (is_zonemd apex) (is_key apex) records
+    sym (parts ∙ rw (front, more, middle, back) (append-nil (take (j - i) rest)))
+    ∙ filter_agree p (is_zonemd apex) (is_key apex) records

@@ -15,7 +15,8 @@ type_covered r = number_of_two r.rdata
 -- a record isn't digested: a ZONEMD record of the apex, or an RRSIG record of the apex that covers it (section
 -- 3.3.1.1). Below the apex both are records like any other (section 2.1)
 abbrev pub is_left_out : Name → Record → Bool
-is_left_out apex r = (r.kind == TYPE_ZONEMD || (r.kind == TYPE_RRSIG && type_covered r == TYPE_ZONEMD)) && same_name r.owner apex
+is_left_out apex r =
+    (r.kind == TYPE_ZONEMD || (r.kind == TYPE_RRSIG && type_covered r == TYPE_ZONEMD)) && same_name r.owner apex
 
 -- the octets that are digested: every other record of the zone, duplicates once, in the order of owner name, type and
 -- RDATA, each in canonical form with its own TTL (sections 3.3.1.1 and 3.3.1.2; RFC 4034 section 6)

@@ -11,7 +11,8 @@ use Rattle.dz_zonemd.specs.Standing.{standing, hashes}
 use Rattle.dz_zonemd.specs.Zonemd.{is_supported}
 use Rattle.sha2.specs.Sha512.{compress, digest_bytes, first_words, hash_after, rounds, schedule, sha384}
 use Rattle.dz_zonemd.specs.declared.acceptance.Standing.TheVariants.{Absent, Unsupported, Good, Bad}
-use Rattle.dz_zonemd.specs.declared.algorithm.TheConstants.{SCHEME_SIMPLE, HEAD_OCTETS, ALGORITHM_SHA384, ALGORITHM_SHA512}
+use Rattle.dz_zonemd.specs.declared.algorithm.TheConstants.{SCHEME_SIMPLE, HEAD_OCTETS, ALGORITHM_SHA384}
+use Rattle.dz_zonemd.specs.declared.algorithm.TheConstants.{ALGORITHM_SHA512}
 
 -- the apex of the zone of RFC 8976 appendix A.1
 abbrev apex : Name
@@ -31,7 +32,8 @@ soa = record {
   owner = apex;
   kind = TYPE_SOA;
   ttl = 86400;
-  rdata = wire_of ns1 ++ wire_of (codes "admin" ∷ apex) ++ four 2018031900 ++ four 1800 ++ four 900 ++ four 604800 ++ four 86400;
+  rdata = wire_of ns1 ++ wire_of (codes "admin" ∷ apex) ++ four 2018031900 ++ four 1800 ++ four 900 ++ four 604800
+      ++ four 86400;
 }
 
 -- an NS record of the apex
@@ -44,11 +46,17 @@ address = record { owner = ns1; kind = TYPE_A; ttl = 3600; rdata = 203 ∷ 0 ∷
 
 -- the AAAA record of ns2.example.
 abbrev address6 : Record
-address6 = record { owner = ns2; kind = TYPE_AAAA; ttl = 3600; rdata = 32 ∷ 1 ∷ 13 ∷ 184 ∷ 0 ∷ 0 ∷ 0 ∷ 0 ∷ 0 ∷ 0 ∷ 0 ∷ 0 ∷ 0 ∷ 0 ∷ 0 ∷ 99 ∷ [] }
+address6 = record {
+  owner = ns2;
+  kind = TYPE_AAAA;
+  ttl = 3600;
+  rdata = 32 ∷ 1 ∷ 13 ∷ 184 ∷ 0 ∷ 0 ∷ 0 ∷ 0 ∷ 0 ∷ 0 ∷ 0 ∷ 0 ∷ 0 ∷ 0 ∷ 0 ∷ 99 ∷ [];
+}
 
 -- a ZONEMD record of an owner name, with the serial of that zone
 abbrev zonemd : Name → ℕ → ℕ → Octets → Record
-zonemd owner scheme algorithm digest = record { owner = owner; kind = TYPE_ZONEMD; ttl = 86400; rdata = four 2018031900 ++ scheme ∷ algorithm ∷ digest }
+zonemd owner scheme algorithm digest =
+    record { owner = owner; kind = TYPE_ZONEMD; ttl = 86400; rdata = four 2018031900 ++ scheme ∷ algorithm ∷ digest }
 
 -- the records in another order, a ZONEMD record of the apex among them
 abbrev shuffled : List Record
@@ -61,12 +69,17 @@ shuffled_rest = address6 ∷ soa ∷ server ns2 ∷ address ∷ server ns1 ∷ [
 -- the octets that the digest of appendix A.1 is of: NS, SOA, A and AAAA
 abbrev octets : Octets
 octets =
-    (7 ∷ codes "example" ++ 0 ∷ 0 ∷ 2 ∷ 0 ∷ 1 ∷ 0 ∷ 1 ∷ 81 ∷ 128 ∷ 0 ∷ 13 ∷ 3 ∷ codes "ns1" ++ 7 ∷ codes "example" ++ 0 ∷ [])
-    ++ (7 ∷ codes "example" ++ 0 ∷ 0 ∷ 2 ∷ 0 ∷ 1 ∷ 0 ∷ 1 ∷ 81 ∷ 128 ∷ 0 ∷ 13 ∷ 3 ∷ codes "ns2" ++ 7 ∷ codes "example" ++ 0 ∷ [])
-    ++ (7 ∷ codes "example" ++ 0 ∷ 0 ∷ 6 ∷ 0 ∷ 1 ∷ 0 ∷ 1 ∷ 81 ∷ 128 ∷ 0 ∷ 48 ∷ 3 ∷ codes "ns1" ++ 7 ∷ codes "example" ++ 0 ∷ 5 ∷ codes "admin" ++ 7 ∷ codes "example"
+    (7 ∷ codes "example" ++ 0 ∷ 0 ∷ 2 ∷ 0 ∷ 1 ∷ 0 ∷ 1 ∷ 81 ∷ 128 ∷ 0 ∷ 13 ∷ 3 ∷ codes "ns1" ++ 7
+    ∷ codes "example" ++ 0 ∷ [])
+    ++ (7 ∷ codes "example" ++ 0 ∷ 0 ∷ 2 ∷ 0 ∷ 1 ∷ 0 ∷ 1 ∷ 81 ∷ 128 ∷ 0 ∷ 13 ∷ 3 ∷ codes "ns2" ++ 7
+    ∷ codes "example" ++ 0 ∷ [])
+    ++ (7 ∷ codes "example" ++ 0 ∷ 0 ∷ 6 ∷ 0 ∷ 1 ∷ 0 ∷ 1 ∷ 81 ∷ 128 ∷ 0 ∷ 48 ∷ 3 ∷ codes "ns1" ++ 7 ∷ codes "example"
+    ++ 0 ∷ 5 ∷ codes "admin" ++ 7 ∷ codes "example"
     ++ 0 ∷ 120 ∷ 72 ∷ 185 ∷ 28 ∷ 0 ∷ 0 ∷ 7 ∷ 8 ∷ 0 ∷ 0 ∷ 3 ∷ 132 ∷ 0 ∷ 9 ∷ 58 ∷ 128 ∷ 0 ∷ 1 ∷ 81 ∷ 128 ∷ [])
-    ++ (3 ∷ codes "ns1" ++ 7 ∷ codes "example" ++ 0 ∷ 0 ∷ 1 ∷ 0 ∷ 1 ∷ 0 ∷ 0 ∷ 14 ∷ 16 ∷ 0 ∷ 4 ∷ 203 ∷ 0 ∷ 113 ∷ 63 ∷ [])
-    ++ (3 ∷ codes "ns2" ++ 7 ∷ codes "example" ++ 0 ∷ 0 ∷ 28 ∷ 0 ∷ 1 ∷ 0 ∷ 0 ∷ 14 ∷ 16 ∷ 0 ∷ 16 ∷ 32 ∷ 1 ∷ 13 ∷ 184 ∷ 0 ∷ 0 ∷ 0 ∷ 0 ∷ 0 ∷ 0 ∷ 0 ∷ 0 ∷ 0 ∷ 0 ∷ 0 ∷ 99 ∷ [])
+    ++ (3 ∷ codes "ns1" ++ 7 ∷ codes "example" ++ 0 ∷ 0 ∷ 1 ∷ 0 ∷ 1 ∷ 0 ∷ 0 ∷ 14 ∷ 16 ∷ 0 ∷ 4 ∷ 203 ∷ 0
+    ∷ 113 ∷ 63 ∷ [])
+    ++ (3 ∷ codes "ns2" ++ 7 ∷ codes "example" ++ 0 ∷ 0 ∷ 28 ∷ 0 ∷ 1 ∷ 0 ∷ 0 ∷ 14 ∷ 16 ∷ 0 ∷ 16 ∷ 32 ∷ 1 ∷ 13 ∷ 184 ∷ 0
+    ∷ 0 ∷ 0 ∷ 0 ∷ 0 ∷ 0 ∷ 0 ∷ 0 ∷ 0 ∷ 0 ∷ 0 ∷ 99 ∷ [])
 
 pub octets_of_the_zone : digested apex shuffled ≡ octets
 unfolding digested distinct insertion in_order wire_of two four number_of_two
@@ -125,7 +138,8 @@ unfolding standing four
 private_use = refl
 
 -- another serial, and two records of one scheme and algorithm: neither verifies, whatever their digests
-pub another_serial : standing apex (record soa { rdata = four 0 ++ four 0 ++ four 0 ++ four 0 ++ four 0 } ∷ zonemd apex 1 1 octets48 ∷ []) ≡ Bad
+pub another_serial : standing apex
+    (record soa { rdata = four 0 ++ four 0 ++ four 0 ++ four 0 ++ four 0 } ∷ zonemd apex 1 1 octets48 ∷ []) ≡ Bad
 unfolding standing four number_of_four
 another_serial = refl
 
@@ -138,7 +152,8 @@ printed =
     ∷ 154 ∷ 229 ∷ 204 ∷ 39 ∷ 119 ∷ 127 ∷ 152 ∷ 184 ∷ 231 ∷ 48 ∷ 4 ∷ 76 ∷ []
 
 pub appendix_a1 : standing apex (zonemd apex 1 1 printed ∷ shuffled_rest) ≡ Good
-unfolding standing digested distinct insertion in_order wire_of two four number_of_two number_of_four compress digest_bytes first_words hash_after rounds schedule sha384
+unfolding standing digested distinct insertion in_order wire_of two four number_of_two number_of_four compress
+    digest_bytes first_words hash_after rounds schedule sha384
 appendix_a1 = refl
 
 -- ---- the numbers of ZONEMD records (RFC 8976 section 2.2), so that none can change

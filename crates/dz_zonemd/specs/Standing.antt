@@ -32,7 +32,8 @@ is_serial apex records serial = list_any (serial_is apex serial) records
 
 -- the digest in a record is that of these octets by its algorithm
 abbrev pub is_digest : Octets → Record → Bool
-is_digest octets r = option_map_or (λ algorithm. bytes_eq (digest_in r) (hash_by algorithm octets)) (known_algorithm r) false
+is_digest octets r =
+    option_map_or (λ algorithm. bytes_eq (digest_in r) (hash_by algorithm octets)) (known_algorithm r) false
 
 -- no other ZONEMD record of the apex has its scheme and algorithm (section 2.5: each has its own)
 abbrev pub is_alone : Name → List Record → Record → Bool
@@ -41,10 +42,11 @@ is_alone apex records r = count_by (is_twin r) (zonemds apex records) == 1
 -- a ZONEMD record of the apex that verifies the zone (section 4)
 abbrev pub verifies : Name → List Record → Record → Bool
 verifies apex records r =
-    is_supported r && (is_alone apex records r && (is_serial apex records (serial_in r) && is_digest (digested apex records) r))
+    is_supported r
+    && (is_alone apex records r && (is_serial apex records (serial_in r) && is_digest (digested apex records) r))
 
--- how often a zone with these ZONEMD records at its apex is hashed by an algorithm at most: once where one record alone
--- is of the algorithm, and otherwise never (section 4)
+-- how often a zone with these ZONEMD records at its apex is hashed by an algorithm at most: once where one record
+-- alone is of the algorithm, and otherwise never (section 4)
 abbrev pub hashes_by : Algorithm → List Record → ℕ
 hashes_by algorithm found = if count_by (is_by algorithm) found == 1 then 1 else 0
 

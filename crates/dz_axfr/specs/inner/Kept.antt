@@ -40,8 +40,11 @@ pub record IsHeld (apex : Name) (kept : List Record) (progress : Progress) (fed 
 
 -- what of these records belongs to the body of a form that this SOA began, whatever of the body was there before
 abbrev pub Cuts : Name → Record → List Record → Progress → List Record → Type 0
-Cuts apex first records progress cut = (body : List Record) → (read (one apex) (amid (opened first body)) records ≡ kept_place progress (first ∷ (body ++ cut))) × AreKept progress (first ∷ (body ++ cut)) (first ∷ (body ++ records))
+Cuts apex first records progress cut = (body : List Record)
+    → (read (one apex) (amid (opened first body)) records ≡ kept_place progress (first ∷ (body ++ cut)))
+    × AreKept progress (first ∷ (body ++ cut)) (first ∷ (body ++ records))
 
 -- the fault of these records after the first SOA, whatever of the body was there before
 abbrev pub Misfits : Name → Record → List Record → ShapeFault → Type 0
-Misfits apex first records fault = (body : List Record) → read (one apex) (amid (opened first body)) records ≡ failed fault
+Misfits apex first records fault =
+    (body : List Record) → read (one apex) (amid (opened first body)) records ≡ failed fault

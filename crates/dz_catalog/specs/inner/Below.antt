@@ -38,5 +38,6 @@ node_among owner records label zone = record {
 unfoldable pub node_behind : Name → Record → List Record → Option Node
 node_behind apex r behind =
     if is_member apex r
-    then option_and_then (λ label. option_map (node_among r.owner (below r.owner behind) label) (target_of r)) (first_label r.owner)
+    then option_and_then (λ label. option_map (node_among r.owner (below r.owner behind) label) (target_of r))
+    (first_label r.owner)
     else None

@@ -1,5 +1,6 @@
 -- Inner: entries in the order of their keys, cut into chunks.
-use Rattle.std.specs.Prelude.{◌≡◌, ℕ, zero, suc, ◌+◌, ◌<◌, ◌≤◌, Bool, true, false, not, T, List, [], ◌∷◌, ◌++◌, length, slice_index_or}
+use Rattle.std.specs.Prelude.{◌≡◌, ℕ, zero, suc, ◌+◌, ◌<◌, ◌≤◌, Bool, true, false, not, T, List, [], ◌∷◌, ◌++◌, length}
+use Rattle.std.specs.Prelude.{slice_index_or}
 use Rattle.std.specs.Ordering.{is_lt, is_gt, is_eq}
 use Rattle.std.specs.FinMap.{is_sorted}
 use Rattle.std.specs.declared.cmp.Ordering.{Ordering}
@@ -24,7 +25,8 @@ module _ {K X : Type 0} (lead : K → List ℕ) where
   AreMarks (m ∷ ms) place es =
       ((d : K × X) → place < length es → m ≡ lead (slice_index_or es place d).0) × AreMarks ms (place + 16) es
 
--- how many entries the chunk at a place has, and the one before it. Where there is none, 128: nothing is joined with it
+-- how many entries the chunk at a place has, and the one before it. Where there is none, 128: nothing is joined with
+-- it
 abbrev pub length_at : {A : Type 0} → List (List A) → ℕ → ℕ
 length_at [] at = 128
 length_at (c ∷ cs) zero = length c

@@ -1,5 +1,6 @@
 -- Inner: what the ends keep.
-use Rattle.std.specs.Prelude.{◌≡◌, ℕ, ◌-◌, ◌^◌, ◌<◌, Bool, List, [], ◌∷◌, ◌++◌, length, Option, Some, IfSome, option_map}
+use Rattle.std.specs.Prelude.{◌≡◌, ℕ, ◌-◌, ◌^◌, ◌<◌, Bool, List, [], ◌∷◌, ◌++◌, length, Option, Some, IfSome}
+use Rattle.std.specs.Prelude.{option_map}
 use Rattle.logbook.specs.Pages.{Named}
 use Rattle.dz_history.specs.After.{after}
 use Rattle.dz_history.specs.Legal.{IsLegal}
@@ -10,7 +11,8 @@ use Rattle.dz_desk.specs.inner.Ledger.{length_of}
 
 -- a publisher by what it shows and what is staged
 abbrev pub published : Page → Option Step → Published
-published shown staged = record { list = shown.list; staged = option_map (λ step. shown.list ++ step.entry ∷ []) staged; book = shown.book }
+published shown staged =
+    record { list = shown.list; staged = option_map (λ step. shown.list ++ step.entry ∷ []) staged; book = shown.book }
 
 -- a step may come next after a list: the list with its entry is legal, and its table is the one after that
 pub record IsNext (list : List Entry) (step : Step) : Type 0 where
@@ -20,7 +22,8 @@ pub record IsNext (list : List Entry) (step : Step) : Type 0 where
 
 -- its seat saw the page shown last, no page is put after it, the word is its book's, and what is staged may come next
 abbrev pub IsKept : Option Page → List Page → Named → Page → Option Step → Type 0
-IsKept last behind word shown staged = (last ≡ Some shown) × (behind ≡ []) × (word ≡ length_of shown.book) × IfSome staged (IsNext shown.list)
+IsKept last behind word shown staged =
+    (last ≡ Some shown) × (behind ≡ []) × (word ≡ length_of shown.book) × IfSome staged (IsNext shown.list)
 
 -- one page is put after the shown one, and continues it
 abbrev pub HasNext : Page → List Page → Type 0
@@ -28,4 +31,5 @@ HasNext shown behind = (next : Page) × (behind ≡ next ∷ []) × Goes shown n
 
 -- a reading by the page that it has seen, and the rest
 abbrev pub viewed : Page → Bool → ℕ → ℕ → Viewed
-viewed seen is_out sights refusals = record { list = seen.list; is_out = is_out; sights = sights; refusals = refusals; book = seen.book }
+viewed seen is_out sights refusals =
+    record { list = seen.list; is_out = is_out; sights = sights; refusals = refusals; book = seen.book }

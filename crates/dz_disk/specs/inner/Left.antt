@@ -18,12 +18,22 @@ front_long at file le = omega (arith, le, length-take at file)
 pub torn_put : (at : ℕ) (piece file : List ℕ) → at ≤ length file → IsTorn at (length piece) file (put at piece file)
 torn_put at piece file le =
     let long : length (put at piece file) ≡ at + (length piece + (length file - (at + length piece))) =
-    omega (arith, le, length-append (take at file) (piece ++ drop (at + length piece) file), length-append piece (drop (at + length piece) file), length-take at file, length-drop (at + length piece) file) in
+    omega (
+      arith,
+      le,
+      length-append (take at file) (piece ++ drop (at + length piece) file),
+      length-append piece
+          (drop (at + length piece) file),
+      length-take at file,
+      length-drop (at + length piece) file,
+    ) in
     record {
       front = take_at (take at file) (piece ++ drop (at + length piece) file) at (front_long at file le);
       beyond =
-          ap (λ l. drop (at + length piece) l) (sym (append_assoc (take at file) piece (drop (at + length piece) file)))
-          ∙ drop_at (take at file ++ piece) (drop (at + length piece) file) (at + length piece) (omega (arith, length-append (take at file) piece, front_long at file le));
+          ap (λ l. drop (at + length piece) l)
+          (sym (append_assoc (take at file) piece (drop (at + length piece) file)))
+          ∙ drop_at (take at file ++ piece) (drop (at + length piece) file) (at + length piece)
+          (omega (arith, length-append (take at file) piece, front_long at file le));
       least = omega (arith, long);
       most = omega (arith, long);
     }
@@ -33,14 +43,16 @@ after_left s (act.Wrote at piece) left = (s.octets, left, torn_put (place at s) 
 after_left s (act.Tried at count) left = (s.octets, left, torn_same at count s.octets)
 after_left s act.Synced left = refl
 
-all_left : (acts : List DiskAct) (s : State) → MayLeave s s.octets → MayLeave (fold after s acts) (fold after s acts).octets
+all_left : (acts : List DiskAct) (s : State) → MayLeave s s.octets
+    → MayLeave (fold after s acts) (fold after s acts).octets
 all_left [] s left = left
 all_left (a ∷ acts) s left = all_left acts (after s a) (after_left s a left)
 
 pub told_left : (d : DiskOf) → MayLeave (state_of d) (state_of d).octets
 told_left d = all_left d.acts (begun d.begun) refl
 
-pub left_now : (d : DiskOf) (t : ℕ) (c : List ℕ) → t ≤ length d.acts → MayLeave (state_of d) c → LeftFrom d.begun d.acts t c
+pub left_now : (d : DiskOf) (t : ℕ) (c : List ℕ) → t ≤ length d.acts → MayLeave (state_of d) c
+    → LeftFrom d.begun d.acts t c
 left_now d t c le left = record {
   many = length d.acts;
   late = le;

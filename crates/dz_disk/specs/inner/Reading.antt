@@ -1,5 +1,6 @@
 -- Inner: what is found where a record may begin, and what was read of a file so far.
-use Rattle.std.specs.Prelude.{◌≡◌, ◌<◌, ◌≤◌, ◌^◌, ℕ, Bool, true, false, List, [], ◌∷◌, ◌++◌, length, take, drop, Option, Some, None, slice_get}
+use Rattle.std.specs.Prelude.{◌≡◌, ◌<◌, ◌≤◌, ◌^◌, ℕ, Bool, true, false, List, [], ◌∷◌, ◌++◌, length, take, drop}
+use Rattle.std.specs.Prelude.{Option, Some, None, slice_get}
 use Rattle.std.specs.Int.{w64, to_be_bytes}
 use Rattle.dz_disk.specs.RecordLog.{limit, body, log, is_open, records, IsPayload, ArePayloads}
 use Rattle.dz_disk.specs.declared.scan.Found.{Found}
@@ -23,8 +24,10 @@ IsHead (Some head) rest = (tail : List ℕ) × IsHeadOf head.0 head.1 rest tail
 -- no record begins here, and this octet is here; or this is the payload of the record that begins here
 abbrev pub IsFound : (List ℕ → Bool) → Found → List ℕ → Type 0
 IsFound reads (found.Shut None) rest = rest ≡ []
-IsFound reads (found.Shut (Some gate)) rest = (tail : List ℕ) × (rest ≡ gate ∷ tail) × (is_open reads gate tail ≡ false)
-IsFound reads (found.Record payload) rest = (more : List ℕ) × (rest ≡ 1 ∷ (body payload.items ++ more)) × IsPayload reads payload.items
+IsFound reads (found.Shut (Some gate)) rest =
+    (tail : List ℕ) × (rest ≡ gate ∷ tail) × (is_open reads gate tail ≡ false)
+IsFound reads (found.Record payload) rest =
+    (more : List ℕ) × (rest ≡ 1 ∷ (body payload.items ++ more)) × IsPayload reads payload.items
 
 -- the payload that was found is readable, and not longer than any may be
 abbrev pub IsReadable : (List ℕ → Bool) → Found → Type 0
@@ -32,7 +35,8 @@ IsReadable reads (found.Shut gate) = Unit {0}
 IsReadable reads (found.Record payload) = (length payload.items ≤ limit) × (reads payload.items ≡ true)
 
 -- these records were read, up to an offset
-pub record IsRecords {I : Type 0} (reads : List ℕ → Bool) (is_of : I → List (List ℕ) → Type 0) (index : I) (end : ℕ) (file : List ℕ) (list : List (List ℕ)) : Type 0 where
+pub record IsRecords {I : Type 0} (reads : List ℕ → Bool) (is_of : I → List (List ℕ) → Type 0) (index : I) (end : ℕ)
+    (file : List ℕ) (list : List (List ℕ)) : Type 0 where
   pub are : file ≡ log list ++ drop end file
   pub ends : end ≡ length (log list)
   pub fits : ArePayloads reads list
@@ -43,6 +47,7 @@ abbrev pub IsSoFar : {I : Type 0} → (List ℕ → Bool) → (I → List (List 
 IsSoFar reads is_of index end file = (list : List (List ℕ)) × IsRecords reads is_of index end file list
 
 -- all records were read: the octet at the offset, if there is one, is a gate that isn't open
-pub record IsAll {I : Type 0} (reads : List ℕ → Bool) (is_of : I → List (List ℕ) → Type 0) (index : I) (end : ℕ) (gate : Option ℕ) (file : List ℕ) : Type 0 where
+pub record IsAll {I : Type 0} (reads : List ℕ → Bool) (is_of : I → List (List ℕ) → Type 0) (index : I) (end : ℕ)
+    (gate : Option ℕ) (file : List ℕ) : Type 0 where
   pub all : IsRecords reads is_of index end file (records reads file)
   pub gate_is : gate ≡ slice_get file end

@@ -1,5 +1,6 @@
 -- Inner: octets that are read from a source frame by frame.
-use Rattle.std.specs.Prelude.{◌≡◌, ◌<◌, ◌≤◌, ◌⊎◌, ℕ, Bool, true, false, [], ◌++◌, length, drop, Option, None, IsSome, Result, Ok, Err}
+use Rattle.std.specs.Prelude.{◌≡◌, ◌<◌, ◌≤◌, ◌⊎◌, ℕ, Bool, true, false, [], ◌++◌, length, drop, Option, None, IsSome}
+use Rattle.std.specs.Prelude.{Result, Ok, Err}
 use Rattle.dz_name.specs.Words.{Octets}
 use Rattle.dz_name.specs.declared.dns.TheConstants.{MESSAGE_OCTETS}
 use Rattle.dz_io.specs.Counts.{HasRisen}
@@ -63,7 +64,8 @@ pub record HasTaken (transfer : Transfer) (read : Octets) (before after left : O
   pub part : Octets
   pub gains : Gains (read ++ part) before after
   pub rest : first_size part ≡ None
-  pub ends : ((part ≡ []) × IsSome (decided transfer (messages_in read))) ⊎ ((decided transfer (messages_in read) ≡ None) × IsAtEnd left)
+  pub ends : ((part ≡ []) × IsSome (decided transfer (messages_in read)))
+      ⊎ ((decided transfer (messages_in read) ≡ None) × IsAtEnd left)
 
 -- where the transfer was read, the query was written before; and else a beginning of it, which may be empty or whole
 abbrev pub IsAsked : Fetched → Octets → Option Octets → Option Octets → Type 0

@@ -16,7 +16,8 @@ job_in f = record { flight = f.flight; held = option_map arc_value f.held.value;
 abbrev pub IsMarked : List Entry → Flying → Type 0
 IsMarked list f = f.ended ≡ ended list f.flight.zone f.flight.incarnation
 
--- a job in flight with the position of the entry after which this state holds, where its incarnation was current before
--- that entry and isn't now
+-- a job in flight with the position of the entry after which this state holds, where its incarnation was current
+-- before that entry and isn't now
 abbrev pub marked : State → ℕ → Flying → Flying
-marked s position f = if not (is_some f.ended) && not (stands s f.flight.zone f.flight.incarnation) then record f { ended = Some position } else f
+marked s position f = if not (is_some f.ended)
+    && not (stands s f.flight.zone f.flight.incarnation) then record f { ended = Some position } else f

@@ -14,11 +14,13 @@ use Rattle.dz_fleet.specs.inner.Flying.{job_in, IsMarked}
 
 -- the core of which these parts are kept
 abbrev pub core_in : List Entry → ℕ → List Flying → List ValuesOf → Core
-core_in list tickets flying values = record { list = list; tickets = tickets; flight = map job_in flying; values = values }
+core_in list tickets flying values =
+    record { list = list; tickets = tickets; flight = map job_in flying; values = values }
 
 -- the holdings are those after the list, which is that of a sound core; no member is a catalog, and each is a
 -- configured one's; and each job in flight has the position of the entry that ended its incarnation
-pub record IsKept (holdings : State) (list : List Entry) (tickets : ℕ) (flying : List Flying) (values : List ValuesOf) : Type 0 where
+pub record IsKept (holdings : State) (list : List Entry) (tickets : ℕ) (flying : List Flying)
+    (values : List ValuesOf) : Type 0 where
   pub after : holdings ≡ after list
   pub state : IsState holdings
   pub sound : IsSound (core_in list tickets flying values)

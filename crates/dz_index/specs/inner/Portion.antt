@@ -1,6 +1,7 @@
--- Inner: a portion of an index: the records from one place up to another, with their owners; and how it is put after the
--- rows of another index.
-use Rattle.std.specs.Prelude.{ℕ, ◌+◌, ◌-◌, ◌^◌, ◌<◌, ◌≤◌, List, [], ◌∷◌, ◌++◌, length, slice_index, slice_range, take, map}
+-- Inner: a portion of an index: the records from one place up to another, with their owners; and how it is put after
+-- the rows of another index.
+use Rattle.std.specs.Prelude.{ℕ, ◌+◌, ◌-◌, ◌^◌, ◌<◌, ◌≤◌, List, [], ◌∷◌, ◌++◌, length, slice_index, slice_range, take}
+use Rattle.std.specs.Prelude.{map}
 use Rattle.dz_index.specs.declared.index.Portion.{Portion}
 use Rattle.dz_index.specs.Rows.{Rows, count, total}
 
@@ -29,12 +30,19 @@ IsPortion r p = IsPlaces r.firsts p
 
 -- the places of the owners of a portion after others, and the place after its records
 abbrev pub places_with : List ℕ → List ℕ → Portion → ℕ → List ℕ
-places_with firsts others p records = (firsts ++ map (moved p.begin records) (slice_range others (p.from + 1) p.to)) ++ (records + (p.end - p.begin)) ∷ []
+places_with firsts others p records = (firsts ++ map (moved p.begin records) (slice_range others (p.from + 1) p.to))
+    ++ (records + (p.end - p.begin)) ∷ []
 
 -- a portion after the owners of an index
 abbrev pub joined : Rows → Rows → Portion → Rows
-joined r other p = record { keys = r.keys ++ slice_range other.keys p.from p.to; firsts = places_with r.firsts other.firsts p (total r) }
+joined r other p = record {
+  keys = r.keys ++ slice_range other.keys p.from p.to;
+  firsts = places_with r.firsts other.firsts p (total r);
+}
 
 -- the same where the first owner of the portion is the last one of the index
 abbrev pub continued : Rows → Rows → Portion → Rows
-continued r other p = record { keys = r.keys ++ slice_range other.keys (p.from + 1) p.to; firsts = places_with (take (count r) r.firsts) other.firsts p (total r) }
+continued r other p = record {
+  keys = r.keys ++ slice_range other.keys (p.from + 1) p.to;
+  firsts = places_with (take (count r) r.firsts) other.firsts p (total r);
+}

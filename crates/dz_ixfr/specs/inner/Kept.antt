@@ -25,7 +25,8 @@ HasNoneAmid apex (Adding serial) records = HasNoSoa apex records
 HasNoneAmid apex Ended records = ⊤
 
 -- what is kept once these records were fed
-pub record IsKept (held : Zone) (fed : List Record) (apex : Name) (goal : ℕ) (first : Record) (stage : Stage) (records : List Record) : Type 0 where
+pub record IsKept (held : Zone) (fed : List Record) (apex : Name) (goal : ℕ) (first : Record) (stage : Stage)
+    (records : List Record) : Type 0 where
   pub apex_is : apex ≡ held.apex
   pub goal_is : goal ≡ serial_of first
   pub opens : is_apex_soa held.apex first ≡ true
@@ -34,4 +35,5 @@ pub record IsKept (held : Zone) (fed : List Record) (apex : Name) (goal : ℕ) (
 
 -- the next SOA closes the form
 abbrev pub IsAtEnd : Zone → List Record → Type 0
-IsAtEnd held fed = (first : Record) × (standing : List Record) × (place_of held fed ≡ amid (adding first (serial_of first) standing))
+IsAtEnd held fed =
+    (first : Record) × (standing : List Record) × (place_of held fed ≡ amid (adding first (serial_of first) standing))

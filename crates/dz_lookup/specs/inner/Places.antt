@@ -1,5 +1,6 @@
 -- Inner: the places of records in a zone that is kept in order.
-use Rattle.std.specs.Prelude.{◌≡◌, ℕ, ◌≤◌, nat_le, List, true, false, length, drop, Option, Some, None, slice_get, if◌then◌else◌}
+use Rattle.std.specs.Prelude.{◌≡◌, ℕ, ◌≤◌, nat_le, List, true, false, length, drop, Option, Some, None, slice_get}
+use Rattle.std.specs.Prelude.{if◌then◌else◌}
 use Rattle.std.specs.List.Sorted.{IsNonDecreasingBy}
 use Rattle.dz_name.specs.declared.dns.TheConstants.{TYPE_DNAME}
 use Rattle.dz_lookup.specs.Runs.{of_type, records_of, exists}

@@ -1,5 +1,6 @@
 -- Inner: which nodes an earlier listing has under their labels, and where they come in the order of its zones.
-use Rattle.std.specs.Prelude.{◌≡◌, ℕ, ◌<◌, ◌≤◌, Bool, not, nat_eq, List, ◌++◌, length, slice_get, position, All, Option, None, MatchOption}
+use Rattle.std.specs.Prelude.{◌≡◌, ℕ, ◌<◌, ◌≤◌, Bool, not, nat_eq, List, ◌++◌, length, slice_get, position, All}
+use Rattle.std.specs.Prelude.{Option, None, MatchOption}
 use Rattle.std.specs.Option.{option_map_or}
 use Rattle.std.specs.Ordering.{is_lt}
 use Rattle.std.specs.List.{filter, filter_map, list_any, prefix_len, range_with_len}
@@ -44,9 +45,11 @@ pub record AreMixed (nodes : List Node) (first added places : List ℕ) : Type 0
   pub all : IsPermutation (first ++ added) places
   pub sorted : AreInZoneOrder nodes first → AreInZoneOrder nodes places
 
--- the places of the labels that an earlier listing has, in the order of its zones, and among them the others, if these are at most so many
+-- the places of the labels that an earlier listing has, in the order of its zones, and among them the others, if these
+-- are at most so many
 pub record AreLikely (most : ℕ) (nodes before : List Node) (places : List ℕ) : Type 0 where
-  pub few : length (others (length nodes) (kept nodes before)) ≤ most → AreMixed nodes (kept nodes before) (others (length nodes) (kept nodes before)) places
+  pub few : length (others (length nodes) (kept nodes before)) ≤ most
+      → AreMixed nodes (kept nodes before) (others (length nodes) (kept nodes before)) places
   pub many : most < length (others (length nodes) (kept nodes before)) → places ≡ kept nodes before
 
 -- there are as many places as nodes, and the zones rise at them

@@ -17,10 +17,12 @@ use Rattle.dz_member.specs.Fold.{FoldOf, IsFold}
 
 -- the fold of a configuration, of memberships with numbers, and of listings
 abbrev pub fold_in : List CatalogSettings → List Membership → List (Option (List Node)) → FoldOf
-fold_in catalogs members listings = record { config = catalogs; members = map (shown catalogs) members; listings = listings }
+fold_in catalogs members listings =
+    record { config = catalogs; members = map (shown catalogs) members; listings = listings }
 
 -- these make a fold, and the catalog and the group of each number exist
-pub record IsKept (catalogs : List CatalogSettings) (members : List Membership) (listings : List (Option (List Node))) : Type 0 where
+pub record IsKept (catalogs : List CatalogSettings) (members : List Membership)
+    (listings : List (Option (List Node))) : Type 0 where
   pub fold : IsFold (fold_in catalogs members listings)
   pub numbered : All (IsNumbered catalogs) members
 
@@ -30,16 +32,19 @@ judgement_of catalogs j = record { stands = option_map (shown catalogs) j.stands
 
 -- the zones that are held or listed, each once, where the nodes are given in the order of their zones
 abbrev pub zones_from : FoldOf → List Node → List Name
-zones_from fold nodes = sorted_merge canonical_order true (map (λ m. m.zone) fold.members) (map (λ node. node.zone) nodes)
+zones_from fold nodes =
+    sorted_merge canonical_order true (map (λ m. m.zone) fold.members) (map (λ node. node.zone) nodes)
 
 -- the members after such nodes
 unfoldable pub members_from : FoldOf → Name → ℕ → List Node → List MemberOf
-members_from fold catalog position nodes = filter_map (λ zone. (judged_at fold catalog nodes position zone).stands) (zones_from fold nodes)
+members_from fold catalog position nodes =
+    filter_map (λ zone. (judged_at fold catalog nodes position zone).stands) (zones_from fold nodes)
 
 -- the changes by such nodes
 unfoldable pub changes_from : FoldOf → Name → ℕ → List Node → List Change
 changes_from fold catalog position nodes =
-    filter_map (λ zone. option_map (λ what. record { zone = zone; what = what }) (judged_at fold catalog nodes position zone).change) (zones_from fold nodes)
+    filter_map (λ zone. option_map (λ what. record { zone = zone; what = what })
+    (judged_at fold catalog nodes position zone).change) (zones_from fold nodes)
 
 -- the name of the catalog of a number
 abbrev pub catalog_at : FoldOf → ℕ → Name

@@ -39,7 +39,9 @@ zone_at nodes place = option_map_or (λ n. n.zone) (slice_get nodes place) []
 
 -- there are nodes at two places, and the zone of the first comes before that of the second
 abbrev pub comes_before : List Node → ℕ → ℕ → Bool
-comes_before nodes a b = option_map_or (λ x. option_map_or (λ y. is_lt (canonical_order x.zone y.zone)) (slice_get nodes b) false) (slice_get nodes a) false
+comes_before nodes a b =
+    option_map_or (λ x. option_map_or (λ y. is_lt (canonical_order x.zone y.zone)) (slice_get nodes b) false)
+    (slice_get nodes a) false
 
 -- there is a node at each of the places, and their zones rise
 pub record AreRising (nodes : List Node) (places : List ℕ) : Type 0 where

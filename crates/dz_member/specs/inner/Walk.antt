@@ -31,7 +31,8 @@ pub record Spot : Type 0 where
 -- what is judged of each zone that is held or listed, by itself
 unfoldable pub spots : Judge → List Membership → List Node → List Spot
 spots judge members nodes =
-    map (λ zone. record { zone = zone; judged = judge (find (λ m. same_name m.zone zone) members) (node_of zone nodes) })
+    map
+    (λ zone. record { zone = zone; judged = judge (find (λ m. same_name m.zone zone) members) (node_of zone nodes) })
     (sorted_merge canonical_order true (map (λ m. m.zone) members) (map (λ node. node.zone) nodes))
 
 -- the members that are held afterwards

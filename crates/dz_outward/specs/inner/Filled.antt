@@ -1,5 +1,6 @@
 -- Inner: messages that are left, by how far a stream was written.
-use Rattle.std.specs.Prelude.{◌≡◌, ◌≤◌, ℕ, true, false, ◌==◌, List, [], ◌∷◌, ◌++◌, length, take, drop, filter, slice_get, Option, Some, None}
+use Rattle.std.specs.Prelude.{◌≡◌, ◌≤◌, ℕ, true, false, ◌==◌, List, [], ◌∷◌, ◌++◌, length, take, drop, filter}
+use Rattle.std.specs.Prelude.{slice_get, Option, Some, None}
 use Rattle.std.specs.List.{All}
 use Rattle.dz_name.specs.Words.{Octets}
 use Rattle.dz_name.specs.declared.dns.TheConstants.{MESSAGE_OCTETS}
@@ -24,18 +25,22 @@ left_of zone id (Body place) = packed id [] [] (rest_of zone place)
 left_of zone id Over = []
 
 -- a message that was begun took more records, up to a place
-pub record Reaches (new : PieceState) (after : Octets) (id : ℕ) (questions : List Question) (current records : List Record) (start end : ℕ) : Type 0 where
+pub record Reaches (new : PieceState) (after : Octets) (id : ℕ) (questions : List Question)
+    (current records : List Record) (start end : ℕ) : Type 0 where
   pub more : List Record
   pub holds : Holds new after id questions (current ++ more)
-  pub same : (rest : List Record) → packed id questions current (filter is_other (drop start records) ++ rest) ≡ packed id questions (current ++ more) (filter is_other (drop end records) ++ rest)
+  pub same : (rest : List Record) → packed id questions current (filter is_other (drop start records) ++ rest)
+      ≡ packed id questions (current ++ more) (filter is_other (drop end records) ++ rest)
 
 -- what adding records from one place to another makes of any message that was begun
 abbrev pub AddsUp : PieceState → Octets → PieceState → Octets → List Record → ℕ → ℕ → Type 0
-AddsUp old before new after records start end = (id : ℕ) (questions : List Question) (current : List Record) → Holds old before id questions current → Reaches new after id questions current records start end
+AddsUp old before new after records start end = (id : ℕ) (questions : List Question) (current : List Record)
+    → Holds old before id questions current → Reaches new after id questions current records start end
 
 -- the record at a place has no room
 abbrev pub IsStopped : PieceState → List Record → ℕ → Type 0
-IsStopped piece records place = (r : Record) → slice_get records place ≡ Some r → (is_other r ≡ true) × (has_room (piece.count == 0) piece.size (length (record_octets r)) ≡ false)
+IsStopped piece records place = (r : Record) → slice_get records place ≡ Some r
+    → (is_other r ≡ true) × (has_room (piece.count == 0) piece.size (length (record_octets r)) ≡ false)
 
 -- a message at the beginning of a buffer is the next one, and the others are left
 pub record Gives (before after : List Content) (count : ℕ) (out : Octets) : Type 0 where

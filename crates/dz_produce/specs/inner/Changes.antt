@@ -26,14 +26,16 @@ abbrev pub may_go : Zone → List Octets → Octets → Bool
 may_go old dropped label = is_listed old label && not (list_any (same_label label) dropped)
 
 -- nodes, the labels that are left, and a count of octets are those of a change
-pub record IsChange (old : Zone) (nodes : List Node) (left : Octets → Bool) (count : ℕ) (dropped : List Octets) : Type 0 where
+pub record IsChange (old : Zone) (nodes : List Node) (left : Octets → Bool) (count : ℕ)
+    (dropped : List Octets) : Type 0 where
   pub known : IsKnown old
   pub lists : nodes ≡ listed old
   pub stays : (label : Octets) → left label ≡ may_go old dropped label
   pub octets : count ≡ saturated (spent old.apex (listed old))
 
 -- what a change without a fault leads to
-pub record Leads (old : Zone) (serial : ℕ) (dropped : List Octets) (added : List Node) (amended : Amended) : Type 0 where
+pub record Leads (old : Zone) (serial : ℕ) (dropped : List Octets) (added : List Node)
+    (amended : Amended) : Type 0 where
   pub faultless : amend_fault old serial dropped added ≡ None
   pub version : amended.version ≡ produced old.apex serial (nodes_after old dropped added)
   pub octets : amended.octets ≡ difference_octets old serial dropped added

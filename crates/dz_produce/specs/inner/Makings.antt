@@ -39,7 +39,8 @@ pub record IsAt (apex : Name) (old : Zone) : Type 0 where
   pub known : IsKnown old
   pub apex_is : old.apex ≡ apex
 
--- a draft is of the nodes that stay and those that are added, and counts the octets of all that were there and of these
+-- a draft is of the nodes that stay and those that are added, and counts the octets of all that were there and of
+-- these
 pub record IsDrafted (m : Making) (these : Draft) : Type 0 where
   pub draft : IsDraft (stays_of m.before m.dropped ++ m.added) these
   pub octets : saturated (spent_before m.before + spent m.apex m.added) ≤ these.octets

@@ -17,4 +17,5 @@ abbrev pub spelled : Zone → ℕ → List Node → List Node → List Node → 
 spelled old serial nodes gone added =
     soa old.apex serial
     ∷ soa old.apex (held_serial old)
-    ∷ (half_of old.apex (held_serial old) (listed old) gone ++ soa old.apex serial ∷ (half_of old.apex serial nodes added ++ soa old.apex serial ∷ []))
+    ∷ (half_of old.apex (held_serial old) (listed old) gone ++ soa old.apex serial
+    ∷ (half_of old.apex serial nodes added ++ soa old.apex serial ∷ []))

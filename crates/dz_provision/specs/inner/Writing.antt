@@ -19,7 +19,8 @@ log_of written faults failed = record { written = written; faults = faults; fail
 -- the lines come after what was written; or a prefix of them, and the write has failed
 unfoldable pub IsWritten : Octets → Result (Unit {0}) LogFault → Log → Log → Type 0
 IsWritten lines (Ok done) a b = Gains lines a.written b.written × ((b.faults ≡ a.faults) × (b.failed ≡ a.failed))
-IsWritten lines (Err fault) a b = GainsPrefix lines a.written b.written × ((a.faults ≤ b.faults) × (HasRisen a.faults b.faults × (b.failed ≡ true)))
+IsWritten lines (Err fault) a b =
+    GainsPrefix lines a.written b.written × ((a.faults ≤ b.faults) × (HasRisen a.faults b.faults × (b.failed ≡ true)))
 
 -- the answer of a call whose lines were written, or were not
 abbrev pub answered : {T : Type 0} → Result (Unit {0}) LogFault → T → Result T LogFault

@@ -35,12 +35,14 @@ pub record IsPart (before after : Option Octets) : Type 0 where
 
 -- a message is at the front of the buffer; or the link ended or failed before it was whole
 abbrev pub HasCome : Came → Octets → Option Octets → Option Octets → Option Octets → Type 0
-HasCome (came.Message size) buffer before after left = (size ≤ MESSAGE_OCTETS) × Gains (frame (take size buffer)) before after
+HasCome (came.Message size) buffer before after left =
+    (size ≤ MESSAGE_OCTETS) × Gains (frame (take size buffer)) before after
 HasCome came.Ended buffer before after left = IsPart before after × IsAtEnd left
 HasCome came.Failed buffer before after left = IsPart before after
 
 -- whole messages were read, and their replies written
-pub record IsFlowing (downstream : List Octets) (may_fail : Type 0) (may_give : ℕ → Bool) (from : ℕ) (list : List Entry) (peer : Peer) (before now : Flow) : Type 0 where
+pub record IsFlowing (downstream : List Octets) (may_fail : Type 0) (may_give : ℕ → Bool) (from : ℕ)
+    (list : List Entry) (peer : Peer) (before now : Flow) : Type 0 where
   pub served : List Served
   pub messages : List Octets
   pub short : AreShort messages

@@ -54,7 +54,8 @@ pub record Sends (s : Sending) (w : Writing) (messages : List Octets) : Type 0 w
   pub short : FitsFrame s w
 
 -- what goes out is what is owed, and fits after its length
-pub record IsSending (may_fail : Type 0) (s : Sending) (w : Writing) (request : Packet) (owed : Fate → List Octets) : Type 0 where
+pub record IsSending (may_fail : Type 0) (s : Sending) (w : Writing) (request : Packet)
+    (owed : Fate → List Octets) : Type 0 where
   pub goes : texts_in s w ≡ owed (fate_in s)
   pub excused : IsExcused may_fail true (fate_in s) request
   pub short : FitsFrame s w

@@ -8,4 +8,5 @@ use Rattle.dz_record.specs.Record.{Record}
 
 -- records in the order of the types that they cover, so that any type can be searched for
 abbrev pub AreSearchable : List Record → Type 0
-AreSearchable records = (octets : Octets) → IsNonDecreasingBy (λ r. ordering_index (label_order (take 2 r.rdata) octets)) records
+AreSearchable records =
+    (octets : Octets) → IsNonDecreasingBy (λ r. ordering_index (label_order (take 2 r.rdata) octets)) records

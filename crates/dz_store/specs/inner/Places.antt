@@ -14,7 +14,8 @@ pub record Far : Type 0 where
 abbrev pub place_step : Name → Far → Octets → Far
 place_step zone far payload = record {
   end = far.end + (9 + length payload);
-  place = if is_of zone payload then (if is_kept payload then Some (record { at = far.end; size = length payload }) else None) else far.place;
+  place = if is_of zone payload
+      then (if is_kept payload then Some (record { at = far.end; size = length payload }) else None) else far.place;
 }
 
 -- the octets of all records, and the place of the record that counts for a zone

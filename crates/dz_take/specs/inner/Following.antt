@@ -1,5 +1,6 @@
 -- Inner: the state of a taking, and the messages and answer records that led to it.
-use Rattle.std.specs.Prelude.{◌≡◌, ℕ, ◌+◌, Bool, true, false, ◌==◌, not, nat_lt, List, [], ◌∷◌, ◌++◌, length, Option, Some, None, Result, Ok, Err, if◌then◌else◌}
+use Rattle.std.specs.Prelude.{◌≡◌, ℕ, ◌+◌, Bool, true, false, ◌==◌, not, nat_lt, List, [], ◌∷◌, ◌++◌, length, Option}
+use Rattle.std.specs.Prelude.{Some, None, Result, Ok, Err, if◌then◌else◌}
 use Rattle.dz_name.specs.Words.{Name, Octets}
 use Rattle.dz_name.specs.declared.dns.TheConstants.{TRANSFER_OCTETS}
 use Rattle.dz_record.specs.Record.{Record}
@@ -26,7 +27,8 @@ use Rattle.dz_message.specs.Message.{Content}
 use Rattle.dz_message.specs.Reading.{message_of}
 use Rattle.dz_header.specs.Flags.{code_of}
 use Rattle.dz_take.specs.declared.outcome.Outcome.{Outcome}
-use Rattle.dz_take.specs.declared.outcome.TakeFault.TheVariants.{Incomplete, Message, WrongId, WrongQuestion, Rcode, Shape, OldSerial, TooLong}
+use Rattle.dz_take.specs.declared.outcome.TakeFault.TheVariants.{Incomplete, Message, WrongId, WrongQuestion, Rcode}
+use Rattle.dz_take.specs.declared.outcome.TakeFault.TheVariants.{Shape, OldSerial, TooLong}
 use Rattle.dz_take.specs.declared.state.State.{State}
 use Rattle.dz_take.specs.declared.state.State.TheVariants.{Waiting, First, Whole, Differences, Ended}
 use Rattle.dz_take.specs.Form.{settled, base_of, is_old_soa, form}
@@ -70,7 +72,8 @@ pub record AtWhole (transfer : Transfer) (records : List Record) (w : whole_asse
   pub kind : IsWholeKind transfer records
 
 -- an assembler of the incremental form that was fed these records, and that more is to come for
-pub record AtDifferences (transfer : Transfer) (records : List Record) (d : incremental_assembly.Assembly) : Type 0 where
+pub record AtDifferences (transfer : Transfer) (records : List Record)
+    (d : incremental_assembly.Assembly) : Type 0 where
   pub fed : d.fed ≡ records
   pub is_open : IsOpen (IsIncremental d.held) (incremental.Blames d.held.apex) d.fed
   pub kind : IsIncrementalKind transfer d.held records
@@ -111,9 +114,11 @@ IsUnreadable message_errors.OutOfMemory outcome = ⊥
 
 -- the version that differences lead on from, where the second record begins them
 abbrev pub IsBase : Transfer → Record → Record → Option Zone → Type 0
-IsBase transfer first second None = begins_differences transfer.apex (base_of transfer.ask transfer.held) first second ≡ false
+IsBase transfer first second None =
+    begins_differences transfer.apex (base_of transfer.ask transfer.held) first second ≡ false
 IsBase transfer first second (Some zone) =
-    (base_of transfer.ask transfer.held ≡ Some zone) × (is_old_soa transfer.apex first second ≡ true) × (zone.apex ≡ transfer.apex)
+    (base_of transfer.ask transfer.held ≡ Some zone) × (is_old_soa transfer.apex first second ≡ true)
+    × (zone.apex ≡ transfer.apex)
 
 -- what a serial of the first SOA settles
 abbrev pub serial_settles : Option Zone → ℕ → Option Decision
@@ -144,11 +149,13 @@ octets_decide transfer used before message =
 
 -- the state after a message
 abbrev pub Judges : Transfer → Bool → State → Content → State → Type 0
-Judges transfer is_first old m new = Follows transfer (content_decides transfer is_first (records_in old) m) (records_in old ++ m.answers) new
+Judges transfer is_first old m new =
+    Follows transfer (content_decides transfer is_first (records_in old) m) (records_in old ++ m.answers) new
 
 -- the state after the octets of a message
 abbrev pub JudgesOctets : Transfer → ℕ → State → Octets → State → Type 0
-JudgesOctets transfer used old message new = Follows transfer (octets_decide transfer used (records_in old) message) (records_in old ++ answers_in message) new
+JudgesOctets transfer used old message new =
+    Follows transfer (octets_decide transfer used (records_in old) message) (records_in old ++ answers_in message) new
 
 -- the octets are those of messages, each preceded by its length, and the state is that after them
 pub record IsTaking (transfer : Transfer) (octets : Octets) (state : State) : Type 0 where

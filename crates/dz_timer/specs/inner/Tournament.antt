@@ -1,5 +1,7 @@
--- Inner: a tournament. Each node is the earlier of the two below it, and the last half are the moments by their places.
-use Rattle.std.specs.Prelude.{◌≡◌, ◌≢◌, ℕ, ◌+◌, ◌-◌, ◌<◌, ◌≤◌, ◌^◌, Bool, false, ◌&&◌, ◌||◌, ◌==◌, nat_lt, List, length, map, drop, slice_index, slice_index_or, if◌then◌else◌}
+-- Inner: a tournament. Each node is the earlier of the two below it, and the last half are the moments by their
+-- places.
+use Rattle.std.specs.Prelude.{◌≡◌, ◌≢◌, ℕ, ◌+◌, ◌-◌, ◌<◌, ◌≤◌, ◌^◌, Bool, false, ◌&&◌, ◌||◌, ◌==◌, nat_lt, List}
+use Rattle.std.specs.Prelude.{length, map, drop, slice_index, slice_index_or, if◌then◌else◌}
 use Rattle.std.specs.List.{All}
 use Rattle.dz_timer.specs.Values.{ValuesOf}
 use Rattle.dz_timer.specs.declared.wait.Wait.{Wait}

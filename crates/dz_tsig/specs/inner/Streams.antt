@@ -27,7 +27,8 @@ Appends m old new (Err errors.TooLong) = MESSAGE_OCTETS < length m
 Appends m old new (Err errors.OutOfMemory) = ⊤
 
 -- what was written and what is left make the whole, and the rest is short where all is
-pub record SignsOn (key : Key) (moment : ℕ) (all : List Octets) (is_first : Bool) (prior : Octets) (rest : List Octets) (written : Octets) : Type 0 where
+pub record SignsOn (key : Key) (moment : ℕ) (all : List Octets) (is_first : Bool) (prior : Octets) (rest : List Octets)
+    (written : Octets) : Type 0 where
   pub out : written ++ stream (signed_from key moment is_first prior rest) ≡ stream all
   pub short : AreShort (signed_from key moment is_first prior rest) → AreShort all
   pub back : AreShort all → AreShort (signed_from key moment is_first prior rest)

@@ -1,5 +1,5 @@
--- Inner: a version as its fields: the records of a zone, the index of their owners, how many are of types that it treats
--- apart, and the places of NSEC records.
+-- Inner: a version as its fields: the records of a zone, the index of their owners, how many are of types that it
+-- treats apart, and the places of NSEC records.
 use Rattle.std.specs.Prelude.{◌≡◌, ℕ, ◌-◌, ◌<◌, true, List, [], ◌∷◌, length, slice_index, slice_index_or}
 use Rattle.dz_name.specs.declared.dns.TheConstants.{TYPE_NSEC}
 use Rattle.std.specs.Ordering.{is_lt}
@@ -22,7 +22,8 @@ zone_in records = record { apex = apex_in records; records = records }
 
 -- the record at a place comes after the one before it, if there is one
 abbrev pub RisesAt : List Record → ℕ → Type 0
-RisesAt records place = 0 < place → (d : Record) → is_lt (record_order (slice_index_or records (place - 1) d) (slice_index_or records place d)) ≡ true
+RisesAt records place = 0 < place → (d : Record)
+    → is_lt (record_order (slice_index_or records (place - 1) d) (slice_index_or records place d)) ≡ true
 
 -- records each of which comes before the next, and the index of their owners
 pub record IsRisen (records : List Record) (index : Rows) : Type 0 where
@@ -31,8 +32,10 @@ pub record IsRisen (records : List Record) (index : Rows) : Type 0 where
 
 -- the places of NSEC records: an NSEC record is at each of them, each NSEC record is at one of them, and they rise
 pub record AreNsecs (records : List Record) (nsecs : List ℕ) : Type 0 where
-  pub sound : (i : ℕ) (d : Record) → i < length nsecs → (slice_index nsecs i < length records) × ((slice_index_or records (slice_index nsecs i) d).kind ≡ TYPE_NSEC)
-  pub complete : (k : ℕ) (d : Record) → k < length records → (slice_index_or records k d).kind ≡ TYPE_NSEC → (i : ℕ) × (i < length nsecs) × (slice_index nsecs i ≡ k)
+  pub sound : (i : ℕ) (d : Record) → i < length nsecs
+      → (slice_index nsecs i < length records) × ((slice_index_or records (slice_index nsecs i) d).kind ≡ TYPE_NSEC)
+  pub complete : (k : ℕ) (d : Record) → k < length records → (slice_index_or records k d).kind ≡ TYPE_NSEC
+      → (i : ℕ) × (i < length nsecs) × (slice_index nsecs i ≡ k)
   pub rise : (i j : ℕ) → i < j → j < length nsecs → slice_index nsecs i < slice_index nsecs j
 
 -- the fields that are kept are those of this version

@@ -1,6 +1,7 @@
 -- Inner: an ordered list under changes, as the elements that it began with, each with a flag, and those that were
 -- added.
-use Rattle.std.specs.Prelude.{◌≡◌, ⊤, ℕ, ◌<◌, Bool, true, false, not, List, [], ◌∷◌, ◌++◌, length, map, filter, slice_index_or, if◌then◌else◌, Result, Ok, Err}
+use Rattle.std.specs.Prelude.{◌≡◌, ⊤, ℕ, ◌<◌, Bool, true, false, not, List, [], ◌∷◌, ◌++◌, length, map, filter}
+use Rattle.std.specs.Prelude.{slice_index_or, if◌then◌else◌, Result, Ok, Err}
 use Rattle.std.specs.List.{AllByRecursion, list_any}
 use Rattle.std.specs.Ordering.{is_gt, is_eq, is_lt}
 use Rattle.std.specs.declared.cmp.Ordering.{Ordering}
@@ -54,7 +55,8 @@ untied R x xs = filter (λ y. not (is_eq (R x y))) xs
 
 -- where an element that compares equal is among the first ones, or that none does
 abbrev pub Finds : {X : Type 0} → (X → X → Ordering) → List (Flagged X) → X → Result ℕ ℕ → Type 0
-Finds {X} R base x (Ok at) = (at < length base) × ((b : Flagged X) → b ≡ slice_index_or base at b → is_eq (R x b.item) ≡ true)
+Finds {X} R base x (Ok at) =
+    (at < length base) × ((b : Flagged X) → b ≡ slice_index_or base at b → is_eq (R x b.item) ≡ true)
 Finds R base x (Err at) = has_tie R x (items base) ≡ false
 
 -- no element of the one list compares equal to one of the other
@@ -78,7 +80,8 @@ abbrev pub AreAhead : {X : Type 0} → (X → X → Ordering) → List X → Lis
 AreAhead R xs base = AllByRecursion (λ b. first_before R xs b.item ≡ false) base
 
 -- the leading elements that come before the bound were moved to the end of another list
-pub record Moves {X : Type 0} (R : X → X → Ordering) (out added : List X) (bound : X) (new left : List X) : Type 0 where
+pub record Moves {X : Type 0} (R : X → X → Ordering) (out added : List X) (bound : X)
+    (new left : List X) : Type 0 where
   pub moved : List X
   pub added_are : added ≡ moved ++ left
   pub new_is : new ≡ out ++ moved

@@ -12,7 +12,8 @@ use Rattle.dz_zonemd.specs.declared.algorithm.Algorithm.{Algorithm}
 -- a record of this algorithm, whole, with the zone's serial and the zone's digest
 abbrev pub agrees : Algorithm → Name → List Record → Record → Bool
 agrees algorithm apex records r =
-    is_by algorithm r && (length (digest_in r) == size_of algorithm && (is_serial apex records (serial_in r) && bytes_eq (digest_in r) (hash_by algorithm (digested apex records))))
+    is_by algorithm r && (length (digest_in r) == size_of algorithm && (is_serial apex records (serial_in r)
+    && bytes_eq (digest_in r) (hash_by algorithm (digested apex records))))
 
 -- there is one record of this algorithm, and it agrees
 abbrev pub verified_by : Algorithm → Name → List Record → List Record → Bool

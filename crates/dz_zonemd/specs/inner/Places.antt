@@ -14,8 +14,10 @@ from_zonemds apex r = ordering_then (canonical_order r.owner apex) (nat_cmp r.ki
 
 -- the records before a place come before the ZONEMD records of the apex, and no other does
 abbrev pub IsBegin : Name → List Record → ℕ → Type 0
-IsBegin apex records i = IsPartitionPoint (λ r. is_lt (from_zonemds apex r) ≡ true) (λ r. is_lt (from_zonemds apex r) ≡ false) records i
+IsBegin apex records i =
+    IsPartitionPoint (λ r. is_lt (from_zonemds apex r) ≡ true) (λ r. is_lt (from_zonemds apex r) ≡ false) records i
 
 -- the records before a place come before them or are some of them, and no other does
 abbrev pub IsEnd : Name → List Record → ℕ → Type 0
-IsEnd apex records i = IsPartitionPoint (λ r. is_le (from_zonemds apex r) ≡ true) (λ r. is_le (from_zonemds apex r) ≡ false) records i
+IsEnd apex records i =
+    IsPartitionPoint (λ r. is_le (from_zonemds apex r) ≡ true) (λ r. is_le (from_zonemds apex r) ≡ false) records i

@@ -8,4 +8,5 @@ use Rattle.dz_catalog.proofs.broken.member_twice.Goals as goal
 pub returns : goal.returns
 returns c =
     twins_walk (is_node c.args.apex.now) c.args.records.now _ c.requires
-    (c.is_sorted_by.ensures.cases (λ a b. not (twins (is_node c.args.apex.now) a b)) (always_returns_same _ _ _ (λ a r f h. search rules)))
+    (c.is_sorted_by.ensures.cases (λ a b. not (twins (is_node c.args.apex.now) a b))
+    (always_returns_same _ _ _ (λ a r f h. search rules)))

@@ -10,4 +10,5 @@ use Rattle.dz_catalog.proofs.broken.other_version.Goals as goal
 pub returns : goal.returns
 returns c =
     c.has_other.ensures
-    ∙ (ap (list_any (λ (r : Record). not (same_label r.rdata version_2))) c.versions.ensures ∙ other_kept (is_version c.args.version.now.apex) (λ r. not (same_label r.rdata version_2)) c.args.version.now.records)
+    ∙ (ap (list_any (λ (r : Record). not (same_label r.rdata version_2))) c.versions.ensures ∙ other_kept
+    (is_version c.args.version.now.apex) (λ r. not (same_label r.rdata version_2)) c.args.version.now.records)

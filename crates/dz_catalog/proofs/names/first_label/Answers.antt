@@ -6,4 +6,5 @@ pub split_at-requires : goal.split_at-requires
 split_at-requires c = omega (arith, ap length (c.piece.ensures.piece []))
 
 pub returns-else-is_root : goal.returns-else-is_root
-returns-else-is_root c = first_is c.args.name.now c.piece.result.now _ (omega arith) (c.piece.ensures.piece []) c.split_at.ensures.back
+returns-else-is_root c =
+    first_is c.args.name.now c.piece.result.now _ (omega arith) (c.piece.ensures.piece []) c.split_at.ensures.back

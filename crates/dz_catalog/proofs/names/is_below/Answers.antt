@@ -14,25 +14,31 @@ labels-init c =
 
 pub behind-requires : goal.behind-requires
 behind-requires c =
-    some_label c.labels.rest c.args.above.now (rw (c.wire-in-labels.ensures.wire, c.wire-in-labels-2.ensures.wire) at c.labels-test.true)
+    some_label c.labels.rest c.args.above.now
+    (rw (c.wire-in-labels.ensures.wire, c.wire-in-labels-2.ensures.wire) at c.labels-test.true)
 
 pub of_wire-rest-requires-in-labels : goal.of_wire-rest-requires-in-labels
 of_wire-rest-requires-in-labels c = is_wire (drop 1 c.labels.rest) _ c.behind.ensures.name c.behind.ensures.wire
 
 pub labels-smaller : goal.labels-smaller
 labels-smaller c =
-    shorter c.labels.rest _ (some_label c.labels.rest c.args.above.now (rw (c.wire-in-labels.ensures.wire, c.wire-in-labels-2.ensures.wire) at c.labels-test.true))
-    (c.of_wire-rest-in-labels.ensures ∙ labels_of-wire (drop 1 c.labels.rest) c.behind.result.now c.behind.ensures.name c.behind.ensures.wire)
+    shorter c.labels.rest _ (some_label c.labels.rest c.args.above.now
+    (rw (c.wire-in-labels.ensures.wire, c.wire-in-labels-2.ensures.wire) at c.labels-test.true))
+    (c.of_wire-rest-in-labels.ensures
+    ∙ labels_of-wire (drop 1 c.labels.rest) c.behind.result.now c.behind.ensures.name c.behind.ensures.wire)
 
 pub labels-preserved : goal.labels-preserved
 labels-preserved c =
-    tail_is c.labels.rest c.args.above.now _ (rw (c.wire-in-labels.ensures.wire, c.wire-in-labels-2.ensures.wire) at c.labels-test.true)
-    (c.of_wire-rest-in-labels.ensures ∙ labels_of-wire (drop 1 c.labels.rest) c.behind.result.now c.behind.ensures.name c.behind.ensures.wire)
+    tail_is c.labels.rest c.args.above.now _
+    (rw (c.wire-in-labels.ensures.wire, c.wire-in-labels-2.ensures.wire) at c.labels-test.true)
+    (c.of_wire-rest-in-labels.ensures
+    ∙ labels_of-wire (drop 1 c.labels.rest) c.behind.result.now c.behind.ensures.name c.behind.ensures.wire)
     ∙ c.labels.invariant
 
 pub returns : goal.returns
 returns c =
     c.same.ensures.value
     ∙ (whole_is c.labels.rest c.args.above.now
-    (not_longer c.labels.rest c.args.above.now _ _ c.wire-in-labels-2.ensures.wire c.wire-in-labels.ensures.wire c.labels-test.false)
+    (not_longer c.labels.rest c.args.above.now _ _ c.wire-in-labels-2.ensures.wire c.wire-in-labels.ensures.wire
+    c.labels-test.false)
     ∙ c.labels.invariant)

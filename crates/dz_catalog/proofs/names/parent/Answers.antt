@@ -9,4 +9,5 @@ of_wire-requires c = is_wire (drop 1 c.args.name.now) _ c.behind.ensures.name c.
 pub returns-else-is_root : goal.returns-else-is_root
 returns-else-is_root c =
     parent_is c.args.name.now c.of_wire.result (omega arith)
-    (c.of_wire.ensures ∙ labels_of-wire (drop 1 c.args.name.now) c.behind.result.now c.behind.ensures.name c.behind.ensures.wire)
+    (c.of_wire.ensures
+    ∙ labels_of-wire (drop 1 c.args.name.now) c.behind.result.now c.behind.ensures.name c.behind.ensures.wire)

@@ -15,8 +15,14 @@ returns-in_ok-push-in-Some-Some c =
     let t : target_of c.args.found.now ≡ Some c.in-Some-Some.target = cc in
     c.in_ok-push-in-Some-Some.ensures.items
     ∙ ap (λ node. c.args.nodes.now.items ++ option_to_list node)
-    (behind_is c.args.apex.now c.args.found.now c.args.behind.now c.below-records.result.now c.owner_ref-owner.result c.in-Some-Some.label c.in-Some-Some.target _ m f t c.owner_ref-owner.ensures c.below-records.ensures
-    (λ i. record { label = c.in-Some-Some.label; zone = c.in_ok-zone-in-Some-Some.ensures i; coo = c.in_ok-coo-in-Some-Some.ensures i; groups = c.in_ok-groups-in-Some-Some.ensures i }))
+    (behind_is c.args.apex.now c.args.found.now c.args.behind.now c.below-records.result.now c.owner_ref-owner.result
+    c.in-Some-Some.label c.in-Some-Some.target _ m f t c.owner_ref-owner.ensures c.below-records.ensures
+    (λ i. record {
+      label = c.in-Some-Some.label;
+      zone = c.in_ok-zone-in-Some-Some.ensures i;
+      coo = c.in_ok-coo-in-Some-Some.ensures i;
+      groups = c.in_ok-groups-in-Some-Some.ensures i;
+    }))
 
 pub returns-then-not-is_member : goal.returns-then-not-is_member
 unfolding node_behind

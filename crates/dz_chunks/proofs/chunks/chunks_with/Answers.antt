@@ -11,27 +11,32 @@ use Rattle.dz_chunks.proofs.chunks.chunks_with.Goals as goal
 pub with_entry-requires-clause-sorted : goal.with_entry-requires-clause-sorted
 with_entry-requires-clause-sorted g c =
     let part = c.entries.ensures ∙ c.index-chunks-at.is in
-    let sorted = subst (λ es. T (is_sorted g.K.Ord.cmp es)) (sym part) (seen_sorted g.K.Ord.cmp g.met.K.Ord.total c.key-key.result c.args.chunks.now c.chunk_for-at.result c.index-chunks-at.result c.requires c.chunk_for-at.ensures.within) in
+    let sorted = subst (λ es. T (is_sorted g.K.Ord.cmp es)) (sym part)
+    (seen_sorted g.K.Ord.cmp g.met.K.Ord.total c.key-key.result c.args.chunks.now c.chunk_for-at.result
+    c.index-chunks-at.result c.requires c.chunk_for-at.ensures.within) in
     sorted
 
 pub with_entry-requires-clause-short : goal.with_entry-requires-clause-short
 with_entry-requires-clause-short g c =
     let part = c.entries.ensures ∙ c.index-chunks-at.is in
-    let size = seen_length c.args.chunks.now c.chunk_for-at.result c.index-chunks-at.result c.chunk_for-at.ensures.within in
+    let size =
+    seen_length c.args.chunks.now c.chunk_for-at.result c.index-chunks-at.result c.chunk_for-at.ensures.within in
     let short = length_short c.args.chunks.now c.chunk_for-at.result c.requires.sized in
     omega (arith, size, short, ap length part)
 
 pub returns-in_err-entries-clause-entry_cost : goal.returns-in_err-entries-clause-entry_cost
 returns-in_err-entries-clause-entry_cost g c =
     let part = c.entries.ensures ∙ c.index-chunks-at.is in
-    let size = seen_length c.args.chunks.now c.chunk_for-at.result c.index-chunks-at.result c.chunk_for-at.ensures.within in
+    let size =
+    seen_length c.args.chunks.now c.chunk_for-at.result c.index-chunks-at.result c.chunk_for-at.ensures.within in
     let short = length_short c.args.chunks.now c.chunk_for-at.result c.requires.sized in
     omega (arith, size, short, ap length part, c.with_entry.ensures.cost)
 
 pub rebuilt-requires-clause-short : goal.rebuilt-requires-clause-short
 rebuilt-requires-clause-short g c =
     let part = c.entries.ensures ∙ c.index-chunks-at.is in
-    let size = seen_length c.args.chunks.now c.chunk_for-at.result c.index-chunks-at.result c.chunk_for-at.ensures.within in
+    let size =
+    seen_length c.args.chunks.now c.chunk_for-at.result c.index-chunks-at.result c.chunk_for-at.ensures.within in
     let short = length_short c.args.chunks.now c.chunk_for-at.result c.requires.sized in
     let longer = put_longer g.K.Ord.cmp c.key-key.result c.args.value c.entries.result.now in
     omega (arith, size, short, ap length part, longer.0, ap length c.in_ok-entries.ensures.put)
@@ -39,7 +44,8 @@ rebuilt-requires-clause-short g c =
 pub rebuilt-requires-clause-near : goal.rebuilt-requires-clause-near
 rebuilt-requires-clause-near g c =
     let part = c.entries.ensures ∙ c.index-chunks-at.is in
-    let size = seen_length c.args.chunks.now c.chunk_for-at.result c.index-chunks-at.result c.chunk_for-at.ensures.within in
+    let size =
+    seen_length c.args.chunks.now c.chunk_for-at.result c.index-chunks-at.result c.chunk_for-at.ensures.within in
     let short = length_short c.args.chunks.now c.chunk_for-at.result c.requires.sized in
     let longer = put_longer g.K.Ord.cmp c.key-key.result c.args.value c.entries.result.now in
     omega (arith, size, short, ap length part, longer.1, ap length c.in_ok-entries.ensures.put)
@@ -47,25 +53,37 @@ rebuilt-requires-clause-near g c =
 pub returns-clause-map : goal.returns-clause-map
 returns-clause-map g c =
     let part = c.entries.ensures ∙ c.index-chunks-at.is in
-    ok_then _ _ c.rebuilt.result c.rebuilt.ensures.entries (λ v n. seen_put g.K.Ord.cmp g.met.K.Ord.total c.key-key.result c.args.value c.args.chunks.now v.items c.chunk_for-at.result c.index-chunks-at.result c.in_ok-entries.entries.items c.chunk_for-at.ensures.within c.chunk_for-at.ensures.before c.chunk_for-at.ensures.behind (c.in_ok-entries.ensures.put ∙ ap (put g.K.Ord.cmp c.key-key.result c.args.value) part) n
+    ok_then _ _ c.rebuilt.result c.rebuilt.ensures.entries
+    (λ v n. seen_put g.K.Ord.cmp g.met.K.Ord.total c.key-key.result c.args.value c.args.chunks.now
+    v.items c.chunk_for-at.result c.index-chunks-at.result c.in_ok-entries.entries.items
+    c.chunk_for-at.ensures.within c.chunk_for-at.ensures.before c.chunk_for-at.ensures.behind
+    (c.in_ok-entries.ensures.put ∙ ap (put g.K.Ord.cmp c.key-key.result c.args.value) part) n
     ∙ ap (λ key. put g.K.Ord.cmp key c.args.value (flat c.args.chunks.now)) c.key-key.ensures)
 
 pub returns-clause-chunked : goal.returns-clause-chunked
 returns-clause-chunked g c =
     let part = c.entries.ensures ∙ c.index-chunks-at.is in
-    ok_with _ _ _ c.rebuilt.result c.rebuilt.ensures.entries c.rebuilt.ensures.sized (λ v n z. chunked_put g.K.Ord.cmp g.met.K.Ord.total c.key-key.result c.args.value c.args.chunks.now v.items c.requires z (seen_put g.K.Ord.cmp g.met.K.Ord.total c.key-key.result c.args.value c.args.chunks.now v.items c.chunk_for-at.result c.index-chunks-at.result c.in_ok-entries.entries.items c.chunk_for-at.ensures.within c.chunk_for-at.ensures.before c.chunk_for-at.ensures.behind (c.in_ok-entries.ensures.put ∙ ap (put g.K.Ord.cmp c.key-key.result c.args.value) part) n))
+    ok_with _ _ _ c.rebuilt.result c.rebuilt.ensures.entries c.rebuilt.ensures.sized
+    (λ v n z. chunked_put g.K.Ord.cmp g.met.K.Ord.total c.key-key.result c.args.value c.args.chunks.now
+    v.items c.requires z (seen_put g.K.Ord.cmp g.met.K.Ord.total c.key-key.result c.args.value
+    c.args.chunks.now v.items c.chunk_for-at.result c.index-chunks-at.result c.in_ok-entries.entries.items
+    c.chunk_for-at.ensures.within c.chunk_for-at.ensures.before c.chunk_for-at.ensures.behind
+    (c.in_ok-entries.ensures.put ∙ ap (put g.K.Ord.cmp c.key-key.result c.args.value) part) n))
 
 pub returns-clause-entry_cost : goal.returns-clause-entry_cost
 returns-clause-entry_cost g c =
     let part = c.entries.ensures ∙ c.index-chunks-at.is in
-    let size = seen_length c.args.chunks.now c.chunk_for-at.result c.index-chunks-at.result c.chunk_for-at.ensures.within in
+    let size =
+    seen_length c.args.chunks.now c.chunk_for-at.result c.index-chunks-at.result c.chunk_for-at.ensures.within in
     let short = length_short c.args.chunks.now c.chunk_for-at.result c.requires.sized in
     omega (arith, size, short, ap length part, c.with_entry.ensures.cost, c.rebuilt.ensures.entry_cost)
 
 pub returns-in_err-entries-clause-comparisons : goal.returns-in_err-entries-clause-comparisons
 returns-in_err-entries-clause-comparisons g c =
-    takes_at_most _ _ _ _ _ (few_chunks c.args.chunks.now c.requires.sized) c.chunk_for-at.ensures.cost (omega (arith, c.with_entry.ensures.comparisons))
+    takes_at_most _ _ _ _ _ (few_chunks c.args.chunks.now c.requires.sized) c.chunk_for-at.ensures.cost
+    (omega (arith, c.with_entry.ensures.comparisons))
 
 pub returns-clause-comparisons : goal.returns-clause-comparisons
 returns-clause-comparisons g c =
-    takes_at_most _ _ _ _ _ (few_chunks c.args.chunks.now c.requires.sized) c.chunk_for-at.ensures.cost (omega (arith, c.with_entry.ensures.comparisons, c.rebuilt.ensures.comparisons))
+    takes_at_most _ _ _ _ _ (few_chunks c.args.chunks.now c.requires.sized) c.chunk_for-at.ensures.cost
+    (omega (arith, c.with_entry.ensures.comparisons, c.rebuilt.ensures.comparisons))

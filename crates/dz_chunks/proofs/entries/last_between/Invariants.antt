@@ -2,7 +2,7 @@ use Rattle.std.proofs.Common.{◌≡◌, ◌+◌, ◌-◌, ◌<◌, ◌≤◌}
 use Rattle.dz_chunks.specs.inner.Chunked.{IsUptoAt, IsBehindAt}
 use Rattle.dz_chunks.proofs.entries.last_between.Given as goal
 
--- the one that was found is the last so far: where others came behind it, the next is behind the key
+-- the one that was found is the last so far: where others came after it, the next is after the key
 abbrev pub invariant-steps : goal.invariant-steps
 invariant-steps g l =
     (l.place < l.end)

@@ -5,11 +5,15 @@ use Rattle.dz_chunks.proofs.entries.value_of.Goals as goal
 
 pub returns-then-is_at-clause-value : goal.returns-then-is_at-clause-value
 returns-then-is_at-clause-value g c =
-    ap Some (c.value.ensures.value ∙ ap (λ e. e.1) c.index-entries-place.is) ∙ found_is g.K.Ord.cmp g.met.K.Ord.total c.args.key.now c.args.entries.now c.place_of-place.result c.index-entries-place.result c.place_of-place.ensures.before (sym c.is_at.ensures.value ∙ c.if-is_at.true)
+    ap Some (c.value.ensures.value ∙ ap (λ e. e.1) c.index-entries-place.is)
+    ∙ found_is g.K.Ord.cmp g.met.K.Ord.total c.args.key.now c.args.entries.now c.place_of-place.result
+    c.index-entries-place.result c.place_of-place.ensures.before (sym c.is_at.ensures.value ∙ c.if-is_at.true)
 
 pub returns-else-is_at-clause-value : goal.returns-else-is_at-clause-value
 returns-else-is_at-clause-value g c =
-    missing_is g.K.Ord.cmp g.met.K.Ord.total c.args.key.now c.args.entries.now c.place_of-place.result c.requires.sorted c.place_of-place.ensures.before c.place_of-place.ensures.here (sym c.is_at.ensures.value ∙ c.if-is_at.false)
+    missing_is g.K.Ord.cmp g.met.K.Ord.total c.args.key.now c.args.entries.now c.place_of-place.result
+    c.requires.sorted c.place_of-place.ensures.before c.place_of-place.ensures.here
+    (sym c.is_at.ensures.value ∙ c.if-is_at.false)
 
 pub returns-then-is_at-clause-cost : goal.returns-then-is_at-clause-cost
 returns-then-is_at-clause-cost g c =

@@ -3,4 +3,5 @@ use Rattle.dz_chunks.proofs.NumberLemmas.{numbers_in_order}
 use Rattle.dz_chunks.proofs.lead.compare_leads.Goals as goal
 
 pub returns : goal.returns
-returns c = rw (c.cmp.ensures, c.from_be_bytes.ensures, c.from_be_bytes-2.ensures) (numbers_in_order c.args.left.now c.args.right.now (search rules) (search rules) c.fits-left c.fits-right)
+returns c = rw (c.cmp.ensures, c.from_be_bytes.ensures, c.from_be_bytes-2.ensures)
+    (numbers_in_order c.args.left.now c.args.right.now (search rules) (search rules) c.fits-left c.fits-right)

@@ -12,8 +12,10 @@ invariant-search g l = record {
   counted : l.fn.steps ≤ l.steps;
   half : 2 ^ (l.steps - l.fn.steps) * (l.high - l.low) ≤ length l.items;
   cost : IsSearch (length l.items) (l.steps - l.fn.steps);
-  before : IsPartitionedBy (g.Q.Question.holds l.question) l.items → (i : ℕ) (d : _) → 0 ≤ i → i < l.low → g.Q.Question.holds l.question (get_or l.items i d) ≡ true;
-  behind : IsPartitionedBy (g.Q.Question.holds l.question) l.items → (i : ℕ) (d : _) → l.high ≤ i → i < length l.items → g.Q.Question.holds l.question (get_or l.items i d) ≡ false;
+  before : IsPartitionedBy (g.Q.Question.holds l.question) l.items → (i : ℕ) (d : _) → 0 ≤ i → i < l.low
+      → g.Q.Question.holds l.question (get_or l.items i d) ≡ true;
+  behind : IsPartitionedBy (g.Q.Question.holds l.question) l.items → (i : ℕ) (d : _) → l.high ≤ i → i < length l.items
+      → g.Q.Question.holds l.question (get_or l.items i d) ≡ false;
 }
 
 abbrev pub decreases-search : goal.decreases-search

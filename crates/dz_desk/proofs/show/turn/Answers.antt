@@ -9,4 +9,5 @@ publish_as-same-requires g c next is =
     let staged = c.requires.next in
     let before = c.owners.writer.desk.shown.value in
     let same : next ≡ staged.0 = rw staged.1 at (rw kept.2 at is) in
-    shows _ _ before next (subst (λ (p : Page). Goes p next) (sym kept.1) (subst (λ (p : Page). Goes c.args.writer.desk.shown.value p) (sym same) staged.2))
+    shows _ _ before next (subst (λ (p : Page). Goes p next) (sym kept.1)
+    (subst (λ (p : Page). Goes c.args.writer.desk.shown.value p) (sym same) staged.2))

@@ -15,7 +15,8 @@ returns-in-Ok-clause-fetched g c =
     let fresh = c.in-Ok.ensures.fresh in
     record {
       link = Some over;
-      fetched = fetched_over c.ask-fetched.result c.args.job.now _ held _ given left faults fresh.unwritten fresh.unread c.ask-fetched.ensures.asked c.ask-fetched.ensures.taken;
+      fetched = fetched_over c.ask-fetched.result c.args.job.now _ held _ given left faults fresh.unwritten
+          fresh.unread c.ask-fetched.ensures.asked c.ask-fetched.ensures.taken;
       gains = rw (c.in-Ok.ensures.out, c.primary.ensures, c.in-Ok.ensures.links) at c.done.ensures.links;
       shown = tt;
     }

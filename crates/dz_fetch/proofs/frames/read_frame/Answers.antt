@@ -13,5 +13,8 @@ returns-clause-next g c =
     let front = c.read_to.new.octets.items in
     let octets = c.read_to-2.new.octets.items in
     let two : length front ≡ 2 = omega (arith, c.in_ok-read_to.ensures.read.fits) in
-    let size : c.number_of_two.result ≡ number_of_two front = c.number_of_two.ensures ∙ ap number_of_two c.deref.ensures.value in
-    next_is front octets c.number_of_two.result c.len-2.result _ _ _ _ (octets_below octets (λ i inside. omega (arith, inside, c.type_inv.frame))) two size (omega arith) c.in_ok-read_to-2.ensures.read refl
+    let size : c.number_of_two.result ≡ number_of_two front =
+    c.number_of_two.ensures ∙ ap number_of_two c.deref.ensures.value in
+    next_is front octets c.number_of_two.result c.len-2.result _ _ _ _
+    (octets_below octets (λ i inside. omega (arith, inside, c.type_inv.frame))) two size
+    (omega arith) c.in_ok-read_to-2.ensures.read refl

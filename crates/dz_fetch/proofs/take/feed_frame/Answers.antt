@@ -13,11 +13,14 @@ pub returns-clause-frames : goal.returns-clause-frames
 returns-clause-frames c =
     let fed = rw c.split_at.ensures.back at (ap (λ (t : Taken). t.octets) c.in_ok-progress.ensures.octets) in
     let messages = rw c.split_at.ensures.back at c.in_ok-progress.ensures.messages in
-    frames_more c.args.taking.now.octets c.feed.new.self.octets c.args.frame.now c.requires.frames c.requires.frame fed messages
+    frames_more c.args.taking.now.octets c.feed.new.self.octets c.args.frame.now c.requires.frames c.requires.frame
+    fed messages
 
 pub returns-clause-fits : goal.returns-clause-fits
 returns-clause-fits c =
     let fed = rw c.split_at.ensures.back at (ap (λ (t : Taken). t.octets) c.in_ok-progress.ensures.octets) in
     let messages = rw c.split_at.ensures.back at c.in_ok-progress.ensures.messages in
-    let frames = frames_more c.args.taking.now.octets c.feed.new.self.octets c.args.frame.now c.requires.frames c.requires.frame fed messages in
-    λ none. undecided_fits c.args.taking.now.transfer c.args.taking.now.octets c.feed.new.self.octets c.args.frame.now frames c.requires.undecided messages none
+    let frames = frames_more c.args.taking.now.octets c.feed.new.self.octets c.args.frame.now c.requires.frames
+    c.requires.frame fed messages in
+    λ none. undecided_fits c.args.taking.now.transfer c.args.taking.now.octets c.feed.new.self.octets c.args.frame.now
+    frames c.requires.undecided messages none

@@ -23,8 +23,11 @@ returns-in-Ok-Ended-clause-read g c =
     let octets = c.feed_frame.new.taking.octets in
     let before = g.S.Source.given c.args.source.now in
     let after = g.S.Source.given c.read_frame.new.source in
-    let joined : octets ≡ c.frames.taking.octets ++ c.read_frame.new.frame.items = c.in-Ok-Ended.ensures.octets ∙ ap (λ o. c.frames.taking.octets ++ o) c.deref.ensures.value in
+    let joined : octets ≡ c.frames.taking.octets ++ c.read_frame.new.frame.items =
+    c.in-Ok-Ended.ensures.octets ∙ ap (λ o. c.frames.taking.octets ++ o) c.deref.ensures.value in
     let some = rw c.in-Ok-Ended.field-0-is at c.in-Ok-Ended.ensures.progress in
-    ends_decided c.args.taking.now.transfer octets before after (g.S.Source.left c.read_frame.new.source) c.in-Ok-Ended.ensures.frames
-    (rw joined (gains_more c.frames.taking.octets c.read_frame.new.frame.items before _ after c.frames.invariant.gains c.in_ok-read_frame.ensures.given))
+    ends_decided c.args.taking.now.transfer octets before after
+    (g.S.Source.left c.read_frame.new.source) c.in-Ok-Ended.ensures.frames
+    (rw joined (gains_more c.frames.taking.octets c.read_frame.new.frame.items before _ after c.frames.invariant.gains
+    c.in_ok-read_frame.ensures.given))
     (subst (λ (t : Transfer). IsSome (decided t (messages_in octets))) c.frames.invariant.transfer some)

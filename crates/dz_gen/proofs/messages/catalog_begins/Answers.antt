@@ -20,5 +20,6 @@ pub response-requires : goal.response-requires
 response-requires c =
     let asked : c.in_ok-question.field-0.items ≡ question catalog TYPE_AXFR ∷ [] = search rules in
     let answers : c.push-3.new.self.items
-    ≡ soa catalog 1 ∷ hourly catalog TYPE_NS (wire_of (named (codes "invalid."))) ∷ version_property ∷ [] = search rules in
+    ≡ soa catalog 1 ∷ hourly catalog TYPE_NS (wire_of (named (codes "invalid."))) ∷ version_property ∷ [] =
+    search rules in
     rw (asked, answers) begins_fits

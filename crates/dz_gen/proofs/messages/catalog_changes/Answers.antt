@@ -17,5 +17,6 @@ pub response-requires : goal.response-requires
 response-requires c =
     let asked : c.in_ok-question.field-0.items ≡ question catalog TYPE_IXFR ∷ [] = search rules in
     let answers : c.push-7.new.self.items
-    ≡ soa catalog 2 ∷ soa catalog 1 ∷ node (codes "m") 1 ∷ group 1 ∷ soa catalog 2 ∷ node (codes "r") 1 ∷ soa catalog 2 ∷ [] = search rules in
+    ≡ soa catalog 2 ∷ soa catalog 1 ∷ node (codes "m") 1 ∷ group 1 ∷ soa catalog 2 ∷ node (codes "r") 1 ∷ soa catalog 2
+    ∷ [] = search rules in
     rw (asked, answers) (reset_fits c.args.id)

@@ -8,5 +8,6 @@ pub returns : goal.returns
 returns c =
     count_from_yields_List c.filter.result _ c.count.ensures.ran
     (YieldsList-from_filter _ (has_code c.args.digit.now)
-    (YieldsList-at c.filter.ensures.source (YieldsList-from_slice_split _ is_newline c.args.text.now c.split.ensures.rest c.split.ensures.done c.split.ensures.closure (λ x b q k. search (rules, tests))))
+    (YieldsList-at c.filter.ensures.source (YieldsList-from_slice_split _ is_newline c.args.text.now
+    c.split.ensures.rest c.split.ensures.done c.split.ensures.closure (λ x b q k. search (rules, tests))))
     c.filter.ensures.closure (λ x b q k. search (rules, tests)))

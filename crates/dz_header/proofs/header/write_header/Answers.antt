@@ -7,4 +7,12 @@ use Rattle.dz_header.proofs.header.write_header.Goals as goal
 pub returns : goal.returns
 unfolding header_octets two
 returns c =
-    rw (c.two.ensures, c.two-2.ensures, c.two-3.ensures, c.two-4.ensures, c.two-5.ensures, c.two-6.ensures, four_items c.args.header.now.counts (omega arith)) refl
+    rw (
+      c.two.ensures,
+      c.two-2.ensures,
+      c.two-3.ensures,
+      c.two-4.ensures,
+      c.two-5.ensures,
+      c.two-6.ensures,
+      four_items c.args.header.now.counts (omega arith),
+    ) refl

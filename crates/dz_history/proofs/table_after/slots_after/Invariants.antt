@@ -5,6 +5,7 @@ use Rattle.dz_history.proofs.table_after.slots_after.Given as goal
 
 abbrev pub invariant-members : goal.invariant-members
 invariant-members l = record {
-  slots : l.slots.items ≡ map (λ m. slot_after l.before (shown l.before.fold.config m)) (take l.membership-index l.memberships);
+  slots : l.slots.items
+      ≡ map (λ m. slot_after l.before (shown l.before.fold.config m)) (take l.membership-index l.memberships);
   ahead : l.ahead ≡ l.before.table;
 }

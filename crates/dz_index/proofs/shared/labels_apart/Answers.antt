@@ -16,7 +16,8 @@ labels-init c = record {
 pub above-near-requires : goal.above-near-requires
 above-near-requires c =
     let apart : c.labels.near ≢ c.labels.far = λ e. false≢true (sym c.labels-test.true ∙ c.same.ensures.equal.1 e) in
-    some_left c.labels.near c.labels.far apart (omega (arith, c.if-wire.true, ap length c.wire.ensures.wire, ap length c.wire-in-labels.ensures.wire))
+    some_left c.labels.near c.labels.far apart
+    (omega (arith, c.if-wire.true, ap length c.wire.ensures.wire, ap length c.wire-in-labels.ensures.wire))
 
 pub overflow_add-apart : goal.overflow_add-apart
 overflow_add-apart c = omega (arith, few_labels _ c.ancestor-near.ensures.name, c.labels.invariant.within)
@@ -24,13 +25,15 @@ overflow_add-apart c = omega (arith, few_labels _ c.ancestor-near.ensures.name, 
 pub labels-smaller-then-wire : goal.labels-smaller-then-wire
 labels-smaller-then-wire c =
     let apart : c.labels.near ≢ c.labels.far = λ e. false≢true (sym c.labels-test.true ∙ c.same.ensures.equal.1 e) in
-    let some = some_left c.labels.near c.labels.far apart (omega (arith, c.if-wire.true, ap length c.wire.ensures.wire, ap length c.wire-in-labels.ensures.wire)) in
+    let some = some_left c.labels.near c.labels.far apart
+    (omega (arith, c.if-wire.true, ap length c.wire.ensures.wire, ap length c.wire-in-labels.ensures.wire)) in
     omega (arith, some, ap length c.above-near.ensures, length-drop 1 c.labels.near)
 
 pub labels-preserved-then-wire : goal.labels-preserved-then-wire
 labels-preserved-then-wire c =
     let apart : c.labels.near ≢ c.labels.far = λ e. false≢true (sym c.labels-test.true ∙ c.same.ensures.equal.1 e) in
-    let long : length (wire_of c.labels.far) ≤ length (wire_of c.labels.near) = omega (arith, c.if-wire.true, ap length c.wire.ensures.wire, ap length c.wire-in-labels.ensures.wire) in
+    let long : length (wire_of c.labels.far) ≤ length (wire_of c.labels.near) =
+    omega (arith, c.if-wire.true, ap length c.wire.ensures.wire, ap length c.wire-in-labels.ensures.wire) in
     let some = some_left c.labels.near c.labels.far apart long in
     record {
       near = further c.args.name.now _ _ c.labels.apart c.labels.invariant.near c.above-near.ensures;
@@ -41,20 +44,24 @@ labels-preserved-then-wire c =
     }
 
 pub above-far-requires : goal.above-far-requires
-above-far-requires c = longer_left c.labels.near c.labels.far (omega (arith, c.if-wire.false, ap length c.wire.ensures.wire, ap length c.wire-in-labels.ensures.wire))
+above-far-requires c = longer_left c.labels.near c.labels.far
+    (omega (arith, c.if-wire.false, ap length c.wire.ensures.wire, ap length c.wire-in-labels.ensures.wire))
 
 pub labels-smaller : goal.labels-smaller
 labels-smaller c =
-    let some = longer_left c.labels.near c.labels.far (omega (arith, c.if-wire.false, ap length c.wire.ensures.wire, ap length c.wire-in-labels.ensures.wire)) in
+    let some = longer_left c.labels.near c.labels.far
+    (omega (arith, c.if-wire.false, ap length c.wire.ensures.wire, ap length c.wire-in-labels.ensures.wire)) in
     omega (arith, some, ap length c.above-far.ensures, length-drop 1 c.labels.far)
 
 pub labels-preserved : goal.labels-preserved
 labels-preserved c =
-    let long : length (wire_of c.labels.near) < length (wire_of c.labels.far) = omega (arith, c.if-wire.false, ap length c.wire.ensures.wire, ap length c.wire-in-labels.ensures.wire) in
+    let long : length (wire_of c.labels.near) < length (wire_of c.labels.far) =
+    omega (arith, c.if-wire.false, ap length c.wire.ensures.wire, ap length c.wire-in-labels.ensures.wire) in
     record {
       near = c.labels.invariant.near;
       within = c.labels.invariant.within;
-      far = within_next c.args.other.now c.labels.far c.above-far.result c.labels.invariant.far (longer_left c.labels.near c.labels.far long) c.above-far.ensures;
+      far = within_next c.args.other.now c.labels.far c.above-far.result c.labels.invariant.far
+          (longer_left c.labels.near c.labels.far long) c.above-far.ensures;
       keep = subst (λ far. Keep c.args.name.now c.args.other.now c.labels.near far) (sym c.above-far.ensures)
           (keep_far c.args.name.now c.args.other.now c.labels.near c.labels.far c.labels.invariant.keep long);
     }
@@ -68,4 +75,5 @@ returns-clause-encloses c =
     subst (λ n. IsWithin c.args.other.now n) (sym same ∙ c.labels.invariant.near) c.labels.invariant.far
 
 pub returns-clause-longest : goal.returns-clause-longest
-returns-clause-longest c = λ zone w v. subst (λ n. IsWithin n zone) c.labels.invariant.near (c.labels.invariant.keep zone w v).0
+returns-clause-longest c =
+    λ zone w v. subst (λ n. IsWithin n zone) c.labels.invariant.near (c.labels.invariant.keep zone w v).0

@@ -14,7 +14,8 @@ pub octets-preserved : goal.octets-preserved
 octets-preserved c = record {
   within = omega (arith, c.octets.invariant.within);
   low = omega (arith, c.octets.invariant.low, c.put_octet-begin.ensures.front);
-  key = ended_next c.args.label.now (drop c.octets.begin c.octets.octets) (drop c.args.end c.args.octets.now) _ c.octets.left c.octets-test.true c.octets.invariant.within c.octets.invariant.key
+  key = ended_next c.args.label.now (drop c.octets.begin c.octets.octets) (drop c.args.end c.args.octets.now) _
+      c.octets.left c.octets-test.true c.octets.invariant.within c.octets.invariant.key
       c.put_octet-begin.ensures.octets;
   room = omega (arith, c.octets.invariant.room, c.put_octet-begin.ensures.room, c.octets-test.true);
 }

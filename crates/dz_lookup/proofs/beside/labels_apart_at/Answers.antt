@@ -6,9 +6,11 @@ use Rattle.dz_lookup.proofs.beside.labels_apart_at.Goals as goal
 
 pub returns-then-place-records-clause-apart : goal.returns-then-place-records-clause-apart
 returns-then-place-records-clause-apart g c = λ d k le.
-    look_is c.args.records.now (drop k c.args.name.now) c.args.place c.index-records-place.result d (nat_le c.labels_apart.result k) c.if-place-records.true c.index-records-place.is
+    look_is c.args.records.now (drop k c.args.name.now) c.args.place c.index-records-place.result d
+    (nat_le c.labels_apart.result k) c.if-place-records.true c.index-records-place.is
     (apart_is c.args.name.now c.index-records-place.result.owner c.labels_apart.result k c.labels_apart.ensures.within
-    (rw c.owner_ref.ensures at c.labels_apart.ensures.encloses) (rw c.owner_ref.ensures at c.labels_apart.ensures.longest) le)
+    (rw c.owner_ref.ensures at c.labels_apart.ensures.encloses)
+    (rw c.owner_ref.ensures at c.labels_apart.ensures.longest) le)
 
 pub returns-else-place-records-clause-apart : goal.returns-else-place-records-clause-apart
 returns-else-place-records-clause-apart g c = λ d k le.

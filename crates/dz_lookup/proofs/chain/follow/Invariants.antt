@@ -9,7 +9,8 @@ invariant-trail g l = record {
   few : length l.chain ≤ 16;
   within : is_within l.asked l.version.apex ≡ true;
   next : IsNext l.asked l.chain;
-  rest : chain_from (16 - length l.chain) l.version.apex l.version.records l.kind l.chain l.asked ≡ chain_of l.version.apex l.version.records l.name l.kind;
+  rest : chain_from (16 - length l.chain) l.version.apex l.version.records l.kind l.chain l.asked
+      ≡ chain_of l.version.apex l.version.records l.name l.kind;
 }
 
 abbrev pub decreases-trail : goal.decreases-trail

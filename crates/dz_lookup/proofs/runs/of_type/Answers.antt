@@ -9,12 +9,17 @@ use Rattle.dz_lookup.proofs.runs.of_type.Goals as goal
 pub between-requires-clause-order : goal.between-requires-clause-order
 between-requires-clause-order c =
     points_rise (λ (r : Record). nat_cmp r.kind c.args.kind) c.args.node.now _ _ c.partition_point-begin.ensures.bound
-    (c.partition_point-begin.ensures.partitioned (λ (r : Record). is_lt (nat_cmp r.kind c.args.kind)) (always_returns_same _ _ _ (λ a r f h. search rules)) (kinds_before c.args.node.now c.args.kind c.requires))
-    (c.partition_point-end.ensures.partitioned (λ (r : Record). is_le (nat_cmp r.kind c.args.kind)) (always_returns_same _ _ _ (λ a r f h. search rules)) (kinds_upto c.args.node.now c.args.kind c.requires))
+    (c.partition_point-begin.ensures.partitioned (λ (r : Record). is_lt (nat_cmp r.kind c.args.kind))
+    (always_returns_same _ _ _ (λ a r f h. search rules)) (kinds_before c.args.node.now c.args.kind c.requires))
+    (c.partition_point-end.ensures.partitioned (λ (r : Record). is_le (nat_cmp r.kind c.args.kind))
+    (always_returns_same _ _ _ (λ a r f h. search rules)) (kinds_upto c.args.node.now c.args.kind c.requires))
 
 pub returns : goal.returns
 returns c =
     c.between.ensures
-    ∙ type_run c.args.node.now c.args.kind _ _ c.partition_point-begin.ensures.bound c.partition_point-end.ensures.bound
-    (c.partition_point-begin.ensures.partitioned (λ (r : Record). is_lt (nat_cmp r.kind c.args.kind)) (always_returns_same _ _ _ (λ a r f h. search rules)) (kinds_before c.args.node.now c.args.kind c.requires))
-    (c.partition_point-end.ensures.partitioned (λ (r : Record). is_le (nat_cmp r.kind c.args.kind)) (always_returns_same _ _ _ (λ a r f h. search rules)) (kinds_upto c.args.node.now c.args.kind c.requires))
+    ∙ type_run c.args.node.now c.args.kind _ _ c.partition_point-begin.ensures.bound
+    c.partition_point-end.ensures.bound
+    (c.partition_point-begin.ensures.partitioned (λ (r : Record). is_lt (nat_cmp r.kind c.args.kind))
+    (always_returns_same _ _ _ (λ a r f h. search rules)) (kinds_before c.args.node.now c.args.kind c.requires))
+    (c.partition_point-end.ensures.partitioned (λ (r : Record). is_le (nat_cmp r.kind c.args.kind))
+    (always_returns_same _ _ _ (λ a r f h. search rules)) (kinds_upto c.args.node.now c.args.kind c.requires))

@@ -12,8 +12,12 @@ earlier-preserved c =
     let k = c.earlier.place-index in
     elim c.match-place_again.branch [
       | in-Some+in_ok-push w ↦
-          rw (w.kept-is, w.in_ok-push.ensures.items, c.earlier.invariant) (sym (kept_more c.args.again.now c.args.before.now k (Some w.in-Some.now) c.earlier-test.true (sym w.in-Some.is ∙ c.place_again.ensures)))
+          rw (w.kept-is, w.in_ok-push.ensures.items, c.earlier.invariant)
+          (sym (kept_more c.args.again.now c.args.before.now k (Some w.in-Some.now) c.earlier-test.true
+          (sym w.in-Some.is ∙ c.place_again.ensures)))
       | in_default w ↦
           rw (w.kept-is, c.earlier.invariant)
-          (sym (kept_more c.args.again.now c.args.before.now k None c.earlier-test.true (sym w.in_default.is ∙ c.place_again.ensures) ∙ append-nil (filter_map (place_again c.args.again.now) (take k c.args.before.now))))
+          (sym (kept_more c.args.again.now c.args.before.now k None c.earlier-test.true
+          (sym w.in_default.is ∙ c.place_again.ensures)
+          ∙ append-nil (filter_map (place_again c.args.again.now) (take k c.args.before.now))))
     ]

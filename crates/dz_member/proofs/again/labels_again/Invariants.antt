@@ -6,4 +6,5 @@ use Rattle.dz_member.proofs.again.labels_again.Given as goal
 -- no node of those gone over has the label of an earlier node that is left, or one after it
 abbrev pub invariant-labels : goal.invariant-labels
 invariant-labels l = (l.again.items ≡ map (λ b. place_of_label l.nodes b.label) (take l.node-index l.before))
-    × ((k : ℕ) (d : Node) → l.node-index ≤ k → k < length l.before → l.next ≤ count_below l.nodes (get_or l.before k d).label)
+    × ((k : ℕ) (d : Node) → l.node-index ≤ k → k < length l.before
+    → l.next ≤ count_below l.nodes (get_or l.before k d).label)

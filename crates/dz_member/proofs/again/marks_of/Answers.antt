@@ -12,6 +12,8 @@ places-preserved c =
     let q = get_or c.args.places.now k 0 in
     elim c.if-place-count.branch [
       | then-place-count w ↦
-          rw (w.marks-is, c.places.invariant) (mark_in c.args.count c.args.places.now k q c.places-test.true refl w.if-place-count.true)
-      | else-place-count w ↦ rw (w.marks-is) (c.places.invariant ∙ mark_out c.args.count c.args.places.now k q c.places-test.true refl w.if-place-count.false)
+          rw (w.marks-is, c.places.invariant)
+          (mark_in c.args.count c.args.places.now k q c.places-test.true refl w.if-place-count.true)
+      | else-place-count w ↦ rw (w.marks-is) (c.places.invariant
+          ∙ mark_out c.args.count c.args.places.now k q c.places-test.true refl w.if-place-count.false)
     ]

@@ -5,4 +5,6 @@ use Rattle.dz_member.proofs.judge.choose_alike.Goals as goal
 pub returns : goal.returns
 returns c =
     c.eq.ensures
-    ∙ chose_alike c.args.fold.now.config c.args.a.now.catalog c.args.b.now.catalog c.args.a.now.group c.args.b.now.group c.requires.fold.allowed c.requires.a.catalog c.requires.catalog c.requires.a.group c.requires.b.group
+    ∙ chose_alike c.args.fold.now.config c.args.a.now.catalog c.args.b.now.catalog c.args.a.now.group
+    c.args.b.now.group c.requires.fold.allowed c.requires.a.catalog c.requires.catalog c.requires.a.group
+    c.requires.b.group

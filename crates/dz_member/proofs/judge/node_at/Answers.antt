@@ -14,7 +14,8 @@ pub returns-in-Ok : goal.returns-in-Ok
 returns-in-Ok c =
     let label = c.args.label.now in
     rw (← c.nodes-nodes.ensures.nodes)
-    (find_place label_total (λ (n : Node). n.label) (λ n. same_label n.label label) label (λ n. same_label_ties n.label label) c.nodes-nodes.result.now c.in-Ok.at _
+    (find_place label_total (λ (n : Node). n.label) (λ n. same_label n.label label) label
+    (λ n. same_label_ties n.label label) c.nodes-nodes.result.now c.in-Ok.at _
     c.in-Ok.ensures.bound (rw (c.nodes-nodes.ensures.nodes) c.nodes-nodes.ensures.listing.labels)
     (c.in-Ok.ensures.position (λ n. label_order n.label label) (always_returns_same _ _ _ (λ a r f h. search rules)))
     c.index-nodes-at.is)
@@ -23,6 +24,8 @@ pub returns-in-Err : goal.returns-in-Err
 returns-in-Err c =
     let label = c.args.label.now in
     rw (← c.nodes-nodes.ensures.nodes)
-    (find_gap label_total (λ (n : Node). n.label) (λ n. same_label n.label label) label (λ n. same_label_ties n.label label) c.nodes-nodes.result.now _ nothing
+    (find_gap label_total (λ (n : Node). n.label) (λ n. same_label n.label label) label
+    (λ n. same_label_ties n.label label) c.nodes-nodes.result.now _ nothing
     (c.in-Err.ensures.position (λ n. label_order n.label label) (always_returns_same _ _ _ (λ a r f h. search rules))
-    (searchable label_total (λ (n : Node). n.label) label c.nodes-nodes.result.now (rw (c.nodes-nodes.ensures.nodes) c.nodes-nodes.ensures.listing.labels))))
+    (searchable label_total (λ (n : Node). n.label) label c.nodes-nodes.result.now
+    (rw (c.nodes-nodes.ensures.nodes) c.nodes-nodes.ensures.listing.labels))))

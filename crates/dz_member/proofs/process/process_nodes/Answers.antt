@@ -13,26 +13,32 @@ pub returns-clause-members : goal.returns-clause-members
 returns-clause-members c =
     let fold = c.args.fold.now in
     let catalog = (settings_at fold.config c.args.number).name in
-    IfOk-weaker c.walk.result _ _ (λ p e. e ∙ members_are fold catalog c.args.listing.now c.args.position) c.walk.ensures.members
+    IfOk-weaker c.walk.result _ _
+    (λ p e. e ∙ members_are fold catalog c.args.listing.now c.args.position) c.walk.ensures.members
 
 pub returns-clause-changes : goal.returns-clause-changes
 returns-clause-changes c =
     let fold = c.args.fold.now in
     let catalog = (settings_at fold.config c.args.number).name in
-    IfOk-weaker c.walk.result _ _ (λ p e. e ∙ changes_are fold catalog c.args.listing.now c.args.position) c.walk.ensures.changes
+    IfOk-weaker c.walk.result _ _
+    (λ p e. e ∙ changes_are fold catalog c.args.listing.now c.args.position) c.walk.ensures.changes
 
 pub returns-clause-each : goal.returns-clause-each
 returns-clause-each c =
     let fold = c.args.fold.now in
     let catalog = (settings_at fold.config c.args.number).name in
-    let rise : IsStrictlySortedBy canonical_order (map (λ (n : Node). n.zone) (in_zone_order c.args.listing.now)) = sorted_rise c.args.listing.now c.walk.ensures.listing.zones in
-    IfOk-weaker c.walk.result _ _ (λ p e. each_zone fold catalog c.args.listing.now c.args.position c.requires.fold.rises rise) c.walk.ensures.members
+    let rise : IsStrictlySortedBy canonical_order (map (λ (n : Node). n.zone) (in_zone_order c.args.listing.now)) =
+    sorted_rise c.args.listing.now c.walk.ensures.listing.zones in
+    IfOk-weaker c.walk.result _ _ (λ p e.
+    each_zone fold catalog c.args.listing.now c.args.position c.requires.fold.rises rise) c.walk.ensures.members
 
 pub returns-clause-order : goal.returns-clause-order
 returns-clause-order c =
     let fold = c.args.fold.now in
     let catalog = (settings_at fold.config c.args.number).name in
-    let rise : IsStrictlySortedBy canonical_order (map (λ (n : Node). n.zone) (in_zone_order c.args.listing.now)) = sorted_rise c.args.listing.now c.walk.ensures.listing.zones in
+    let rise : IsStrictlySortedBy canonical_order (map (λ (n : Node). n.zone) (in_zone_order c.args.listing.now)) =
+    sorted_rise c.args.listing.now c.walk.ensures.listing.zones in
     IfOk-weaker c.walk.result _ _
-    (λ p e. subst (λ (ms : List MemberOf). IsStrictlySortedBy canonical_order (map (λ m. m.zone) ms)) (sym e) (order_after fold catalog c.args.listing.now c.args.position c.requires.fold.rises rise))
+    (λ p e. subst (λ (ms : List MemberOf). IsStrictlySortedBy canonical_order (map (λ m. m.zone) ms)) (sym e)
+    (order_after fold catalog c.args.listing.now c.args.position c.requires.fold.rises rise))
     (returns-clause-members c)

@@ -9,4 +9,5 @@ use Rattle.dz_member.proofs.sort.labels_rise.Goals as goal
 pub returns : goal.returns
 returns c =
     rise_answer label_total (λ (n : Node). n.label) c.args.nodes.now _
-    (c.is_sorted_by.ensures.cases (λ a b. is_lt (label_order a.label b.label)) (answers_always _ _ _ (λ f a r g h. search rules)))
+    (c.is_sorted_by.ensures.cases (λ a b. is_lt (label_order a.label b.label))
+    (answers_always _ _ _ (λ f a r g h. search rules)))

@@ -10,4 +10,5 @@ pub returns : goal.returns
 returns c =
     rw (map-map (λ n. n.zone) (λ p. p.node) c.args.nodes.now)
     (rise_answer canonical_total (λ p. p.node.zone) c.args.nodes.now _
-    (c.is_sorted_by.ensures.cases (λ a b. is_lt (canonical_order a.node.zone b.node.zone)) (answers_always _ _ _ (λ f a r g h. search rules))))
+    (c.is_sorted_by.ensures.cases (λ a b. is_lt (canonical_order a.node.zone b.node.zone))
+    (answers_always _ _ _ (λ f a r g h. search rules))))

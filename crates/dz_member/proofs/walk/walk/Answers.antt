@@ -28,8 +28,12 @@ zones-smaller c =
     let inv = c.zones.invariant in
     let p = pair_of c.in-Some.pair in
     let first = sym (rw (c.node_by_zone.ensures, first_behind ns c.zones.at) at c.in-Some.ensures) in
-    let s = steps judge c.zones.held.now (drop c.zones.at ns) p (map (shown fold.config) c.zones.processed.members.items) c.zones.processed.changes.items _ _ (inv.held, inv.listed) first inv.members inv.changes in
-    let next : drop c.behind-at.result ns ≡ left_of p (drop c.zones.at ns) = rw (is_some_map (λ r. r.now) c.in-Some.pair.node, ← c.is_some.ensures) (rw c.nodes-nodes.ensures.nodes at c.behind-at.ensures) in
+    let s =
+    steps judge c.zones.held.now (drop c.zones.at ns) p (map (shown fold.config) c.zones.processed.members.items)
+    c.zones.processed.changes.items _ _ (inv.held, inv.listed) first inv.members inv.changes in
+    let next : drop c.behind-at.result ns ≡ left_of p (drop c.zones.at ns) =
+    rw (is_some_map (λ r. r.now) c.in-Some.pair.node, ← c.is_some.ensures)
+    (rw c.nodes-nodes.ensures.nodes at c.behind-at.ensures) in
     rw next s.goes.less
 
 pub zones-preserved : goal.zones-preserved
@@ -41,8 +45,12 @@ zones-preserved c =
     let p = pair_of c.in-Some.pair in
     let o = option_map (λ r. r.now) c.node_by_zone.result in
     let first = sym (rw (c.node_by_zone.ensures, first_behind ns c.zones.at) at c.in-Some.ensures) in
-    let s = steps judge c.zones.held.now (drop c.zones.at ns) p (map (shown fold.config) c.zones.processed.members.items) c.zones.processed.changes.items _ _ (inv.held, inv.listed) first inv.members inv.changes in
-    let next : drop c.behind-at.result ns ≡ left_of p (drop c.zones.at ns) = rw (is_some_map (λ r. r.now) c.in-Some.pair.node, ← c.is_some.ensures) (rw c.nodes-nodes.ensures.nodes at c.behind-at.ensures) in
+    let s =
+    steps judge c.zones.held.now (drop c.zones.at ns) p (map (shown fold.config) c.zones.processed.members.items)
+    c.zones.processed.changes.items _ _ (inv.held, inv.listed) first inv.members inv.changes in
+    let next : drop c.behind-at.result ns ≡ left_of p (drop c.zones.at ns) =
+    rw (is_some_map (λ r. r.now) c.in-Some.pair.node, ← c.is_some.ensures)
+    (rw c.nodes-nodes.ensures.nodes at c.behind-at.ensures) in
     let parts = parts_of (IsNumbered fold.config) c.zones.held.now o p (sym c.in-Some.ensures) inv.numbered in
     record {
       held = s.goes.held;
@@ -59,9 +67,11 @@ returns-clause-members c =
     let catalog = (settings_at fold.config c.args.number).name in
     let judge = judge_of fold catalog c.args.position in
     let ns = in_zone_order c.args.listing.now in
-    let e = spots_end judge c.zones.held.now (drop c.zones.at ns) (rw (c.node_by_zone.ensures, first_behind ns c.zones.at) at (sym c.in_default.ensures)) in
+    let e = spots_end judge c.zones.held.now (drop c.zones.at ns)
+    (rw (c.node_by_zone.ensures, first_behind ns c.zones.at) at (sym c.in_default.ensures)) in
     sym (append-nil (map (shown fold.config) c.zones.processed.members.items)) ∙ (rw e at c.zones.invariant.members)
-    ∙ walked_members fold catalog c.args.position c.memberships-members.result.now ns c.memberships-members.ensures.members
+    ∙ walked_members fold catalog c.args.position c.memberships-members.result.now ns
+    c.memberships-members.ensures.members
 
 pub returns-clause-changes : goal.returns-clause-changes
 returns-clause-changes c =
@@ -69,6 +79,8 @@ returns-clause-changes c =
     let catalog = (settings_at fold.config c.args.number).name in
     let judge = judge_of fold catalog c.args.position in
     let ns = in_zone_order c.args.listing.now in
-    let e = spots_end judge c.zones.held.now (drop c.zones.at ns) (rw (c.node_by_zone.ensures, first_behind ns c.zones.at) at (sym c.in_default.ensures)) in
+    let e = spots_end judge c.zones.held.now (drop c.zones.at ns)
+    (rw (c.node_by_zone.ensures, first_behind ns c.zones.at) at (sym c.in_default.ensures)) in
     sym (append-nil c.zones.processed.changes.items) ∙ (rw e at c.zones.invariant.changes)
-    ∙ walked_changes fold catalog c.args.position c.memberships-members.result.now ns c.memberships-members.ensures.members
+    ∙ walked_changes fold catalog c.args.position c.memberships-members.result.now ns
+    c.memberships-members.ensures.members

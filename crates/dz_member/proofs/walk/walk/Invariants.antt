@@ -15,8 +15,10 @@ invariant-zones l =
       listed : IsStrictlySortedBy canonical_order (map (λ n. n.zone) (drop l.at (in_zone_order l.listing)));
       numbered : AllByRecursion (IsNumbered l.fold.config) l.held;
       kept : AllByRecursion (IsNumbered l.fold.config) l.processed.members.items;
-      members : map (shown l.fold.config) l.processed.members.items ++ members_in (spots judge l.held (drop l.at (in_zone_order l.listing))) ≡ members_in (spots judge l.initial.held (in_zone_order l.listing));
-      changes : l.processed.changes.items ++ changes_in (spots judge l.held (drop l.at (in_zone_order l.listing))) ≡ changes_in (spots judge l.initial.held (in_zone_order l.listing));
+      members : map (shown l.fold.config) l.processed.members.items ++ members_in (spots judge l.held
+          (drop l.at (in_zone_order l.listing))) ≡ members_in (spots judge l.initial.held (in_zone_order l.listing));
+      changes : l.processed.changes.items ++ changes_in (spots judge l.held (drop l.at (in_zone_order l.listing)))
+          ≡ changes_in (spots judge l.initial.held (in_zone_order l.listing));
     }
 
 abbrev pub decreases-zones : goal.decreases-zones

@@ -14,7 +14,8 @@ returns-clause-spells c =
     let octets : c.from_vec.result ≡ query_octets c.args.id c.args.zone.now held = grind (arith, common_steps) in
     let header = subst IsHeader c.query_header.ensures c.in_ok-write_head.ensures.held in
     let question = subst IsAsking c.query_question.ensures c.in_ok-write_question.ensures.held in
-    subst (λ o. Spells o (query_content c.args.id c.args.zone.now held)) (sym octets) (query_spells c.args.id c.args.zone.now held header question c.in_ok-write_held.ensures.held)
+    subst (λ o. Spells o (query_content c.args.id c.args.zone.now held)) (sym octets)
+    (query_spells c.args.id c.args.zone.now held header question c.in_ok-write_held.ensures.held)
 
 pub returns-clause-octets : goal.returns-clause-octets
 unfolding query_octets

@@ -12,7 +12,8 @@ invariant-octets g l = record {
   wire : length (wire_of l.name) ≡ l.used + 1;
   short : l.used < 255;
   before : l.piece ≤ l.offset;
-  read : (rest : Reading) → Reads l.message l.piece l.used l.offset rest → Reads l.message l.fn.at 0 l.fn.at (in_front l.name l.behind rest);
+  read : (rest : Reading) → Reads l.message l.piece l.used l.offset rest
+      → Reads l.message l.fn.at 0 l.fn.at (in_front l.name l.behind rest);
   least : l.fn.steps + length l.name ≤ l.steps;
   most : EndsChains l.message l.landings → TakesUpTo l.message l.piece l.offset l.used (l.steps - l.fn.steps);
 }

@@ -13,11 +13,17 @@ returns-in_err-code-clause-reply c =
 pub returns-in-Notify-clause-reply : goal.returns-in-Notify-clause-reply
 returns-in-Notify-clause-reply c =
     let written = c.reply_code.ensures.octets in
-    let said : code_for c.args.heard ≡ Some c.in_ok-code.code = sym c.code_for.ensures ∙ c.in_ok-code.was in
-    (bare_octets (query_of c.args.request.now c.in-Notify.asked) (number_of c.in_ok-code.code), written.0, written.1, replied c.args.request.now c.args.heard c.in-Notify.asked c.in_ok-code.code c.in-Notify.ensures.reads said)
+    let said : code_for c.args.heard ≡ Some c.in_ok-code.code = sym c.code_for.ensures ∙ c.in_ok-code.was in (
+      bare_octets (query_of c.args.request.now c.in-Notify.asked) (number_of c.in_ok-code.code),
+      written.0,
+      written.1,
+      replied c.args.request.now c.args.heard c.in-Notify.asked c.in_ok-code.code c.in-Notify.ensures.reads said,
+    )
 
 pub returns-in-Notify-clause-reads_back : goal.returns-in-Notify-clause-reads_back
 returns-in-Notify-clause-reads_back c = λ text e some.
-    let same : bare_octets (query_of c.args.request.now c.in-Notify.asked) (number_of c.in_ok-code.code) ≡ text = cc (c.reply_code.ensures.octets.0) in
+    let same : bare_octets (query_of c.args.request.now c.in-Notify.asked) (number_of c.in_ok-code.code) ≡ text =
+    cc (c.reply_code.ensures.octets.0) in
     let said : code_for c.args.heard ≡ Some c.in_ok-code.code = sym c.code_for.ensures ∙ c.in_ok-code.was in
-    reads c.args.request.now text c.args.heard c.in-Notify.asked c.in_ok-code.code (λ i. omega (arith, c.type_inv.request i)) c.in-Notify.ensures.reads said c.in-Notify.ensures.fits same
+    reads c.args.request.now text c.args.heard c.in-Notify.asked c.in_ok-code.code
+    (λ i. omega (arith, c.type_inv.request i)) c.in-Notify.ensures.reads said c.in-Notify.ensures.fits same

@@ -7,6 +7,7 @@ use Rattle.dz_outward.proofs.fit.add_others.Given as goal
 
 abbrev pub invariant-records : goal.invariant-records
 invariant-records l = record {
-  counts : (rest : List Record) → octets_behind l.fn.tally (filter is_other l.records ++ rest) ≡ octets_behind l.tally (filter is_other (drop l.rr-index l.records) ++ rest);
+  counts : (rest : List Record) → octets_behind l.fn.tally (filter is_other l.records ++ rest)
+      ≡ octets_behind l.tally (filter is_other (drop l.rr-index l.records) ++ rest);
   grows : total_of l.tally ≤ total_of l.fn.tally + 70000 * l.rr-index;
 }

@@ -5,4 +5,5 @@ use Rattle.dz_name.specs.Name.{label_order, same_label}
 use Rattle.dz_produce.proofs.change.labels_of.Given as goal
 
 abbrev pub invariant-nodes : goal.invariant-nodes
-invariant-nodes l = (label : List ℕ) → contains label_order l.labels label ≡ list_any (λ n. same_label n.label label) (take l.node-index l.nodes)
+invariant-nodes l = (label : List ℕ)
+    → contains label_order l.labels label ≡ list_any (λ n. same_label n.label label) (take l.node-index l.nodes)

@@ -12,10 +12,13 @@ nodes-preserved c =
     let node = c.node-item.result in
     elim c.if-contains.branch [
       | then-contains+in_ok-put w ↦
-          let more = kept_more p c.args.nodes.now c.nodes.node-index node c.nodes-test.true c.node-item.is (sym c.contains.ensures ∙ w.if-contains.true) in
+          let more = kept_more p c.args.nodes.now c.nodes.node-index node c.nodes-test.true c.node-item.is
+          (sym c.contains.ensures ∙ w.if-contains.true) in
           let draft = w.in_ok-put.ensures.draft _ c.nodes.invariant.draft in
-          rw (w.draft-is, more) (record { draft = draft; octets = w.in_ok-put.ensures.octets ∙ c.nodes.invariant.octets })
+          rw (w.draft-is, more)
+          (record { draft = draft; octets = w.in_ok-put.ensures.octets ∙ c.nodes.invariant.octets })
       | else-contains w ↦
-          let same = left_out p c.args.nodes.now c.nodes.node-index node c.nodes-test.true c.node-item.is (sym c.contains.ensures ∙ w.if-contains.false) in
+          let same = left_out p c.args.nodes.now c.nodes.node-index node c.nodes-test.true c.node-item.is
+          (sym c.contains.ensures ∙ w.if-contains.false) in
           rw (w.draft-is, same) c.nodes.invariant
     ]

@@ -9,13 +9,16 @@ words-init c = rw c.new-groups.ensures.items (none_read c.args.words)
 pub returns-in-None : goal.returns-in-None
 returns-in-None c =
     let bad : None ≡ group_of c.in-Some.word.now = cc c.in_ok-read_group.ensures in
-    sym (c.words.invariant ∙ bad_word c.words.groups.items c.in-Some.word.now c.words.words c.in-Some.rest c.in-Some.ensures bad)
+    sym (c.words.invariant
+    ∙ bad_word c.words.groups.items c.in-Some.word.now c.words.words c.in-Some.rest c.in-Some.ensures bad)
 
 pub words-preserved : goal.words-preserved
 words-preserved c =
     let read : Some c.in-Some-2.group ≡ group_of c.in-Some.word.now = cc c.in_ok-read_group.ensures in
     let items = c.in_ok-push-in-Some-2.ensures.items in
-    c.words.invariant ∙ rw items (one_more c.words.groups.items c.in-Some-2.group c.in-Some.word.now c.words.words c.in-Some.rest c.in-Some.ensures read)
+    c.words.invariant ∙ rw items (one_more c.words.groups.items c.in-Some-2.group c.in-Some.word.now c.words.words
+    c.in-Some.rest c.in-Some.ensures read)
 
 pub returns : goal.returns
-returns c = rw c.from_vec.ensures (sym (c.words.invariant ∙ all_read c.words.groups.items c.words.words c.in_default.ensures))
+returns c =
+    rw c.from_vec.ensures (sym (c.words.invariant ∙ all_read c.words.groups.items c.words.words c.in_default.ensures))

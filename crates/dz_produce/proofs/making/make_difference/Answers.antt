@@ -14,7 +14,8 @@ returns-in_ok-line-in-Some c =
     record {
       faultless = at_none leads.faultless;
       version_is = leads.version;
-      line_is = c.in_ok-line-in-Some.ensures ∙ ap (hex_line (105 ∷ 120 ∷ 102 ∷ 114 ∷ 32 ∷ [])) (c.as_slice.ensures.octets ∙ leads.octets);
+      line_is = c.in_ok-line-in-Some.ensures
+          ∙ ap (hex_line (105 ∷ 120 ∷ 102 ∷ 114 ∷ 32 ∷ [])) (c.as_slice.ensures.octets ∙ leads.octets);
       catalog = leads.catalog;
       serial_is = leads.serial_is;
     }

@@ -24,7 +24,8 @@ returns-in_ok-line-in-Some c =
       faultless = at_none made.faultless;
       version_is = made.version_is;
       line_is = c.in_ok-line-in-Some.ensures
-          ∙ ap (hex_line (97 ∷ 120 ∷ 102 ∷ 114 ∷ 32 ∷ [])) (c.as_slice.ensures.octets ∙ (c.in_ok-stream-in-Some.ensures ∙ ap (λ (zone : Zone). stream (written (messages_of 0 zone))) made.version_is));
+          ∙ ap (hex_line (97 ∷ 120 ∷ 102 ∷ 114 ∷ 32 ∷ [])) (c.as_slice.ensures.octets ∙ (c.in_ok-stream-in-Some.ensures
+          ∙ ap (λ (zone : Zone). stream (written (messages_of 0 zone))) made.version_is));
       catalog = made.catalog;
       serial_is = made.serial_is;
     }

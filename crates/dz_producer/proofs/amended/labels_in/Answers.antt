@@ -11,7 +11,9 @@ nodes-init c = search rules
 
 pub nodes-preserved : goal.nodes-preserved
 nodes-preserved c =
-    one_more (contains label_order c.nodes.labels) _ c.args.nodes.now c.nodes.node-index c.node-item.result c.node-item.result.label c.nodes.invariant c.nodes-test.true c.node-item.is refl c.in_ok-insert.ensures.updates.0
+    one_more (contains label_order c.nodes.labels) _ c.args.nodes.now c.nodes.node-index c.node-item.result
+    c.node-item.result.label c.nodes.invariant c.nodes-test.true c.node-item.is refl c.in_ok-insert.ensures.updates.0
 
 pub returns : goal.returns
-returns c label = c.nodes.invariant label ∙ ap (list_any (λ n. same_label n.label label)) (take_all c.nodes.node-index c.args.nodes.now c.nodes-test.false)
+returns c label = c.nodes.invariant label
+    ∙ ap (list_any (λ n. same_label n.label label)) (take_all c.nodes.node-index c.args.nodes.now c.nodes-test.false)

@@ -10,15 +10,20 @@ labels-init c = nothing_seen label_order (λ (q : List ℕ). q) (λ (x : List �
 
 pub labels-preserved : goal.labels-preserved
 labels-preserved c =
-    seen_more label_order (λ (q : List ℕ). q) (λ (x : List ℕ). x) (contains label_order c.labels.labels) _ c.args.dropped.now c.labels.label-index c.label-item.result c.label-item.result c.in_ok-insert.field-0 c.labels.invariant c.labels-test.true c.label-item.is refl
+    seen_more label_order (λ (q : List ℕ). q) (λ (x : List ℕ). x)
+    (contains label_order c.labels.labels) _ c.args.dropped.now c.labels.label-index c.label-item.result
+    c.label-item.result c.in_ok-insert.field-0 c.labels.invariant c.labels-test.true c.label-item.is refl
     c.in_ok-insert.ensures.added c.if-not-branch.false c.in_ok-insert.ensures.updates.0
 
 pub returns-then-not-branch : goal.returns-then-not-branch
 returns-then-not-branch c =
     sym
-    (seen_again label_order (λ (q : List ℕ). q) (λ (x : List ℕ). x) (contains label_order c.labels.labels) c.args.dropped.now c.labels.label-index c.label-item.result c.label-item.result c.in_ok-insert.field-0 c.labels.invariant c.labels-test.true c.label-item.is refl
+    (seen_again label_order (λ (q : List ℕ). q) (λ (x : List ℕ). x)
+    (contains label_order c.labels.labels) c.args.dropped.now c.labels.label-index c.label-item.result
+    c.label-item.result c.in_ok-insert.field-0 c.labels.invariant c.labels-test.true c.label-item.is refl
     c.in_ok-insert.ensures.added c.if-not-branch.true
     ∙ label_twice c.args.dropped.now)
 
 pub returns : goal.returns
-returns c = labels_seen c.args.dropped.now c.labels.label-index (contains label_order c.labels.labels) c.labels.invariant c.labels-test.false
+returns c = labels_seen c.args.dropped.now c.labels.label-index
+    (contains label_order c.labels.labels) c.labels.invariant c.labels-test.false

@@ -5,4 +5,5 @@ use Rattle.dz_producer.proofs.TwiceLemmas.{IsSeen}
 use Rattle.dz_producer.proofs.amended.labels_of.Given as goal
 
 abbrev pub invariant-labels : goal.invariant-labels
-invariant-labels l = IsSeen label_order (λ (q : List ℕ). q) (λ (x : List ℕ). x) (contains label_order l.labels) (take l.label-index l.dropped)
+invariant-labels l = IsSeen label_order (λ (q : List ℕ). q) (λ (x : List ℕ). x) (contains label_order l.labels)
+    (take l.label-index l.dropped)

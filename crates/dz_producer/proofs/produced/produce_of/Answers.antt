@@ -5,10 +5,11 @@ use Rattle.dz_outward.specs.Stream.{is_fit}
 use Rattle.dz_producer.specs.Produced.{produced}
 use Rattle.dz_producer.specs.inner.Nodes.{values}
 use Rattle.dz_producer.proofs.IsNodeLemmas.{made_catalog}
-use Rattle.dz_producer.proofs.FaultLemmas.{label_fault, group_fault, name_fault, many_fault, zone_fault, none_holds, many_nodes, many_records, many_octets, not_many}
+use Rattle.dz_producer.proofs.FaultLemmas.{label_fault, group_fault, name_fault, many_fault, zone_fault, none_holds}
+use Rattle.dz_producer.proofs.FaultLemmas.{many_nodes, many_records, many_octets, not_many}
 use Rattle.dz_producer.proofs.produced.produce_of.Goals as goal
-use Rattle.dz_producer.proofs.produced.produce_of.Goals.{then-is_version_long-via-then-is_version_long, then-is_version_long-via-else-is_version_long+then-some_node_long}
-use Rattle.dz_producer.proofs.produced.produce_of.Goals.{then-nodes-gt-NODES-via-then-nodes-gt-NODES, then-nodes-gt-NODES-via-else-nodes-gt-NODES+then-has_too_many_records}
+use Rattle.dz_producer.proofs.produced.produce_of.Goals.{then-is_version_long-via-then-is_version_long}
+use Rattle.dz_producer.proofs.produced.produce_of.Goals.{then-nodes-gt-NODES-via-then-nodes-gt-NODES}
 
 pub returns-then-branch-clause-made : goal.returns-then-branch-clause-made
 returns-then-branch-clause-made c =
@@ -27,7 +28,7 @@ returns-then-is_version_long-clause-made c =
     elim c.then-is_version_long.branch [
       | then-is_version_long-via-then-is_version_long w ↦ fault
           (rw (sym c.is_version_long.ensures ∙ w.if-is_version_long.true) refl)
-      | then-is_version_long-via-else-is_version_long+then-some_node_long w ↦ fault
+      | goal.then-is_version_long-via-else-is_version_long+then-some_node_long w ↦ fault
           (rw (
             sym c.is_version_long.ensures ∙ w.if-is_version_long.false,
             sym w.some_node_long.ensures.long
@@ -39,7 +40,8 @@ pub returns-then-nodes-gt-NODES-clause-made : goal.returns-then-nodes-gt-NODES-c
 returns-then-nodes-gt-NODES-clause-made c =
     let nodes = c.args.nodes.now in
     let fault = many_fault c.args.apex.now c.args.serial nodes
-    (sym c.if-branch.false ∙ c.in_ok-has_label_twice.ensures) (sym c.if-branch-2.false ∙ c.in_ok-some_bad_group.ensures)
+    (sym c.if-branch.false ∙ c.in_ok-has_label_twice.ensures)
+    (sym c.if-branch-2.false ∙ c.in_ok-some_bad_group.ensures)
     (sym c.if-is_version_long.false ∙ c.is_version_long.ensures)
     (sym c.if-some_node_long.false ∙ c.some_node_long.ensures.long) in
     elim c.then-nodes-gt-NODES.branch [
@@ -47,7 +49,7 @@ returns-then-nodes-gt-NODES-clause-made c =
           let many : 65536 < length nodes = w.if-nodes-gt-NODES.true in
           let t : nat_lt 65536 (length nodes) ≡ true = grind (arith, nat_tests) in
           fault (many_nodes c.args.apex.now c.args.serial nodes t)
-      | then-nodes-gt-NODES-via-else-nodes-gt-NODES+then-has_too_many_records w ↦
+      | goal.then-nodes-gt-NODES-via-else-nodes-gt-NODES+then-has_too_many_records w ↦
           fault (many_records c.args.apex.now c.args.serial nodes
           (sym w.has_too_many_records.ensures ∙ w.if-has_too_many_records.true))
     ]
@@ -60,7 +62,8 @@ returns-then-not-is_fit-clause-made c =
     many_fault c.args.apex.now c.args.serial nodes (sym c.if-branch.false ∙ c.in_ok-has_label_twice.ensures)
     (sym c.if-branch-2.false ∙ c.in_ok-some_bad_group.ensures)
     (sym c.if-is_version_long.false ∙ c.is_version_long.ensures)
-    (sym c.if-some_node_long.false ∙ c.some_node_long.ensures.long) (many_octets c.args.apex.now c.args.serial nodes large)
+    (sym c.if-some_node_long.false ∙ c.some_node_long.ensures.long)
+    (many_octets c.args.apex.now c.args.serial nodes large)
 
 pub returns-then-branch-3-clause-made : goal.returns-then-branch-3-clause-made
 returns-then-branch-3-clause-made c =
@@ -95,4 +98,5 @@ returns-clause-made c =
 pub returns-clause-catalog : goal.returns-clause-catalog
 returns-clause-catalog c =
     let both = returns-clause-made c in
-    made_catalog c.args.apex.now c.args.serial c.args.nodes.now c.in_ok-version.version c.ranges.serial.fits (c.some_node_long.ensures.labels c.if-some_node_long.false) c.in_ok-version.ensures.led both.0 both.1
+    made_catalog c.args.apex.now c.args.serial c.args.nodes.now c.in_ok-version.version c.ranges.serial.fits
+    (c.some_node_long.ensures.labels c.if-some_node_long.false) c.in_ok-version.ensures.led both.0 both.1

@@ -7,4 +7,5 @@ use Rattle.dz_producer.proofs.TwiceLemmas.{IsSeen}
 use Rattle.dz_producer.proofs.refused.has_label_twice.Given as goal
 
 abbrev pub invariant-nodes : goal.invariant-nodes
-invariant-nodes l = IsSeen label_order (λ (q : List ℕ). q) (λ (x : Bor Node). x.now.label) (contains label_order l.labels) (take l.node-index l.nodes)
+invariant-nodes l = IsSeen label_order (λ (q : List ℕ). q) (λ (x : Bor Node). x.now.label)
+    (contains label_order l.labels) (take l.node-index l.nodes)

@@ -7,4 +7,5 @@ use Rattle.dz_producer.proofs.TwiceLemmas.{IsSeen}
 use Rattle.dz_producer.proofs.refused.has_text_twice.Given as goal
 
 abbrev pub invariant-texts : goal.invariant-texts
-invariant-texts l = IsSeen (slice_cmp nat_cmp) (λ (q : Bor (List ℕ)). q.now) (λ (x : List ℕ). x) (contains (λ (a b : Bor (List ℕ)). slice_cmp nat_cmp a.now b.now) l.seen) (take l.text-index l.texts)
+invariant-texts l = IsSeen (slice_cmp nat_cmp) (λ (q : Bor (List ℕ)). q.now) (λ (x : List ℕ). x)
+    (contains (λ (a b : Bor (List ℕ)). slice_cmp nat_cmp a.now b.now) l.seen) (take l.text-index l.texts)

@@ -12,14 +12,21 @@ nodes-init c = nothing_seen canonical_order (λ (q : List (List ℕ)). q) (λ (x
 
 pub nodes-preserved : goal.nodes-preserved
 nodes-preserved c =
-    seen_more canonical_order (λ (q : List (List ℕ)). q) (λ (x : Bor Node). x.now.zone) (contains canonical_order c.nodes.zones) _ c.args.nodes.now c.nodes.node-index c.node-item.result c.to_name.result c.in_ok-insert.field-0 c.nodes.invariant c.nodes-test.true c.node-item.is (c.to_name.ensures ∙ c.as_ref.ensures)
+    seen_more canonical_order (λ (q : List (List ℕ)). q) (λ (x : Bor Node). x.now.zone)
+    (contains canonical_order c.nodes.zones) _ c.args.nodes.now c.nodes.node-index c.node-item.result
+    c.to_name.result c.in_ok-insert.field-0 c.nodes.invariant c.nodes-test.true c.node-item.is
+    (c.to_name.ensures ∙ c.as_ref.ensures)
     c.in_ok-insert.ensures.added c.if-not-branch.false c.in_ok-insert.ensures.updates.0
 
 pub returns-then-not-branch : goal.returns-then-not-branch
 returns-then-not-branch c =
-    seen_again canonical_order (λ (q : List (List ℕ)). q) (λ (x : Bor Node). x.now.zone) (contains canonical_order c.nodes.zones) c.args.nodes.now c.nodes.node-index c.node-item.result c.to_name.result c.in_ok-insert.field-0 c.nodes.invariant c.nodes-test.true c.node-item.is (c.to_name.ensures ∙ c.as_ref.ensures)
+    seen_again canonical_order (λ (q : List (List ℕ)). q) (λ (x : Bor Node). x.now.zone)
+    (contains canonical_order c.nodes.zones) c.args.nodes.now c.nodes.node-index c.node-item.result c.to_name.result
+    c.in_ok-insert.field-0 c.nodes.invariant c.nodes-test.true c.node-item.is (c.to_name.ensures ∙ c.as_ref.ensures)
     c.in_ok-insert.ensures.added c.if-not-branch.true
     ∙ zones_twice c.args.nodes.now
 
 pub returns : goal.returns
-returns c = seen_all canonical_order (λ (q : List (List ℕ)). q) (λ (x : Bor Node). x.now.zone) (contains canonical_order c.nodes.zones) c.args.nodes.now c.nodes.node-index c.nodes.invariant c.nodes-test.false ∙ zones_twice c.args.nodes.now
+returns c = seen_all canonical_order (λ (q : List (List ℕ)). q) (λ (x : Bor Node). x.now.zone)
+    (contains canonical_order c.nodes.zones) c.args.nodes.now c.nodes.node-index c.nodes.invariant c.nodes-test.false
+    ∙ zones_twice c.args.nodes.now

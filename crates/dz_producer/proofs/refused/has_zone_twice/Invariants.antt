@@ -7,4 +7,5 @@ use Rattle.dz_producer.proofs.TwiceLemmas.{IsSeen}
 use Rattle.dz_producer.proofs.refused.has_zone_twice.Given as goal
 
 abbrev pub invariant-nodes : goal.invariant-nodes
-invariant-nodes l = IsSeen canonical_order (λ (q : List (List ℕ)). q) (λ (x : Bor Node). x.now.zone) (contains canonical_order l.zones) (take l.node-index l.nodes)
+invariant-nodes l = IsSeen canonical_order (λ (q : List (List ℕ)). q) (λ (x : Bor Node). x.now.zone)
+    (contains canonical_order l.zones) (take l.node-index l.nodes)

@@ -4,4 +4,5 @@ use Rattle.dz_producer.specs.Faults.{has_bad_group}
 use Rattle.dz_producer.proofs.refused.some_bad_group.Given as goal
 
 abbrev pub invariant-nodes : goal.invariant-nodes
-invariant-nodes l = list_any (λ b. has_bad_group b.now) (drop l.node-index l.nodes) ≡ list_any (λ b. has_bad_group b.now) l.nodes
+invariant-nodes l =
+    list_any (λ b. has_bad_group b.now) (drop l.node-index l.nodes) ≡ list_any (λ b. has_bad_group b.now) l.nodes

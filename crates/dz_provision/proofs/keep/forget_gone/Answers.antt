@@ -11,7 +11,8 @@ use Rattle.dz_provision.proofs.keep.forget_gone.Goals as goal
 pub changes-init : goal.changes-init
 unfolding gone
 changes-init g c = record {
-  passed = passed_none g.D.Disk.file g.D.Disk.faults g.D.Disk.may_leave g.D.Disk.clock g.D.Disk.left_from c.args.store.now;
+  passed =
+      passed_none g.D.Disk.file g.D.Disk.faults g.D.Disk.may_leave g.D.Disk.clock g.D.Disk.left_from c.args.store.now;
 }
 
 pub returns-in_err-forget_one-clause-stopped : goal.returns-in_err-forget_one-clause-stopped
@@ -26,8 +27,10 @@ returns-in_err-forget_one-clause-stopped g c =
     let all = gone_all cs i change change (omega arith) c.change-item.is (sym c.goes.ensures ∙ c.if-goes.true) in
     rw (p.1, p.2)
     (subst (λ every. IsStopped g.D.Disk.file g.D.Disk.faults c.args.store.now here every u.zone u.fault) all
-    (stopped_more g.D.Disk.file g.D.Disk.faults c.args.store.now here (xs ++ forget change.zone ∷ []) (map forget (gone (drop (i + 1) cs))) u.zone u.fault
-    (stopped_later g.D.Disk.file g.D.Disk.faults c.args.store.now c.changes.store here xs (forget change.zone ∷ []) u.zone u.fault c.changes.invariant.passed.done c.in_err-forget_one.ensures.stopped)))
+    (stopped_more g.D.Disk.file g.D.Disk.faults c.args.store.now here (xs ++ forget change.zone ∷ [])
+    (map forget (gone (drop (i + 1) cs))) u.zone u.fault
+    (stopped_later g.D.Disk.file g.D.Disk.faults c.args.store.now c.changes.store here xs
+    (forget change.zone ∷ []) u.zone u.fault c.changes.invariant.passed.done c.in_err-forget_one.ensures.stopped)))
 
 pub returns-in_err-forget_one-clause-crash : goal.returns-in_err-forget_one-clause-crash
 returns-in_err-forget_one-clause-crash g c = λ err.
@@ -38,7 +41,8 @@ returns-in_err-forget_one-clause-crash g c = λ err.
     let here = c.forget_one.new.store in
     let all = gone_all cs i change change (omega arith) c.change-item.is (sym c.goes.ensures ∙ c.if-goes.true) in
     subst (λ every. LeavesTasks g.D.Disk.file g.D.Disk.clock g.D.Disk.left_from c.args.store.now here every) all
-    (left_more g.D.Disk.file g.D.Disk.faults g.D.Disk.may_leave g.D.Disk.clock g.D.Disk.left_from c.args.store.now here (xs ++ forget change.zone ∷ []) (map forget (gone (drop (i + 1) cs)))
+    (left_more g.D.Disk.file g.D.Disk.faults g.D.Disk.may_leave g.D.Disk.clock g.D.Disk.left_from c.args.store.now here
+    (xs ++ forget change.zone ∷ []) (map forget (gone (drop (i + 1) cs)))
     (c.changes.invariant.passed.left here (forget change.zone ∷ []) c.forget_one.ensures.crash))
 
 pub changes-preserved : goal.changes-preserved
@@ -50,16 +54,22 @@ changes-preserved g c =
     elim c.if-goes.branch [
       | then-goes+in_ok-forget_one w ↦
           let here = w.forget_one.new.store in
-          let next = gone_next cs i change change (omega arith) c.change-item.is (sym c.goes.ensures ∙ w.if-goes.true) in
+          let next =
+          gone_next cs i change change (omega arith) c.change-item.is (sym c.goes.ensures ∙ w.if-goes.true) in
           rw w.store-is record {
-            passed = subst (λ every. ArePassed g.D.Disk.file g.D.Disk.faults g.D.Disk.clock g.D.Disk.left_from c.args.store.now here every) next
-                (passed_more g.D.Disk.file g.D.Disk.faults g.D.Disk.may_leave g.D.Disk.clock g.D.Disk.left_from c.args.store.now c.changes.store here xs (forget change.zone ∷ [])
-                (λ d f told. g.met.D.Disk.told_may_be_left d f told) (λ d t x le may. g.met.D.Disk.now_counts d t x le may)
+            passed = subst (λ every. ArePassed g.D.Disk.file g.D.Disk.faults g.D.Disk.clock g.D.Disk.left_from
+                c.args.store.now here every) next
+                (passed_more g.D.Disk.file g.D.Disk.faults g.D.Disk.may_leave g.D.Disk.clock g.D.Disk.left_from
+                c.args.store.now c.changes.store here xs (forget change.zone ∷ [])
+                (λ d f told. g.met.D.Disk.told_may_be_left d f told)
+                (λ d t x le may. g.met.D.Disk.now_counts d t x le may)
                 c.changes.invariant.passed w.in_ok-forget_one.ensures.done w.in_ok-forget_one.ensures.crash);
           }
       | else-goes w ↦
-          let same = gone_same cs i change change (omega arith) c.change-item.is (sym c.goes.ensures ∙ w.if-goes.false) in
+          let same =
+          gone_same cs i change change (omega arith) c.change-item.is (sym c.goes.ensures ∙ w.if-goes.false) in
           rw w.store-is record {
-            passed = subst (λ every. ArePassed g.D.Disk.file g.D.Disk.faults g.D.Disk.clock g.D.Disk.left_from c.args.store.now c.changes.store every) same c.changes.invariant.passed;
+            passed = subst (λ every. ArePassed g.D.Disk.file g.D.Disk.faults g.D.Disk.clock g.D.Disk.left_from
+                c.args.store.now c.changes.store every) same c.changes.invariant.passed;
           }
     ]

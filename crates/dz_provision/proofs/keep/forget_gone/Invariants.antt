@@ -5,5 +5,6 @@ use Rattle.dz_provision.proofs.keep.forget_gone.Given as goal
 
 abbrev pub invariant-changes : goal.invariant-changes
 invariant-changes g l = record {
-  passed : ArePassed g.D.Disk.file g.D.Disk.faults g.D.Disk.clock g.D.Disk.left_from l.fn.store l.store (map forget (gone (take l.change-index l.changes)));
+  passed : ArePassed g.D.Disk.file g.D.Disk.faults g.D.Disk.clock g.D.Disk.left_from l.fn.store l.store
+      (map forget (gone (take l.change-index l.changes)));
 }

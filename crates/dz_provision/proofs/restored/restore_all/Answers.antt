@@ -18,10 +18,15 @@ returns-clause-restored g c = λ is f told.
     let before = begin c.args.store.now.has_failed in
     let done = c.is_done.ensures.0 c.if-not-is_done.false in
     let first = one.ensures.turns done f told before.0 before.1 in
-    let second = c.restore_places.ensures.turns is f (one.ensures.quiet.same ∙ told) first.later (subst (HasStopped one.new.store.has_failed first.later) (let e : 0 + n ≡ n = omega arith in e) first.stopped) in
+    let second = c.restore_places.ensures.turns is f (one.ensures.quiet.same ∙ told) first.later (subst
+    (HasStopped one.new.store.has_failed first.later) (let e : 0 + n ≡ n = omega arith in e) first.stopped) in
     let config : n ≡ length (state_of c.args.provisioner.now.core).fold.config =
-    ap (λ l. length l) (c.catalogs-count.ensures.catalogs ∙ ap (λ (x : FoldOf). x.config) c.fold.ensures.fold ∙ ap (λ (h : Held). (state_of h.core).fold.config) c.provisioner.view_is) in
+    ap (λ l. length l) (c.catalogs-count.ensures.catalogs ∙ ap (λ (x : FoldOf). x.config) c.fold.ensures.fold
+    ∙ ap (λ (h : Held). (state_of h.core).fold.config) c.provisioner.view_is) in
     let members : m ≡ length (state_of one.new.provisioner.core).fold.members =
     sym (length-map c.memberships.result.now (shown c.fold-2.result.now.config))
-    ∙ ap (λ l. length l) (c.memberships.ensures.members ∙ ap (λ (x : FoldOf). x.members) c.fold-2.ensures.fold ∙ ap (λ (h : Held). (state_of h.core).fold.members) c.provisioner-2.view_is) in
-    had_all (records reads f) one.new.store.has_failed c.restore_places.new.store.has_failed before.0 n m c.args.provisioner.now.core one.new.provisioner.core c.restore_places.new.provisioner.core first config members second
+    ∙ ap (λ l. length l) (c.memberships.ensures.members ∙ ap (λ (x : FoldOf). x.members) c.fold-2.ensures.fold
+    ∙ ap (λ (h : Held). (state_of h.core).fold.members) c.provisioner-2.view_is) in
+    had_all (records reads f) one.new.store.has_failed c.restore_places.new.store.has_failed before.0 n m
+    c.args.provisioner.now.core one.new.provisioner.core c.restore_places.new.provisioner.core first config
+    members second

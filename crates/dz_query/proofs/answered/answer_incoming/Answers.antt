@@ -6,12 +6,14 @@ use Rattle.dz_query.proofs.AnswerLemmas.{due_is, due_heard, names_zone, reply_fi
 use Rattle.dz_query.proofs.answered.answer_incoming.Goals as goal
 
 pub notify_reply_to-requires : goal.notify_reply_to-requires
-notify_reply_to-requires g c = names_zone [] c.args.incoming.now.octets.now 0 false c.in-Notify.zone (c.in-Notify.ensures.notify [] 0 false)
+notify_reply_to-requires g c =
+    names_zone [] c.args.incoming.now.octets.now 0 false c.in-Notify.zone (c.in-Notify.ensures.notify [] 0 false)
 
 pub returns-in-Silent-clause-answered : goal.returns-in-Silent-clause-answered
 returns-in-Silent-clause-answered g c =
     let i = c.args.incoming.now in
-    due_is c.answer_surely.new.reading.list (is_tcp i.transport) i.octets.now i.peer.now i.moment nothing c.in-Silent.ensures.reply
+    due_is c.answer_surely.new.reading.list
+    (is_tcp i.transport) i.octets.now i.peer.now i.moment nothing c.in-Silent.ensures.reply
 
 pub returns-in-Written-clause-answered : goal.returns-in-Written-clause-answered
 returns-in-Written-clause-answered g c =
@@ -27,15 +29,18 @@ returns-in-Written-clause-answered g c =
     }
 
 pub returns-in-LogFault-clause-answered : goal.returns-in-LogFault-clause-answered
-returns-in-LogFault-clause-answered g c =
-    (c.in-LogFault.ensures.heard, names_zone [] c.args.incoming.now.octets.now 0 false c.in-Notify.zone (c.in-Notify.ensures.notify [] 0 false))
+returns-in-LogFault-clause-answered g c = (
+  c.in-LogFault.ensures.heard,
+  names_zone [] c.args.incoming.now.octets.now 0 false c.in-Notify.zone (c.in-Notify.ensures.notify [] 0 false),
+)
 
 pub returns-in-None-clause-answered : goal.returns-in-None-clause-answered
 returns-in-None-clause-answered g c =
     let i = c.args.incoming.now in
     let list = c.hear.new.reading.list in
     let is = c.in-Notify.ensures.notify (after list).table i.moment (is_tcp i.transport) in
-    due_heard list (is_tcp i.transport) i.octets.now i.peer.now i.moment c.in-Notify.zone c.in-Heard.heard is c.in-Heard.ensures.heard ∙ c.in-None.ensures.reply
+    due_heard list (is_tcp i.transport) i.octets.now i.peer.now i.moment c.in-Notify.zone c.in-Heard.heard is
+    c.in-Heard.ensures.heard ∙ c.in-None.ensures.reply
 
 pub returns-in-Some-clause-answered : goal.returns-in-Some-clause-answered
 returns-in-Some-clause-answered g c =
@@ -48,5 +53,6 @@ returns-in-Some-clause-answered g c =
       written = r.1;
       counts = r.2;
       short = omega (arith, c.in-Some.ensures.size, r.2);
-      is = due_heard list (is_tcp i.transport) i.octets.now i.peer.now i.moment c.in-Notify.zone c.in-Heard.heard is c.in-Heard.ensures.heard ∙ r.3;
+      is = due_heard list (is_tcp i.transport) i.octets.now i.peer.now i.moment c.in-Notify.zone c.in-Heard.heard is
+          c.in-Heard.ensures.heard ∙ r.3;
     }

@@ -38,7 +38,13 @@ returns-in-Whole-fill-clause-came g c =
     let room : length message ≡ number = search rules in
     let held : 65537 ≡ c.args.request.now.len = search rules in
     let back = c.split_at_mut-message.result.1.now in
-    let whole : take number (take c.args.request.now.len (message ++ back ++ drop (length (message ++ back)) c.args.request.now.items)) ≡ take number (message ++ back) =
-    front_kept number c.args.request.now.len (message ++ back) _ (omega (arith, room, length-append message back)) (omega (arith, c.size_of-size.ensures.fits, held)) in
-    let all : take number (message ++ back) ≡ message = take_at message back number room in
-    (c.size_of-size.ensures.fits, rw (whole ∙ all) (frame_came front message number _ _ _ c.size_of-size.ensures.back room c.in-Whole.ensures.filled c.in-Whole-fill.ensures.filled))
+    let whole : take number
+    (take c.args.request.now.len (message ++ back ++ drop (length (message ++ back)) c.args.request.now.items))
+    ≡ take number (message ++ back) =
+    front_kept number c.args.request.now.len (message ++ back) _ (omega (arith, room, length-append message back))
+    (omega (arith, c.size_of-size.ensures.fits, held)) in
+    let all : take number (message ++ back) ≡ message = take_at message back number room in (
+      c.size_of-size.ensures.fits,
+      rw (whole ∙ all) (frame_came front message number _ _ _ c.size_of-size.ensures.back
+          room c.in-Whole.ensures.filled c.in-Whole-fill.ensures.filled),
+    )

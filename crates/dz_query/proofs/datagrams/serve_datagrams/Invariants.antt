@@ -10,9 +10,12 @@ invariant-packets g l =
     (l.reading.is_out ≡ false)
     × (l.reading.book ≡ l.initial.reading.book)
     × IsPrefix l.initial.reading.list l.reading.list
-    × HasAnswered l.lost (excused l.unheard g.E.Ear.may_fail) (g.C.Clock.may_give l.initial.clock) (length l.initial.reading.list) l.reading.list
-    (told (g.D.Datagrams.received l.initial.device) (g.D.Datagrams.sent l.initial.device) (g.D.Datagrams.faults l.initial.device) l.initial.reading.sights (g.C.Clock.given l.initial.clock))
-    (told (g.D.Datagrams.received l.device) (g.D.Datagrams.sent l.device) (g.D.Datagrams.faults l.device) l.reading.sights (g.C.Clock.given l.clock))
+    × HasAnswered l.lost (excused l.unheard g.E.Ear.may_fail) (g.C.Clock.may_give l.initial.clock)
+    (length l.initial.reading.list) l.reading.list
+    (told (g.D.Datagrams.received l.initial.device) (g.D.Datagrams.sent l.initial.device)
+    (g.D.Datagrams.faults l.initial.device) l.initial.reading.sights (g.C.Clock.given l.initial.clock))
+    (told (g.D.Datagrams.received l.device) (g.D.Datagrams.sent l.device)
+    (g.D.Datagrams.faults l.device) l.reading.sights (g.C.Clock.given l.clock))
     × (g.D.Datagrams.faults l.initial.device ≤ g.D.Datagrams.faults l.device)
     × (g.C.Clock.may_give l.clock ≡ g.C.Clock.may_give l.initial.clock)
     × (g.C.Clock.may_stop l.clock ≡ g.C.Clock.may_stop l.initial.clock)

@@ -16,14 +16,16 @@ links-preserved g c =
     let may_fail = g.E.Ear.may_fail in
     let excuse = excused (one || other) may_fail in
     let was = visits_excused (excused one may_fail) excuse _ _ _ _ _ _ _ (excused_before one other may_fail) i.4 in
-    let stream = stream_excused c.serve_stream_outward-session.result.end (excused other may_fail) excuse _ _ _ _ _ _ _ (excused_after one other may_fail) (rw i.6 at s.stream) in
+    let stream = stream_excused c.serve_stream_outward-session.result.end (excused other may_fail) excuse _ _ _ _ _ _ _
+    (excused_after one other may_fail) (rw i.6 at s.stream) in
     let ends = rw given.1.faultless at s.ends in (
       search rules,
       search rules,
       prefix_trans _ _ _ i.2 s.seen,
       search rules,
       rw (c.some_starved-starved.ensures, c.either-unheard.ensures)
-          (goes_on c.serve_stream_outward-session.result.end _ _ excuse _ _ _ _ _ _ _ c.in-Ok-One.peer _ _ _ _ _ _ s.seen given.1.unread given.1.unwritten back stream ends was),
+          (goes_on c.serve_stream_outward-session.result.end _ _ excuse _ _ _ _ _ _ _ c.in-Ok-One.peer _ _ _ _ _ _
+          s.seen given.1.unread given.1.unwritten back stream ends was),
       search rules,
       search rules,
       search rules,

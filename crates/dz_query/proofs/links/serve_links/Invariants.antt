@@ -10,7 +10,8 @@ invariant-links g l =
     × (l.reading.book ≡ l.initial.reading.book)
     × IsPrefix l.initial.reading.list l.reading.list
     × (g.A.Acceptor.out l.acceptor ≡ None)
-    × AreVisits l.starved l.downstream (excused l.unheard g.E.Ear.may_fail) (g.C.Clock.may_give l.initial.clock) (length l.initial.reading.list) l.reading.list
+    × AreVisits l.starved l.downstream (excused l.unheard g.E.Ear.may_fail) (g.C.Clock.may_give l.initial.clock)
+    (length l.initial.reading.list) l.reading.list
     (links_told (g.A.Acceptor.links l.initial.acceptor) l.initial.reading.sights (g.C.Clock.given l.initial.clock))
     (links_told (g.A.Acceptor.links l.acceptor) l.reading.sights (g.C.Clock.given l.clock))
     × (g.A.Acceptor.faults l.initial.acceptor ≤ g.A.Acceptor.faults l.acceptor)

@@ -8,7 +8,8 @@ messages-preserved g c =
     let e = c.in-Some.ensures in
     let w = c.in_ok-write_framed.ensures in
     record {
-      going = going_one _ _ _ e.message c.first.result.now _ _ _ e.are (c.first.ensures.octets ∙ e.octets) w.all i.going;
+      going =
+          going_one _ _ _ e.message c.first.result.now _ _ _ e.are (c.first.ensures.octets ∙ e.octets) w.all i.going;
       beside = w.beside ∙ i.beside;
       faults = w.cause.kept ∙ i.faults;
       room = w.room;
@@ -18,4 +19,5 @@ pub returns-in_err-write_framed-clause-err : goal.returns-in_err-write_framed-cl
 returns-in_err-write_framed-clause-err g c =
     let e = c.in-Some.ensures in
     on_err c.from_residual.result _
-    (going_part _ _ _ e.message c.first.result.now _ _ _ e.are (c.first.ensures.octets ∙ e.octets) c.in_err-write_framed.ensures.err c.messages.invariant.going)
+    (going_part _ _ _ e.message c.first.result.now _ _ _ e.are
+    (c.first.ensures.octets ∙ e.octets) c.in_err-write_framed.ensures.err c.messages.invariant.going)

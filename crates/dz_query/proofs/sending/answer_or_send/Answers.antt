@@ -17,9 +17,11 @@ returns-in-Some-clause-sending g c =
     let request : Packet = packet i.octets.now i.peer.now in
     let s = c.send_surely in
     let asked = sym c.transfer_in.ensures.asked ∙ c.in-Some.is in
-    if_ok_then s.result _ _ (λ sending sends. sends_zone c.args.downstream.now _ sending s.new.writer.writing s.new.reading.list request i.moment c.in-Some.asked asked sends) s.ensures.sent
+    if_ok_then s.result _ _ (λ sending sends. sends_zone c.args.downstream.now _ sending s.new.writer.writing
+    s.new.reading.list request i.moment c.in-Some.asked asked sends) s.ensures.sent
 
 pub returns-in-Some-clause-starved : goal.returns-in-Some-clause-starved
 returns-in-Some-clause-starved g c =
     let i = c.args.incoming.now in
-    λ _. asks c.args.downstream.now (packet i.octets.now i.peer.now) c.in-Some.asked (sym c.transfer_in.ensures.asked ∙ c.in-Some.is)
+    λ _. asks c.args.downstream.now (packet i.octets.now i.peer.now) c.in-Some.asked
+    (sym c.transfer_in.ensures.asked ∙ c.in-Some.is)

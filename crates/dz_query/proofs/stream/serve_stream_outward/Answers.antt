@@ -19,7 +19,8 @@ returns-in-Ended-clause-stream g c =
 pub returns-in-Failed-clause-stream : goal.returns-in-Failed-clause-stream
 returns-in-Failed-clause-stream g c =
     let held : g.L.Sink.held c.read_message.new.source ≡ g.L.Sink.held c.messages.link = search rules in
-    rw c.session-in-Failed.ensures (fails _ _ _ _ _ _ _ _ _ c.in-Failed.ensures.came held refl refl c.messages.invariant.3)
+    rw c.session-in-Failed.ensures
+    (fails _ _ _ _ _ _ _ _ _ c.in-Failed.ensures.came held refl refl c.messages.invariant.3)
 
 pub returns-in-Err-clause-stream : goal.returns-in-Err-clause-stream
 returns-in-Err-clause-stream g c =
@@ -33,8 +34,10 @@ returns-in-Err-clause-stream g c =
     let may : g.C.Clock.may_give c.args.clock.now c.now.result ≡ true = search rules in
     let fits : length message ≤ 65535 = search rules in
     let asks : asks_for_zone c.args.downstream.now request ≡ true = search rules in
-    let read : Gains (frame message) (g.L.Source.given c.messages.link) (g.L.Source.given c.read_message.new.source) = rw c.as_slice-octets.ensures.value e.came.1 in
-    rw c.session-in-Err.ensures (starves _ _ _ _ _ _ _ _ _ _ message c.now.result answer.ensures.seen may asks fits read held c.now.ensures.given answer.ensures.sights i.3)
+    let read : Gains (frame message) (g.L.Source.given c.messages.link) (g.L.Source.given c.read_message.new.source) =
+    rw c.as_slice-octets.ensures.value e.came.1 in
+    rw c.session-in-Err.ensures (starves _ _ _ _ _ _ _ _ _ _ message c.now.result answer.ensures.seen may asks fits
+    read held c.now.ensures.given answer.ensures.sights i.3)
 
 pub returns-in-Err-write_sending-clause-stream : goal.returns-in-Err-write_sending-clause-stream
 returns-in-Err-write_sending-clause-stream g c =
@@ -44,17 +47,22 @@ returns-in-Err-write_sending-clause-stream g c =
     let s = c.in-Ok.ensures.sending in
     let message = take c.in-Message.size c.as_slice-octets.result.now in
     let held : g.L.Sink.held c.read_message.new.source ≡ g.L.Sink.held c.messages.link = search rules in
-    let given : g.L.Source.given c.write_sending.new.sink ≡ g.L.Source.given c.read_message.new.source = search rules in
+    let given : g.L.Source.given c.write_sending.new.sink ≡ g.L.Source.given c.read_message.new.source =
+    search rules in
     let may : g.C.Clock.may_give c.args.clock.now c.now.result ≡ true = search rules in
     let fits : length message ≤ 65535 = search rules in
-    let read : Gains (frame message) (g.L.Source.given c.messages.link) (g.L.Source.given c.write_sending.new.sink) = rw (given, c.as_slice-octets.ensures.value) e.came.1 in
+    let read : Gains (frame message) (g.L.Source.given c.messages.link) (g.L.Source.given c.write_sending.new.sink) =
+    rw (given, c.as_slice-octets.ensures.value) e.came.1 in
     let written = rw (s.goes, held) at c.in-Err-write_sending.ensures.err in
     let fate = fate_in c.in-Ok.sending in
     let may_fail = g.E.Ear.may_fail in
     let excuse = excused (has_unheard c.messages.unheard fate) may_fail in
-    let was = flowing_excused (excused c.messages.unheard may_fail) excuse _ _ _ _ _ _ _ (excused_then c.messages.unheard fate may_fail) i.3 in
+    let was = flowing_excused (excused c.messages.unheard may_fail) excuse _ _ _ _ _ _ _
+    (excused_then c.messages.unheard fate may_fail) i.3 in
     rw (c.session-in-Err-write_sending.ensures, c.has_unheard-unheard.ensures, c.fate_in.ensures)
-    (breaks _ excuse _ _ _ _ _ _ _ _ message c.now.result fate answer.ensures.seen may (excused_now c.messages.unheard fate may_fail _ _ s.excused) fits read written c.now.ensures.given answer.ensures.sights was)
+    (breaks _ excuse _ _ _ _ _ _ _ _ message c.now.result fate answer.ensures.seen may
+    (excused_now c.messages.unheard fate may_fail _ _ s.excused) fits read written c.now.ensures.given
+    answer.ensures.sights was)
 
 pub messages-preserved : goal.messages-preserved
 messages-preserved g c =
@@ -64,20 +72,25 @@ messages-preserved g c =
     let s = c.in-Ok.ensures.sending in
     let message = take c.in-Message.size c.as_slice-octets.result.now in
     let held : g.L.Sink.held c.read_message.new.source ≡ g.L.Sink.held c.messages.link = search rules in
-    let given : g.L.Source.given c.write_sending.new.sink ≡ g.L.Source.given c.read_message.new.source = search rules in
+    let given : g.L.Source.given c.write_sending.new.sink ≡ g.L.Source.given c.read_message.new.source =
+    search rules in
     let may : g.C.Clock.may_give c.args.clock.now c.now.result ≡ true = search rules in
     let fits : length message ≤ 65535 = search rules in
-    let read : Gains (frame message) (g.L.Source.given c.messages.link) (g.L.Source.given c.write_sending.new.sink) = rw (given, c.as_slice-octets.ensures.value) e.came.1 in
+    let read : Gains (frame message) (g.L.Source.given c.messages.link) (g.L.Source.given c.write_sending.new.sink) =
+    rw (given, c.as_slice-octets.ensures.value) e.came.1 in
     let written = rw (s.goes, held) at c.in-Ok-write_sending.ensures.all in
     let fate = fate_in c.in-Ok.sending in
     let may_fail = g.E.Ear.may_fail in
     let excuse = excused (has_unheard c.messages.unheard fate) may_fail in
-    let was = flowing_excused (excused c.messages.unheard may_fail) excuse _ _ _ _ _ _ _ (excused_then c.messages.unheard fate may_fail) i.3 in (
+    let was = flowing_excused (excused c.messages.unheard may_fail) excuse _ _ _ _ _ _ _
+    (excused_then c.messages.unheard fate may_fail) i.3 in (
       search rules,
       search rules,
       prefix_trans _ _ _ i.2 answer.ensures.seen,
       rw (c.has_unheard-unheard.ensures, c.fate_in.ensures)
-          (goes_on _ excuse _ _ _ _ _ _ _ _ message c.now.result fate answer.ensures.seen may (excused_now c.messages.unheard fate may_fail _ _ s.excused) fits read written c.now.ensures.given answer.ensures.sights was),
+          (goes_on _ excuse _ _ _ _ _ _ _ _ message c.now.result fate answer.ensures.seen may
+          (excused_now c.messages.unheard fate may_fail _ _ s.excused) fits read written c.now.ensures.given
+          answer.ensures.sights was),
       search rules,
       search rules,
       search rules,

@@ -11,8 +11,10 @@ invariant-messages g l =
     (l.reading.is_out ≡ false)
     × (l.reading.book ≡ l.initial.reading.book)
     × IsPrefix l.initial.reading.list l.reading.list
-    × IsFlowing l.downstream (excused l.unheard g.E.Ear.may_fail) (g.C.Clock.may_give l.initial.clock) (length l.initial.reading.list) l.reading.list l.peer
-    (flow (g.L.Source.given l.initial.link) (g.L.Sink.held l.initial.link) l.initial.reading.sights (g.C.Clock.given l.initial.clock))
+    × IsFlowing l.downstream (excused l.unheard g.E.Ear.may_fail) (g.C.Clock.may_give l.initial.clock)
+    (length l.initial.reading.list) l.reading.list l.peer
+    (flow (g.L.Source.given l.initial.link) (g.L.Sink.held l.initial.link) l.initial.reading.sights
+    (g.C.Clock.given l.initial.clock))
     (flow (g.L.Source.given l.link) (g.L.Sink.held l.link) l.reading.sights (g.C.Clock.given l.clock))
     × (g.L.Source.faults l.initial.link ≤ g.L.Source.faults l.link)
     × (g.C.Clock.may_give l.clock ≡ g.C.Clock.may_give l.initial.clock)

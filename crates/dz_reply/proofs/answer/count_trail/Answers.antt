@@ -11,9 +11,12 @@ trail-init c = record {
 
 pub trail-preserved : goal.trail-preserved
 trail-preserved c = record {
-  count = counted_more c.args.chain.now c.trail.number c.trail.count c.count_step-count.result ([], no_record) (omega (arith, c.len-number-end.ensures.value)) (c.count_step-count.ensures.value ([], no_record)) c.trail.invariant.count;
+  count = counted_more c.args.chain.now c.trail.number c.trail.count c.count_step-count.result
+      ([], no_record) (omega (arith, c.len-number-end.ensures.value))
+      (c.count_step-count.ensures.value ([], no_record)) c.trail.invariant.count;
   few = omega arith;
 }
 
 pub returns-clause-value : goal.returns-clause-value
-returns-clause-value c = counted_all c.args.chain.now c.trail.number c.trail.count (omega (arith, c.len-number-end.ensures.value)) c.trail.invariant.count
+returns-clause-value c = counted_all c.args.chain.now c.trail.number c.trail.count
+    (omega (arith, c.len-number-end.ensures.value)) c.trail.invariant.count

@@ -9,5 +9,7 @@ use Rattle.dz_reply.proofs.answer.put_trail.Given as goal
 abbrev pub invariant-trail : goal.invariant-trail
 invariant-trail l = record {
   name : (d : Name × Record) → l.number < length l.chain → l.name ≡ (get_or l.chain l.number d).0;
-  octets : also l.writer.writing (entries_octets l.question (entries_behind (take l.number l.chain) (drop l.number l.chain))) ≡ also l.fn.writer.writing (entries_octets l.question (trail_entries l.chain));
+  octets : also l.writer.writing
+      (entries_octets l.question (entries_behind (take l.number l.chain) (drop l.number l.chain)))
+      ≡ also l.fn.writer.writing (entries_octets l.question (trail_entries l.chain));
 }

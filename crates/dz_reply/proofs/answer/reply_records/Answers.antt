@@ -13,7 +13,14 @@ returns c =
     let records = entries c.args.name.now c.args.records.now in
     let s = with_records c.args.chain.now c.args.name.now c.args.records.now in
     let count : c.count_trail.result + length c.args.records.now ≡ length s.answer =
-    omega (arith, c.count_trail.ensures.value, length-entries c.args.name.now c.args.records.now, length-append trail records) in
+    omega (
+      arith,
+      c.count_trail.ensures.value,
+      length-entries c.args.name.now c.args.records.now,
+      length-append trail records,
+    ) in
     ended_so (is_tcp frame.transport) query s _ (c.finish.ensures (front_octets query s)
-    (laid (is_tcp frame.transport) query s (c.count_trail.result + length c.args.records.now) 0 0 _ _ _ _ count refl refl
-    (rw c.bare.ensures at c.begin.ensures) (both_written query.name trail records _ _ _ c.put_trail.ensures (rw c.as_ref.ensures at c.put_entries.ensures)) (none_written query.name _) (none_written query.name _)))
+    (laid (is_tcp frame.transport) query s
+    (c.count_trail.result + length c.args.records.now) 0 0 _ _ _ _ count refl refl
+    (rw c.bare.ensures at c.begin.ensures) (both_written query.name trail records _ _ _ c.put_trail.ensures
+    (rw c.as_ref.ensures at c.put_entries.ensures)) (none_written query.name _) (none_written query.name _)))

@@ -11,5 +11,6 @@ returns c =
     let query = query_of frame.request.now frame.asked.now in
     let s = with_soa c.args.answer.now.version.now c.args.chain.now (number_of c.args.code) in
     ended_so (is_tcp frame.transport) query s _ (c.finish.ensures (front_octets query s)
-    (laid (is_tcp frame.transport) query s c.count_trail.result 1 0 _ _ _ _ c.count_trail.ensures.value (sym c.put_soa.ensures.one) refl
+    (laid (is_tcp frame.transport) query s c.count_trail.result 1 0 _ _ _ _ c.count_trail.ensures.value
+    (sym c.put_soa.ensures.one) refl
     (rw c.bare.ensures at c.begin.ensures) c.put_trail.ensures c.put_soa.ensures.written (none_written query.name _)))

@@ -11,4 +11,5 @@ returns c =
     let s = only_trail c.args.chain.now in
     ended_so (is_tcp frame.transport) query s _ (c.finish.ensures (front_octets query s)
     (laid (is_tcp frame.transport) query s c.count_trail.result 0 0 _ _ _ _ c.count_trail.ensures.value refl refl
-    (rw c.bare.ensures at c.begin.ensures) c.put_trail.ensures (none_written query.name _) (none_written query.name _)))
+    (rw c.bare.ensures at c.begin.ensures) c.put_trail.ensures (none_written query.name _)
+    (none_written query.name _)))

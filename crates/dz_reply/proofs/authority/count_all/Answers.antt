@@ -6,9 +6,11 @@ use Rattle.dz_reply.proofs.authority.count_all.Goals as goal
 pub sets-preserved : goal.sets-preserved
 sets-preserved c =
     record {
-      count = counted set_shown c.args.sets.now c.sets.set-index c.sets.count c.count_signed.result c.set-item.result c.sets-test.true c.set-item.is c.count_signed.ensures.value c.sets.invariant.count;
+      count = counted set_shown c.args.sets.now c.sets.set-index c.sets.count c.count_signed.result c.set-item.result
+          c.sets-test.true c.set-item.is c.count_signed.ensures.value c.sets.invariant.count;
       small = omega arith;
     }
 
 pub returns-clause-value : goal.returns-clause-value
-returns-clause-value c = counted_all set_shown c.args.sets.now c.sets.set-index c.sets.count c.sets-test.false c.sets.invariant.small c.sets.invariant.count
+returns-clause-value c = counted_all set_shown c.args.sets.now c.sets.set-index c.sets.count c.sets-test.false
+    c.sets.invariant.small c.sets.invariant.count

@@ -5,6 +5,7 @@ use Rattle.dz_reply.proofs.authority.count_all.Given as goal
 
 abbrev pub invariant-sets : goal.invariant-sets
 invariant-sets l = record {
-  count : (l.count + length (flat_map set_shown (drop l.set-index l.sets))) % 65536 ≡ length (flat_map set_shown l.sets) % 65536;
+  count : (l.count + length (flat_map set_shown (drop l.set-index l.sets))) % 65536
+      ≡ length (flat_map set_shown l.sets) % 65536;
   small : l.count < 65536;
 }

@@ -6,4 +6,5 @@ use Rattle.dz_reply.specs.inner.Signed.{set_shown}
 use Rattle.dz_reply.proofs.authority.put_all.Given as goal
 
 abbrev pub invariant-sets : goal.invariant-sets
-invariant-sets l = also l.writer.writing (entries_octets l.question (flat_map set_shown (drop l.set-index l.sets))) ≡ also l.fn.writer.writing (entries_octets l.question (flat_map set_shown l.sets))
+invariant-sets l = also l.writer.writing (entries_octets l.question (flat_map set_shown (drop l.set-index l.sets)))
+    ≡ also l.fn.writer.writing (entries_octets l.question (flat_map set_shown l.sets))

@@ -6,6 +6,7 @@ use Rattle.dz_reply.proofs.authority.signed_all.Given as goal
 
 abbrev pub invariant-rrsets : goal.invariant-rrsets
 invariant-rrsets l = record {
-  joined : flat_map set_shown l.sets.items ++ flat_map (λ rs. own_signed l.version.records rs.now) (drop l.rrset-index l.rrsets) ≡ flat_map (λ rs. own_signed l.version.records rs.now) l.rrsets;
+  joined : flat_map set_shown l.sets.items ++ flat_map (λ rs. own_signed l.version.records rs.now)
+      (drop l.rrset-index l.rrsets) ≡ flat_map (λ rs. own_signed l.version.records rs.now) l.rrsets;
   many : length l.sets.items ≡ l.rrset-index;
 }

@@ -6,4 +6,5 @@ returns-in-empty c = set_none c.args.version.now.records c.args.records.now c.in
 
 pub returns-in-len1-up : goal.returns-in-len1-up
 returns-in-len1-up c =
-    set_some c.args.version.now.records c.args.records.now c.signatures.result.now c.first-item.result c.in-len1-up.len_at_least c.first-item.is (rw (c.owner_ref.ensures, c.kind.ensures.kind) at c.signatures.ensures)
+    set_some c.args.version.now.records c.args.records.now c.signatures.result.now c.first-item.result
+    c.in-len1-up.len_at_least c.first-item.is (rw (c.owner_ref.ensures, c.kind.ensures.kind) at c.signatures.ensures)

@@ -7,4 +7,5 @@ returns c =
     let q = c.args.question.now in
     let owner = c.args.owner.now in
     both_written q (entries owner c.args.records.now) (entries owner c.args.signed.now) c.args.writer.now.writing _ _
-    (c.put_entries_under.ensures q owner c.shown_owner-shown.ensures) (c.put_entries_under-2.ensures q owner c.shown_owner-shown.ensures)
+    (c.put_entries_under.ensures q owner c.shown_owner-shown.ensures)
+    (c.put_entries_under-2.ensures q owner c.shown_owner-shown.ensures)

@@ -6,4 +6,5 @@ use Rattle.dz_reply.proofs.layout.put_entry_under.Goals as goal
 pub returns : goal.returns
 returns c q o h =
     entry_written q o c.args.ttl c.args.rr.now _ _ _ _ _ (c.put_shown.ensures ∙ ap (also c.args.writer.now.writing) h)
-    (rw c.kind_and_class.ensures at c.put.ensures.writing) (rw c.four.ensures at c.put-2.ensures.writing) (rw c.sized_rdata.ensures at c.put-3.ensures.writing)
+    (rw c.kind_and_class.ensures at c.put.ensures.writing) (rw c.four.ensures at c.put-2.ensures.writing)
+    (rw c.sized_rdata.ensures at c.put-3.ensures.writing)

@@ -5,4 +5,5 @@ pub returns-in-None : goal.returns-in-None
 returns-in-None c = shown_whole c.args.shown.now c.args.writer.now.writing _ c.in-None.is c.put_front.ensures
 
 pub returns-in-Some : goal.returns-in-Some
-returns-in-Some c = shown_pointed c.args.shown.now c.in-Some.pointer c.args.writer.now.writing _ _ c.in-Some.is c.put_front.ensures (rw c.two.ensures at c.put.ensures.writing)
+returns-in-Some c = shown_pointed c.args.shown.now c.in-Some.pointer c.args.writer.now.writing _ _ c.in-Some.is
+    c.put_front.ensures (rw c.two.ensures at c.put.ensures.writing)

@@ -10,4 +10,6 @@ as_written-requires c = some_written c.reply_bare.new.writer.writing _ (ap (λ w
 
 pub returns-clause-reply : goal.returns-clause-reply
 returns-clause-reply c =
-    turned _ _ _ (ap (λ w. w.octets) (bare_so (is_tcp c.args.exchange.now.transport) (query_of c.args.exchange.now.octets.now c.args.asked.now) (number_of c.args.code) _ c.reply_bare.ensures)) c.as_written.ensures.reply
+    turned _ _ _ (ap (λ w. w.octets) (bare_so (is_tcp c.args.exchange.now.transport)
+    (query_of c.args.exchange.now.octets.now c.args.asked.now) (number_of c.args.code) _ c.reply_bare.ensures))
+    c.as_written.ensures.reply

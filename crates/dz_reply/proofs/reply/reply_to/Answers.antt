@@ -13,10 +13,13 @@ returns-clause-reply c = rw (← c.read_request.ensures.reads) c.reply_request.e
 
 pub returns-clause-notify : goal.returns-clause-notify
 returns-clause-notify c =
-    notify_anyhow c.args.table.now c.args.octets.now c.args.moment (is_tcp c.args.transport) c.reply_request.new.writer.writing c.reply_request.result (returns-clause-reply c)
+    notify_anyhow c.args.table.now c.args.octets.now c.args.moment
+    (is_tcp c.args.transport) c.reply_request.new.writer.writing c.reply_request.result (returns-clause-reply c)
 
 pub returns-clause-reads_back : goal.returns-clause-reads_back
 returns-clause-reads_back c = λ text some e.
-    let held : AnswersHeldFor c.args.table.now c.args.moment (request c.args.octets.now) = rw c.read_request.ensures.reads at c.reply_request.ensures.held in
-    reads_back c.args.table.now c.args.octets.now c.args.moment (is_tcp c.args.transport) c.reply_request.result c.reply_request.new.writer.writing text
+    let held : AnswersHeldFor c.args.table.now c.args.moment (request c.args.octets.now) =
+    rw c.read_request.ensures.reads at c.reply_request.ensures.held in
+    reads_back c.args.table.now c.args.octets.now c.args.moment
+    (is_tcp c.args.transport) c.reply_request.result c.reply_request.new.writer.writing text
     (λ i. omega (arith, c.type_inv.octets i)) held (returns-clause-reply c) some e

@@ -11,22 +11,29 @@ pub returns-in-NoData : goal.returns-in-NoData
 returns-in-NoData c =
     let frame = c.args.answer.now.frame.now in
     let query = query_of frame.request.now frame.asked.now in
-    c.secure_soa.ensures ∙ ap (λ s. writing_of (limit_of (is_tcp frame.transport) query.edns) (octets_of (is_tcp frame.transport) query s))
-    (ends_empty c.args.answer.now.version.now frame.asked.now.question.kind c.args.chain.now _ c.args.name.now c.authority_of-authority.result (ap meaning c.in-NoData.is) c.authority_of-authority.ensures)
+    c.secure_soa.ensures ∙ ap
+    (λ s. writing_of (limit_of (is_tcp frame.transport) query.edns) (octets_of (is_tcp frame.transport) query s))
+    (ends_empty c.args.answer.now.version.now frame.asked.now.question.kind c.args.chain.now _ c.args.name.now
+    c.authority_of-authority.result (ap meaning c.in-NoData.is) c.authority_of-authority.ensures)
 
 pub returns-in-NoName : goal.returns-in-NoName
 returns-in-NoName c =
     let frame = c.args.answer.now.frame.now in
     let query = query_of frame.request.now frame.asked.now in
-    c.secure_soa-in-NoName.ensures ∙ ap (λ s. writing_of (limit_of (is_tcp frame.transport) query.edns) (octets_of (is_tcp frame.transport) query s))
-    (ends_nowhere c.args.answer.now.version.now frame.asked.now.question.kind c.args.chain.now _ c.args.name.now c.authority_of-authority.result (ap meaning c.in-NoName.is) c.authority_of-authority.ensures)
+    c.secure_soa-in-NoName.ensures ∙ ap
+    (λ s. writing_of (limit_of (is_tcp frame.transport) query.edns) (octets_of (is_tcp frame.transport) query s))
+    (ends_nowhere c.args.answer.now.version.now frame.asked.now.question.kind c.args.chain.now _ c.args.name.now
+    c.authority_of-authority.result (ap meaning c.in-NoName.is) c.authority_of-authority.ensures)
 
 pub returns-in-Referral : goal.returns-in-Referral
 returns-in-Referral c =
     let frame = c.args.answer.now.frame.now in
     let query = query_of frame.request.now frame.asked.now in
-    c.secure_servers.ensures ∙ ap (λ s. writing_of (limit_of (is_tcp frame.transport) query.edns) (octets_of (is_tcp frame.transport) query s))
-    (ends_at_cut c.args.answer.now.version.now frame.asked.now.question.kind c.args.chain.now _ c.args.name.now c.authority_of-authority.result c.in-Referral.servers.now (ap meaning c.in-Referral.is) c.authority_of-authority.ensures)
+    c.secure_servers.ensures ∙ ap
+    (λ s. writing_of (limit_of (is_tcp frame.transport) query.edns) (octets_of (is_tcp frame.transport) query s))
+    (ends_at_cut c.args.answer.now.version.now frame.asked.now.question.kind c.args.chain.now
+    _ c.args.name.now c.authority_of-authority.result c.in-Referral.servers.now
+    (ap meaning c.in-Referral.is) c.authority_of-authority.ensures)
 
 pub returns-in-Some : goal.returns-in-Some
 returns-in-Some c =
@@ -34,8 +41,10 @@ returns-in-Some c =
     let zone = c.args.answer.now.version.now in
     let query = query_of frame.request.now frame.asked.now in
     let is = rw c.in-Some.is at c.alone.ensures in
-    c.secure_alone.ensures ∙ ap (λ s. writing_of (limit_of (is_tcp frame.transport) query.edns) (octets_of (is_tcp frame.transport) query s))
-    (ends_alone zone frame.asked.now.question.kind c.args.chain.now (meaning c.args.last.now) c.args.name.now c.in-Some.records.now is.0 (is.1 zone.records))
+    c.secure_alone.ensures ∙ ap
+    (λ s. writing_of (limit_of (is_tcp frame.transport) query.edns) (octets_of (is_tcp frame.transport) query s))
+    (ends_alone zone frame.asked.now.question.kind c.args.chain.now
+    (meaning c.args.last.now) c.args.name.now c.in-Some.records.now is.0 (is.1 zone.records))
 
 pub returns-in-Here : goal.returns-in-Here
 unfolding at_end secure_of_ending

@@ -18,15 +18,23 @@ returns c =
     let name = c.args.name.now in
     let trail = secure_trail zone.records bare [] c.args.chain.now in
     let set = answer_set zone.records bare name c.args.records.now in
-    let s = here_with zone frame.asked.now.question.kind c.args.chain.now name c.args.records.now c.args.authority.now in
-    let one : c.count_secure_trail.result ≡ length trail % 65536 = rw c.is_bare.ensures at c.count_secure_trail.ensures.value in
+    let s =
+    here_with zone frame.asked.now.question.kind c.args.chain.now name c.args.records.now c.args.authority.now in
+    let one : c.count_secure_trail.result ≡ length trail % 65536 =
+    rw c.is_bare.ensures at c.count_secure_trail.ensures.value in
     let sigs = c.answer_signatures-signed.result.now in
-    let signed : sigs ≡ answer_signatures zone.records bare c.args.records.now = rw c.is_bare.ensures at c.answer_signatures-signed.ensures in
-    let two : (length c.args.records.now % 65536 + length sigs % 65536) % 65536 ≡ length set % 65536 = set_counted zone.records bare name c.args.records.now sigs signed in
-    let count : (c.count_secure_trail.result + (length c.args.records.now % 65536 + length sigs % 65536) % 65536) % 65536 ≡ length s.answer % 65536 =
+    let signed : sigs ≡ answer_signatures zone.records bare c.args.records.now =
+    rw c.is_bare.ensures at c.answer_signatures-signed.ensures in
+    let two : (length c.args.records.now % 65536 + length sigs % 65536) % 65536 ≡ length set % 65536 =
+    set_counted zone.records bare name c.args.records.now sigs signed in
+    let count : (c.count_secure_trail.result + (length c.args.records.now % 65536 + length sigs % 65536) % 65536)
+    % 65536 ≡ length s.answer % 65536 =
     omega (arith, one, two, length-append trail set) in
     ended_so tcp query s _ (c.finish.ensures (front_octets query s)
-    (laid_low tcp query s _ c.count.result 0 _ _ _ _ count (rw c.signed-authority.ensures at c.count.ensures.value) refl
+    (laid_low tcp query s _ c.count.result 0 _ _ _ _ count
+    (rw c.signed-authority.ensures at c.count.ensures.value) refl
     (rw c.bare.ensures at c.begin.ensures)
-    (both_written query.name trail set _ _ _ (rw c.is_bare.ensures at c.put_secure_trail.ensures) (c.put_answer_set.ensures ∙ ap (λ rs. also c.put_secure_trail.new.writer.writing (entries_octets query.name rs)) (set_is zone.records bare name c.args.records.now sigs signed)))
+    (both_written query.name trail set _ _ _ (rw c.is_bare.ensures at c.put_secure_trail.ensures)
+    (c.put_answer_set.ensures ∙ ap (λ rs. also c.put_secure_trail.new.writer.writing
+    (entries_octets query.name rs)) (set_is zone.records bare name c.args.records.now sigs signed)))
     (rw c.signed-authority.ensures at c.write.ensures) (none_written query.name _)))

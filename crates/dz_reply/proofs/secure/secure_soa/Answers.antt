@@ -13,11 +13,21 @@ returns c =
     let tcp = is_tcp frame.transport in
     let query = query_of frame.request.now frame.asked.now in
     let sets = sets_of zone c.args.authority.now in
-    let s = soa_with zone frame.asked.now.question.kind c.args.chain.now (number_of c.args.code) c.args.authority.now in
-    let signed = soa_counted zone c.signatures-signed.result.now 1 (sym c.put_signed_soa.ensures.one) (rw c.apex.ensures at c.signatures-signed.ensures) in
+    let s =
+    soa_with zone frame.asked.now.question.kind c.args.chain.now (number_of c.args.code) c.args.authority.now in
+    let signed = soa_counted zone c.signatures-signed.result.now 1 (sym c.put_signed_soa.ensures.one)
+    (rw c.apex.ensures at c.signatures-signed.ensures) in
     let count : (c.count_signed_soa.result + c.count.result) % 65536 ≡ length s.authority % 65536 =
-    omega (arith, c.count_signed_soa.ensures.value, signed, (rw c.signed-authority.ensures at c.count.ensures.value), length-append (signed_soa zone) sets) in
+    omega (
+      arith,
+      c.count_signed_soa.ensures.value,
+      signed,
+      (rw c.signed-authority.ensures at c.count.ensures.value),
+      length-append (signed_soa zone) sets,
+    ) in
     ended_so tcp query s _ (c.finish.ensures (front_octets query s)
-    (laid_low tcp query s c.count_secure_trail.result _ 0 _ _ _ _ (rw c.is_bare.ensures at c.count_secure_trail.ensures.value) count refl
+    (laid_low tcp query s c.count_secure_trail.result _ 0 _ _ _ _
+    (rw c.is_bare.ensures at c.count_secure_trail.ensures.value) count refl
     (rw c.bare.ensures at c.begin.ensures) (rw c.is_bare.ensures at c.put_secure_trail.ensures)
-    (both_written query.name (signed_soa zone) sets _ _ _ c.put_signed_soa.ensures.written (rw c.signed-authority.ensures at c.write.ensures)) (none_written query.name _)))
+    (both_written query.name (signed_soa zone) sets _ _ _ c.put_signed_soa.ensures.written
+    (rw c.signed-authority.ensures at c.write.ensures)) (none_written query.name _)))

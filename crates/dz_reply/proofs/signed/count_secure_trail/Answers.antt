@@ -8,9 +8,13 @@ trail-init c = record { count = omega arith; small = omega arith }
 
 pub trail-preserved : goal.trail-preserved
 trail-preserved c = record {
-  count = counted_more c.args.signing.now.version.now.records c.args.signing.now.bare c.args.chain.now c.trail.number c.trail.count c.count_secure_step.result ([], no_record) (omega (arith, c.len-number-end.ensures.value)) (c.count_secure_step.ensures.value ([], no_record)) c.trail.invariant.count;
+  count = counted_more c.args.signing.now.version.now.records c.args.signing.now.bare c.args.chain.now c.trail.number
+      c.trail.count c.count_secure_step.result ([], no_record) (omega (arith, c.len-number-end.ensures.value))
+      (c.count_secure_step.ensures.value ([], no_record)) c.trail.invariant.count;
   small = omega arith;
 }
 
 pub returns-clause-value : goal.returns-clause-value
-returns-clause-value c = counted_all c.args.signing.now.version.now.records c.args.signing.now.bare c.args.chain.now c.trail.number c.trail.count (omega (arith, c.len-number-end.ensures.value)) c.trail.invariant.small c.trail.invariant.count
+returns-clause-value c =
+    counted_all c.args.signing.now.version.now.records c.args.signing.now.bare c.args.chain.now c.trail.number
+    c.trail.count (omega (arith, c.len-number-end.ensures.value)) c.trail.invariant.small c.trail.invariant.count

@@ -9,6 +9,8 @@ use Rattle.dz_reply.proofs.signed.put_secure_trail.Given as goal
 abbrev pub invariant-trail : goal.invariant-trail
 invariant-trail l = record {
   name : (d : Name × Record) → l.number < length l.chain → l.name ≡ (get_or l.chain l.number d).0;
-  octets : also l.writer.writing (entries_octets l.signing.question.now (secure_trail l.signing.version.now.records l.signing.bare (take l.number l.chain) (drop l.number l.chain)))
-      ≡ also l.fn.writer.writing (entries_octets l.signing.question.now (secure_trail l.signing.version.now.records l.signing.bare [] l.chain));
+  octets : also l.writer.writing (entries_octets l.signing.question.now
+      (secure_trail l.signing.version.now.records l.signing.bare (take l.number l.chain) (drop l.number l.chain)))
+      ≡ also l.fn.writer.writing
+      (entries_octets l.signing.question.now (secure_trail l.signing.version.now.records l.signing.bare [] l.chain));
 }

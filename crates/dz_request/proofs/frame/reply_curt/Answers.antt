@@ -7,4 +7,5 @@ use Rattle.dz_request.proofs.frame.reply_curt.Goals as goal
 pub returns : goal.returns
 unfolding curt_octets
 returns c =
-    rw (c.begin.ensures.writing, c.reply_flags.ensures) at c.put_header.ensures ∙ curt_fits c.args.request.now (number_of c.args.code)
+    rw (c.begin.ensures.writing, c.reply_flags.ensures) at c.put_header.ensures
+    ∙ curt_fits c.args.request.now (number_of c.args.code)

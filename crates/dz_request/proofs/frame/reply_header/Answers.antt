@@ -4,4 +4,5 @@ use Rattle.dz_request.proofs.frame.reply_header.Goals as goal
 
 pub returns : goal.returns
 returns c =
-    rw c.reply_flags.ensures (same_header _ _ _ _ _ _ _ _ (rw add-zero at c.low.ensures) (rw add-zero at c.low-2.ensures) c.low-3.ensures)
+    rw c.reply_flags.ensures
+    (same_header _ _ _ _ _ _ _ _ (rw add-zero at c.low.ensures) (rw add-zero at c.low-2.ensures) c.low-3.ensures)

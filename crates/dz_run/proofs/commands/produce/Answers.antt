@@ -16,7 +16,9 @@ only_done (Err errors.Write) is = cc
 only_done (Err errors.OutOfMemory) is = cc
 
 pub returns-clause-ends : goal.returns-clause-ends
-returns-clause-ends g c octets told = (c.run_producing.result, c.status_of_produce.ensures, c.run_producing.ensures.ends octets told)
+returns-clause-ends g c octets told =
+    (c.run_producing.result, c.status_of_produce.ensures, c.run_producing.ensures.ends octets told)
 
 pub returns-clause-done : goal.returns-clause-done
-returns-clause-done g c octets told is = c.run_producing.ensures.done octets told (only_done c.run_producing.result (sym c.status_of_produce.ensures ∙ is))
+returns-clause-done g c octets told is =
+    c.run_producing.ensures.done octets told (only_done c.run_producing.result (sym c.status_of_produce.ensures ∙ is))

@@ -6,8 +6,10 @@ use Rattle.dz_run.specs.Taken.{IsAtRest}
 use Rattle.dz_run.proofs.commands.run_replay.Goals as goal
 
 -- a list that lost its last element and gained another
-same_length : (all front : List Viewed) (last next : Viewed) → all ≡ front ++ last ∷ [] → length all ≡ 6 → length (front ++ next ∷ []) ≡ 6
-same_length all front last next is six = omega (arith, six, ap length is, length-append front (last ∷ []), length-append front (next ∷ []))
+same_length : (all front : List Viewed) (last next : Viewed) → all ≡ front ++ last ∷ [] → length all ≡ 6
+    → length (front ++ next ∷ []) ≡ 6
+same_length all front last next is six =
+    omega (arith, six, ap length is, length-append front (last ∷ []), length-append front (next ∷ []))
 
 pub returns-clause-back : goal.returns-clause-back
 returns-clause-back g c =
@@ -21,6 +23,7 @@ returns-clause-back g c =
     record {
       own = b.1;
       staged = b.0;
-      six = rw c.push_reserved.ensures.items (same_length all front c.in-Some.reading next (c.in-Some.ensures.items) d.six);
+      six = rw c.push_reserved.ensures.items
+          (same_length all front c.in-Some.reading next (c.in-Some.ensures.items) d.six);
       rest = rw c.push_reserved.ensures.items (All-push (IsAtRest book) front next others b.2);
     }

@@ -10,14 +10,17 @@ use Rattle.dz_run.proofs.commands.run_with.Goals as goal
 pub returns-in-Ok-Rehearse-clause-rehearses : goal.returns-in-Ok-Rehearse-clause-rehearses
 returns-in-Ok-Rehearse-clause-rehearses g c number told =
     let read = rw c.in-Ok-Rehearse.field-0-is at c.in-Ok-Rehearse.ensures in
-    subst (λ n. Rehearses n c.rehearse.result.status (g.K.Sink.held c.args.output) (g.K.Sink.held c.rehearse.result.output)) (number_is _ _ _ (sym read) told) c.rehearse.ensures.rehearses
+    subst (λ n. Rehearses n c.rehearse.result.status (g.K.Sink.held c.args.output)
+    (g.K.Sink.held c.rehearse.result.output)) (number_is _ _ _ (sym read) told) c.rehearse.ensures.rehearses
 
 pub returns-in-Ok-Rehearse-clause-rehearsed : goal.returns-in-Ok-Rehearse-clause-rehearsed
 returns-in-Ok-Rehearse-clause-rehearsed g c number told is =
     let read = rw c.in-Ok-Rehearse.field-0-is at c.in-Ok-Rehearse.ensures in
-    subst (λ n. c.rehearse.result.desk.publisher.list ≡ list_of_script (script n)) (number_is _ _ _ (sym read) told) (c.rehearse.ensures.published is)
+    subst (λ n. c.rehearse.result.desk.publisher.list ≡ list_of_script (script n)) (number_is _ _ _ (sym read) told)
+    (c.rehearse.ensures.published is)
 
 pub returns-in-Ok-Rehearse-clause-begins_rehearsed : goal.returns-in-Ok-Rehearse-clause-begins_rehearsed
 returns-in-Ok-Rehearse-clause-begins_rehearsed g c number told =
     let read = rw c.in-Ok-Rehearse.field-0-is at c.in-Ok-Rehearse.ensures in
-    subst (λ n. IsPrefix c.rehearse.result.desk.publisher.list (list_of_script (script n))) (number_is _ _ _ (sym read) told) c.rehearse.ensures.begins
+    subst (λ n. IsPrefix c.rehearse.result.desk.publisher.list (list_of_script (script n)))
+    (number_is _ _ _ (sym read) told) c.rehearse.ensures.begins

@@ -12,7 +12,9 @@ invariant-lines g l =
     × (g.T.Script.beside l.script ≡ g.T.Script.beside l.fn.script)
     × (g.S.Source.faults l.input ≡ g.S.Source.faults l.fn.input)
     × (g.T.Script.faults l.script ≡ g.T.Script.faults l.fn.script)
-    × ((octets : List ℕ) → g.S.Source.left l.fn.input ≡ Some octets → Mid g.T.Script.rules (g.T.Script.state l.fn.script) octets (g.T.Script.state l.script) l.number l.used (ahead l.window (g.S.Source.left l.input)) (g.T.Script.held l.fn.script) (g.T.Script.held l.script))
+    × ((octets : List ℕ) → g.S.Source.left l.fn.input ≡ Some octets
+    → Mid g.T.Script.rules (g.T.Script.state l.fn.script) octets (g.T.Script.state l.script) l.number l.used
+    (ahead l.window (g.S.Source.left l.input)) (g.T.Script.held l.fn.script) (g.T.Script.held l.script))
 
 abbrev pub decreases-lines : goal.decreases-lines
 decreases-lines g l = LIMIT - l.used

@@ -9,15 +9,18 @@ use Rattle.dz_secure.proofs.evidence.proof.Goals as goal
 pub returns-then-not-is_secure-clause-first : goal.returns-then-not-is_secure-clause-first
 returns-then-not-is_secure-clause-first g c =
     c.of_one.ensures.first
-    ∙ ap (λ p. p.0) (sym (no_proof c.args.version.now c.is_secure.ensures.valid.rises (sym c.is_secure.ensures.secure ∙ c.if-not-is_secure.true) c.args.name.now (meaning c.args.last.now)))
+    ∙ ap (λ p. p.0) (sym (no_proof c.args.version.now c.is_secure.ensures.valid.rises
+    (sym c.is_secure.ensures.secure ∙ c.if-not-is_secure.true) c.args.name.now (meaning c.args.last.now)))
 
 pub returns-then-not-is_secure-clause-second : goal.returns-then-not-is_secure-clause-second
 returns-then-not-is_secure-clause-second g c =
     c.of_one.ensures.second
-    ∙ ap (λ p. p.1) (sym (no_proof c.args.version.now c.is_secure.ensures.valid.rises (sym c.is_secure.ensures.secure ∙ c.if-not-is_secure.true) c.args.name.now (meaning c.args.last.now)))
+    ∙ ap (λ p. p.1) (sym (no_proof c.args.version.now c.is_secure.ensures.valid.rises
+    (sym c.is_secure.ensures.secure ∙ c.if-not-is_secure.true) c.args.name.now (meaning c.args.last.now)))
 
 pub no_name-requires : goal.no_name-requires
-no_name-requires g c = missing c.args.version.now.apex c.args.version.now.records c.args.name.now c.args.kind (rw c.in-NoName.is at c.requires)
+no_name-requires g c = missing c.args.version.now.apex c.args.version.now.records c.args.name.now c.args.kind
+    (rw c.in-NoName.is at c.requires)
 
 pub returns-in-NoName-clause-cost : goal.returns-in-NoName-clause-cost
 returns-in-NoName-clause-cost g c = searches_more 4 5 _ _ (omega arith) c.no_name.ensures.cost

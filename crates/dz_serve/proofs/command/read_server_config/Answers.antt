@@ -9,4 +9,5 @@ returns-in-Ok-server_config_of-clause-allowed g c =
 
 pub returns-in-Ok-server_config_of-clause-end : goal.returns-in-Ok-server_config_of-clause-end
 returns-in-Ok-server_config_of-clause-end g c octets told =
-    all_read octets c.in-Ok.text.items _ _ c.in-Ok.ensures.text (rw c.deref.ensures.value at c.in-Ok-server_config_of.ensures.0.1.short) told
+    all_read octets c.in-Ok.text.items _ _ c.in-Ok.ensures.text
+    (rw c.deref.ensures.value at c.in-Ok-server_config_of.ensures.0.1.short) told

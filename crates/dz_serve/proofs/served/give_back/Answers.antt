@@ -12,28 +12,44 @@ returns-clause-readings g c =
 
 pub returns-clause-datagrams : goal.returns-clause-datagrams
 returns-clause-datagrams g c =
-    c.close_dialers.ensures.datagrams ∙ (c.close_acceptors.ensures.datagrams ∙ (rw (c.part_listened-datagrams.ensures.first, c.part_listened-datagrams.ensures.second) at c.close_datagrams.ensures.back))
+    c.close_dialers.ensures.datagrams ∙ (c.close_acceptors.ensures.datagrams
+    ∙ (rw (c.part_listened-datagrams.ensures.first, c.part_listened-datagrams.ensures.second)
+    at c.close_datagrams.ensures.back))
 
 pub returns-clause-acceptors : goal.returns-clause-acceptors
 returns-clause-acceptors g c =
-    c.close_dialers.ensures.acceptors ∙ (rw (c.part_linked-acceptors.ensures.first, c.part_linked-acceptors.ensures.second, c.close_datagrams.ensures.acceptors) at c.close_acceptors.ensures.back)
+    c.close_dialers.ensures.acceptors
+    ∙ (rw (
+      c.part_linked-acceptors.ensures.first,
+      c.part_linked-acceptors.ensures.second,
+      c.close_datagrams.ensures.acceptors,
+    ) at c.close_acceptors.ensures.back)
 
 pub returns-clause-dialers : goal.returns-clause-dialers
 returns-clause-dialers g c =
-    rw (c.part_transferred-dialers.ensures.first, c.part_transferred-dialers.ensures.second, c.close_acceptors.ensures.dialers, c.close_datagrams.ensures.dialers) at c.close_dialers.ensures.back
+    rw (
+      c.part_transferred-dialers.ensures.first,
+      c.part_transferred-dialers.ensures.second,
+      c.close_acceptors.ensures.dialers,
+      c.close_datagrams.ensures.dialers,
+    ) at c.close_dialers.ensures.back
 
 pub returns-clause-datagram_one : goal.returns-clause-datagram_one
 returns-clause-datagram_one g c risen =
-    rw c.close_dialers.ensures.faults (risen_first _ _ _ (c.close_datagrams.ensures.first (rw c.part_listened-datagrams.ensures.first risen)) c.close_acceptors.ensures.later)
+    rw c.close_dialers.ensures.faults (risen_first _ _ _ (c.close_datagrams.ensures.first
+    (rw c.part_listened-datagrams.ensures.first risen)) c.close_acceptors.ensures.later)
 
 pub returns-clause-datagram_two : goal.returns-clause-datagram_two
 returns-clause-datagram_two g c risen =
-    rw c.close_dialers.ensures.faults (risen_first _ _ _ (c.close_datagrams.ensures.second (rw c.part_listened-datagrams.ensures.second risen)) c.close_acceptors.ensures.later)
+    rw c.close_dialers.ensures.faults (risen_first _ _ _ (c.close_datagrams.ensures.second
+    (rw c.part_listened-datagrams.ensures.second risen)) c.close_acceptors.ensures.later)
 
 pub returns-clause-acceptor_one : goal.returns-clause-acceptor_one
 returns-clause-acceptor_one g c risen =
-    rw c.close_dialers.ensures.faults (risen_last _ _ _ c.close_datagrams.ensures.later (c.close_acceptors.ensures.first (rw c.part_linked-acceptors.ensures.first risen)))
+    rw c.close_dialers.ensures.faults (risen_last _ _ _ c.close_datagrams.ensures.later
+    (c.close_acceptors.ensures.first (rw c.part_linked-acceptors.ensures.first risen)))
 
 pub returns-clause-acceptor_two : goal.returns-clause-acceptor_two
 returns-clause-acceptor_two g c risen =
-    rw c.close_dialers.ensures.faults (risen_last _ _ _ c.close_datagrams.ensures.later (c.close_acceptors.ensures.second (rw c.part_linked-acceptors.ensures.second risen)))
+    rw c.close_dialers.ensures.faults (risen_last _ _ _ c.close_datagrams.ensures.later
+    (c.close_acceptors.ensures.second (rw c.part_linked-acceptors.ensures.second risen)))

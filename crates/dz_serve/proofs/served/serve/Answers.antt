@@ -1,42 +1,28 @@
 -- A run that no worker began, and one over a list that begins with the configuration.
 use Rattle.std.proofs.Common.{◌≡◌, refl, sym, ap, ◌∙◌}
-use Rattle.dz_serve.specs.Ends.{is_write_fault}
-use Rattle.dz_serve.proofs.RunLemmas.{no_log, none_used, both_used, begun_of, first_opened}
+use Rattle.dz_serve.proofs.RunLemmas.{none_used, both_used, begun_of, first_opened}
 use Rattle.dz_serve.proofs.served.serve.Goals as goal
-
-pub returns-in_default-clause-logged : goal.returns-in_default-clause-logged
-returns-in_default-clause-logged g c =
-    no_log _ _ _ _ (ap (λ d. d.publisher.list) c.unserved.ensures.desk ∙ c.requires.publisher.0)
-    (ap (λ o. g.K.Sink.held o) c.unserved.ensures.output) (ap is_write_fault c.unserved.ensures.end) c.requires.written
 
 pub returns-in_default-clause-unserved : goal.returns-in_default-clause-unserved
 returns-in_default-clause-unserved g c empty = (c.unserved.ensures.output, none_used _)
-
-pub returns-in_default-open_devices-clause-logged : goal.returns-in_default-open_devices-clause-logged
-returns-in_default-open_devices-clause-logged g c =
-    let u = c.unserved-in_default-open_devices.ensures in
-    no_log _ _ _ _ (ap (λ d. d.publisher.list) u.desk ∙ c.requires.publisher.0)
-    (ap (λ o. g.K.Sink.held o) u.output) (ap is_write_fault u.end) c.requires.written
-
-pub returns-in-Err-clause-logged : goal.returns-in-Err-clause-logged
-returns-in-Err-clause-logged g c =
-    let u = c.not_started.ensures in
-    no_log _ _ _ _ (ap (λ p. p.list) u.publisher ∙ (ap (λ p. p.list) c.in-Err.ensures.err.0 ∙ c.requires.publisher.0))
-    (ap (λ o. g.K.Sink.held o) (u.output ∙ c.in-Err.ensures.err.1)) (ap is_write_fault u.end) c.requires.written
 
 pub returns-in-Err-clause-unserved : goal.returns-in-Err-clause-unserved
 returns-in-Err-clause-unserved g c empty =
     let o = c.in-Ok-open_devices.ensures in (
       c.not_started.ensures.output ∙ c.in-Err.ensures.err.1,
       both_used _ _ _ _ _ _ _ _ _ o.datagram_one o.datagram_two o.acceptor_one o.acceptor_two o.dialer_one o.dialer_two
-          (rw o.datagrams at c.close_devices.ensures.datagrams) (rw o.acceptors at c.close_devices.ensures.acceptors) (rw o.dialers at c.close_devices.ensures.dialers),
+          (rw o.datagrams at c.close_devices.ensures.datagrams) (rw o.acceptors at c.close_devices.ensures.acceptors)
+          (rw o.dialers at c.close_devices.ensures.dialers),
     )
 
 pub returns-in-Ok-start-clause-served : goal.returns-in-Ok-start-clause-served
 returns-in-Ok-start-clause-served g c some =
     let o = c.in-Ok-open_devices.ensures in
-    let first = first_opened _ _ (ap (λ p. p.core.list) c.in-Ok-start.ensures.ok) in
-    (c.begin_over.ensures.begun _ first, rw c.new-inputs.ensures.downstream at (c.begin_over.ensures.served _ _ _ first o.datagrams o.acceptors o.dialers))
+    let first = first_opened _ _ (ap (λ p. p.core.list) c.in-Ok-start.ensures.ok) in (
+      c.begin_over.ensures.begun _ first,
+      rw c.new-inputs.ensures.downstream
+          at (c.begin_over.ensures.served _ _ _ first o.datagrams o.acceptors o.dialers),
+    )
 
 pub returns-in-Ok-start-clause-unserved : goal.returns-in-Ok-start-clause-unserved
 returns-in-Ok-start-clause-unserved g c empty =

@@ -1,4 +1,7 @@
 use Rattle.dz_session_tests.proofs.serve.play.Given as goal
 
-abbrev pub ghosts-serve_input : goal.ghosts-serve_input
-ghosts-serve_input g a = record { publisher = a.desk.publisher.book }
+abbrev pub ghosts-serve_input-J-Naming : goal.ghosts-serve_input-J-Naming
+ghosts-serve_input-J-Naming g a = record { publisher = a.desk.publisher.book }
+
+abbrev pub ghosts-serve_input-J-Ledger : goal.ghosts-serve_input-J-Ledger
+ghosts-serve_input-J-Ledger g a = record { name = a.ledger.name; parts = a.ledger.parts }

@@ -12,5 +12,7 @@ invariant-zones g l = record {
   counted : g.E.Disk.faults l.target.disk ≡ g.E.Disk.faults l.fn.target.disk;
   able : l.source.has_failed ≡ false;
   same : l.target.has_failed ≡ l.fn.target.has_failed;
-  far : (f e : List ℕ) → g.D.Disk.file l.fn.source.disk ≡ Some f → g.E.Disk.file l.fn.target.disk ≡ Some e → records reads e ≡ [] → (h : List ℕ) × (g.E.Disk.file l.target.disk ≡ Some h) × Copied (records reads f) (take l.zone-index l.zone-items) (records reads h);
+  far : (f e : List ℕ) → g.D.Disk.file l.fn.source.disk ≡ Some f → g.E.Disk.file l.fn.target.disk ≡ Some e
+      → records reads e ≡ [] → (h : List ℕ) × (g.E.Disk.file l.target.disk ≡ Some h)
+      × Copied (records reads f) (take l.zone-index l.zone-items) (records reads h);
 }

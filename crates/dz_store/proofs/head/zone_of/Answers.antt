@@ -9,12 +9,15 @@ use Rattle.dz_store.proofs.head.zone_of.Goals as goal
 
 pub returns-then-is_empty : goal.returns-then-is_empty
 returns-then-is_empty c =
-    let none : length c.args.payload.now ≡ 0 = let h : (length c.args.payload.now == 0) ≡ true = sym c.is_empty.ensures ∙ c.if-is_empty.true in grind (arith, nat_tests) in
+    let none : length c.args.payload.now ≡ 0 =
+    let h : (length c.args.payload.now == 0) ≡ true = sym c.is_empty.ensures ∙ c.if-is_empty.true in
+    grind (arith, nat_tests) in
     absurd (nothing_read c.args.payload.now c.requires none)
 
 pub returns : goal.returns
 returns c =
     let payload = c.args.payload.now in
     c.zone_first.ensures
-    ∙ ap (λ l. option_map {T = Name × Octets} {U = Name} (λ z. z.0) (first_name l)) (take_all (length payload - 1) (drop 1 payload) (omega (arith, length-drop 1 payload)))
+    ∙ ap (λ l. option_map {T = Name × Octets} {U = Name} (λ z. z.0) (first_name l))
+    (take_all (length payload - 1) (drop 1 payload) (omega (arith, length-drop 1 payload)))
     ∙ zone_by_first payload c.requires

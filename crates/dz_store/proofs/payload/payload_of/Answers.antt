@@ -8,7 +8,8 @@ use Rattle.dz_store.proofs.payload.payload_of.Goals as goal
 
 pub returns-clause-payload : goal.returns-clause-payload
 returns-clause-payload c =
-    written_payload (meaning_of c.args.kept.now) c.in_ok-payload.payload.items c.push_stream.new.out.items c.in-Ok.outgoing c.in_ok-payload.ensures.head c.in_ok-push_stream.ensures
+    written_payload (meaning_of c.args.kept.now) c.in_ok-payload.payload.items c.push_stream.new.out.items
+    c.in-Ok.outgoing c.in_ok-payload.ensures.head c.in_ok-push_stream.ensures
     (c.in-Ok.ensures.messages ∙ ap (messages_of 0) c.in_ok-version.ensures)
 
 pub returns-clause-can : goal.returns-clause-can

@@ -9,18 +9,25 @@ pub returns-then-kept-ge-MOMENTS : goal.returns-then-kept-ge-MOMENTS
 returns-then-kept-ge-MOMENTS c = not_small (meaning_of c.args.kept.now) c.args.payload.now (omega arith)
 
 pub returns-in-Err : goal.returns-in-Err
-returns-in-Err c = not_fit (meaning_of c.args.kept.now) c.args.payload.now (ap is_fit (sym c.in_ok-version.ensures) ∙ sym c.in-Err.ensures.fit)
+returns-in-Err c = not_fit (meaning_of c.args.kept.now) c.args.payload.now
+    (ap is_fit (sym c.in_ok-version.ensures) ∙ sym c.in-Err.ensures.fit)
 
 pub returns-in-None : goal.returns-in-None
 returns-in-None c =
-    let fit : is_fit (arc_value c.args.kept.now.version) ≡ true = ap is_fit (sym c.in_ok-version.ensures) ∙ sym c.in-Ok.ensures.fit in
+    let fit : is_fit (arc_value c.args.kept.now.version) ≡ true =
+    ap is_fit (sym c.in_ok-version.ensures) ∙ sym c.in-Ok.ensures.fit in
     written_test (meaning_of c.args.kept.now) c.args.payload.now _ (omega arith) fit
-    (other_head (meaning_of c.args.kept.now) c.args.payload.now c.as_slice.result.now (c.as_slice.ensures.value ∙ c.in_ok-head.ensures.head) c.in-None.ensures.cases)
+    (other_head (meaning_of c.args.kept.now) c.args.payload.now c.as_slice.result.now
+    (c.as_slice.ensures.value ∙ c.in_ok-head.ensures.head) c.in-None.ensures.cases)
 
 pub returns-in-Some : goal.returns-in-Some
 returns-in-Some c =
-    let fit : is_fit (arc_value c.args.kept.now.version) ≡ true = ap is_fit (sym c.in_ok-version.ensures) ∙ sym c.in-Ok.ensures.fit in
-    let messages : c.in-Ok.outgoing ≡ messages_of 0 (arc_value c.args.kept.now.version) = c.in-Ok.ensures.messages ∙ ap (messages_of 0) c.in_ok-version.ensures in
+    let fit : is_fit (arc_value c.args.kept.now.version) ≡ true =
+    ap is_fit (sym c.in_ok-version.ensures) ∙ sym c.in-Ok.ensures.fit in
+    let messages : c.in-Ok.outgoing ≡ messages_of 0 (arc_value c.args.kept.now.version) =
+    c.in-Ok.ensures.messages ∙ ap (messages_of 0) c.in_ok-version.ensures in
     written_test (meaning_of c.args.kept.now) c.args.payload.now _ (omega arith) fit
-    (test_sent (meaning_of c.args.kept.now) c.args.payload.now c.as_slice.result.now c.in-Some.rest.now c.in-Ok.outgoing _ (c.as_slice.ensures.value ∙ c.in_ok-head.ensures.head) c.in-Some.ensures.cases.0 c.in-Some.ensures.cases.1 messages
+    (test_sent (meaning_of c.args.kept.now) c.args.payload.now c.as_slice.result.now c.in-Some.rest.now
+    c.in-Ok.outgoing _ (c.as_slice.ensures.value ∙ c.in_ok-head.ensures.head) c.in-Some.ensures.cases.0
+    c.in-Some.ensures.cases.1 messages
     c.is_stream.ensures.0 c.is_stream.ensures.1)

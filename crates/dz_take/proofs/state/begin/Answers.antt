@@ -12,10 +12,13 @@ returns-then-is_empty c =
 pub returns-in-None : goal.returns-in-None
 returns-in-None c =
     let some : 0 < length c.args.records.items = omega (arith, c.remove-first.ensures.len, c.args.records.ok.0) in
-    begin_other c.args.transfer.now c.args.records.items _ c.remove-first.result some c.remove-first.ensures.value c.remove-first.ensures.items (rw c.apex.ensures at c.in-None.ensures)
+    begin_other c.args.transfer.now c.args.records.items _ c.remove-first.result some c.remove-first.ensures.value
+    c.remove-first.ensures.items (rw c.apex.ensures at c.in-None.ensures)
     ∙ ap Some (sym c.not_soa_first-in-None.ensures)
 
 pub returns-in-Some-settled : goal.returns-in-Some-settled
 returns-in-Some-settled c =
     let some : 0 < length c.args.records.items = omega (arith, c.remove-first.ensures.len, c.args.records.ok.0) in
-    begin_settled c.args.transfer.now c.args.records.items _ c.remove-first.result some c.remove-first.ensures.value c.remove-first.ensures.items c.in-Some.serial _ (rw c.apex.ensures at c.in-Some.ensures) c.in-Some-settled.ensures
+    begin_settled c.args.transfer.now c.args.records.items _ c.remove-first.result
+    some c.remove-first.ensures.value c.remove-first.ensures.items c.in-Some.serial _
+    (rw c.apex.ensures at c.in-Some.ensures) c.in-Some-settled.ensures

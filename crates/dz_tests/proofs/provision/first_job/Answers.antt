@@ -10,7 +10,9 @@ pub returns : goal.returns
 returns g c =
     let job = c.in-Ok-Job.job in
     let is = c.requires.1 in
-    let at = (rw c.in-Ok-Job.field-0-is at (handed_now c.args.provisioner.now c.hand_out.new.self 0 (Ok c.in-Ok-Job.field-0) c.count.ensures.sound c.in-Ok-Job.ensures.made)).0 in (
+    let at = (rw c.in-Ok-Job.field-0-is at (handed_now c.args.provisioner.now c.hand_out.new.self 0
+    (Ok c.in-Ok-Job.field-0) c.count.ensures.sound c.in-Ok-Job.ensures.made)).0 in (
       at.entries ∙ ap (λ (x : Core). length x.list) is,
-      at.held ∙ (ap (λ (x : Core). held_at (after x.list) job.flight.zone) is ∙ nothing_held c.requires.0 job.flight.zone),
+      at.held
+          ∙ (ap (λ (x : Core). held_at (after x.list) job.flight.zone) is ∙ nothing_held c.requires.0 job.flight.zone),
     )

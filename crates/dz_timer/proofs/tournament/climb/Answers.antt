@@ -20,8 +20,11 @@ loop-at-preserved c =
     let l = c.loop-at in
     let inv = l.invariant in
     let up = l.at / 2 in
-    let is = earlier_at l.nodes.items up c.index.result.now c.index-in-loop-at.result.now c.earlier.result (omega (arith, inv.size, inv.below, c.loop-at-test.true)) c.index.ensures c.index-in-loop-at.ensures c.earlier.ensures in
-    let k = node_set l.nodes.items c.args.count up c.earlier.result inv.size (omega arith) (omega arith) inv.own inv.decided is in
+    let is = earlier_at l.nodes.items up c.index.result.now c.index-in-loop-at.result.now c.earlier.result
+    (omega (arith, inv.size, inv.below, c.loop-at-test.true)) c.index.ensures c.index-in-loop-at.ensures
+    c.earlier.ensures in
+    let k = node_set l.nodes.items c.args.count up c.earlier.result inv.size (omega arith)
+    (omega arith) inv.own inv.decided is in
     record {
       some = omega arith;
       below = omega arith;
@@ -32,4 +35,5 @@ loop-at-preserved c =
     }
 
 pub returns-clause-moments : goal.returns-clause-moments
-returns-clause-moments c = c.loop-at.invariant.kept ∙ moments-set_leaf c.args.nodes.now.items c.args.count c.args.wait.place c.args.wait
+returns-clause-moments c =
+    c.loop-at.invariant.kept ∙ moments-set_leaf c.args.nodes.now.items c.args.count c.args.wait.place c.args.wait

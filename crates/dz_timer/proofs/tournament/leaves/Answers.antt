@@ -23,5 +23,6 @@ moments-preserved c =
       size = grind (arith, common_steps);
       own = grind (arith, common_steps);
       kept = grind (arith, common_steps);
-      soon = All-more IsSoon c.args.values.now c.moments.place zone c.moments-test.true inv.soon (rw (← c.index-values-place.is) c.wait_of.ensures.soon);
+      soon = All-more IsSoon c.args.values.now c.moments.place zone c.moments-test.true inv.soon
+          (rw (← c.index-values-place.is) c.wait_of.ensures.soon);
     }

@@ -11,7 +11,10 @@ invariant-jobs g l = record {
   same : l.reading ≡ record l.initial.reading { list = l.reading.list };
   seen : IsPrefix l.initial.reading.list l.reading.list;
   back : g.D.Dialer.out l.dialer ≡ None;
-  going : IsGoing l.done (length l.initial.reading.list) l.reading.list (g.D.Dialer.links l.initial.dialer) (g.D.Dialer.links l.dialer) (g.D.Dialer.faults l.initial.dialer) (g.D.Dialer.faults l.dialer);
+  parts : l.share.parts ≡ l.initial.share.parts;
+  going : IsGoing l.done l.share.amount (length l.initial.reading.list) l.reading.list
+      (g.D.Dialer.links l.initial.dialer)
+      (g.D.Dialer.links l.dialer) (g.D.Dialer.faults l.initial.dialer) (g.D.Dialer.faults l.dialer);
   later : g.D.Dialer.faults l.initial.dialer ≤ g.D.Dialer.faults l.dialer;
   give : g.C.Clock.may_give l.clock ≡ g.C.Clock.may_give l.initial.clock;
   stop : g.C.Clock.may_stop l.clock ≡ g.C.Clock.may_stop l.initial.clock;

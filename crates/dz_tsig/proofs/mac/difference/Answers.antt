@@ -8,4 +8,5 @@ octets-preserved c = record {
 }
 
 pub returns-clause-same : goal.returns-clause-same
-returns-clause-same c = λ e. same_octets c.args.octets.now c.args.mac.now c.octets.at c.requires c.told-mac c.octets-test.false (c.octets.invariant.same e)
+returns-clause-same c = λ e. same_octets c.args.octets.now c.args.mac.now c.octets.at c.requires c.told-mac
+    c.octets-test.false (c.octets.invariant.same e)

@@ -18,8 +18,10 @@ pub rises_at-requires-clause-owners : goal.rises_at-requires-clause-owners
 rises_at-requires-clause-owners g c =
     let records = c.args.records.now in
     let at = c.records.place in
-    let is = owner_there records at c.index-records-place.result c.owner_ref.result (omega arith) c.index-records-place.is c.owner_ref.ensures in
-    c.in_ok-order.ensures.order (take at (owners_of records)) c.records.invariant.is ∙ ap (λ n. order_behind (take at (owners_of records)) n) is
+    let is = owner_there records at c.index-records-place.result c.owner_ref.result
+    (omega arith) c.index-records-place.is c.owner_ref.ensures in
+    c.in_ok-order.ensures.order (take at (owners_of records)) c.records.invariant.is
+    ∙ ap (λ n. order_behind (take at (owners_of records)) n) is
 
 pub records-preserved : goal.records-preserved
 records-preserved g c =
@@ -28,7 +30,8 @@ records-preserved g c =
     let at = c.records.place in
     let name = c.owner_ref.result in
     let within : at < length owners = omega (arith, length-map records (λ r. r.owner)) in
-    let is : name ≡ get_or owners at name = owner_at records at c.index-records-place.result name (omega arith) c.index-records-place.is c.owner_ref.ensures in
+    let is : name ≡ get_or owners at name = owner_at records
+    at c.index-records-place.result name (omega arith) c.index-records-place.is c.owner_ref.ensures in
     let order = c.rises_at.ensures.order c.if-not-rises_at.false in
     record {
       is = rw (one_more_owner owners at name within is)
@@ -42,5 +45,6 @@ returns g c =
     let records = c.args.records.now in
     record {
       rises = all_rise records c.records.place c.records.invariant.up (omega arith);
-      indexed = rw (take_all c.records.place (owners_of records) (omega (arith, length-map records (λ r. r.owner)))) at c.records.invariant.is;
+      indexed = rw (take_all c.records.place (owners_of records) (omega (arith, length-map records (λ r. r.owner))))
+          at c.records.invariant.is;
     }

@@ -12,6 +12,7 @@ records-preserved c =
     let record_here = c.record-item.result in
     let there = λ (d : Record). c.record-item.is ∙ get_or_default records at record_here d c.records-test.true in
     record {
-      kinds = kinds_more c.args.apex.now records at record_here c.records.kinds c.count.new.self c.records-test.true c.record-item.is c.records.invariant.kinds c.count.ensures.counted;
+      kinds = kinds_more c.args.apex.now records at record_here c.records.kinds c.count.new.self c.records-test.true
+          c.record-item.is c.records.invariant.kinds c.count.ensures.counted;
       held = held_more at records record_here there c.count.ensures.held c.records.invariant.held;
     }

@@ -9,7 +9,8 @@ invariant-base l = record {
   within : l.place ≤ length l.flags;
   made : IsMerged l.merging;
   overlay : IsOverlay record_order (flags_of (drop l.place l.base.records) (drop l.place l.flags)) l.added.keys;
-  whole : l.merging.records ++ revised_of (drop l.place l.base.records) (drop l.place l.flags) l.added.keys ≡ revised_of l.base.records l.flags l.fn.added.keys;
+  whole : l.merging.records ++ revised_of (drop l.place l.base.records) (drop l.place l.flags) l.added.keys
+      ≡ revised_of l.base.records l.flags l.fn.added.keys;
 }
 
 abbrev pub decreases-base : goal.decreases-base

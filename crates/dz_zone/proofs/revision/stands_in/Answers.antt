@@ -11,7 +11,8 @@ use Rattle.dz_zone.proofs.revision.stands_in.Goals as goal
 pub returns-in-Err : goal.returns-in-Err
 returns-in-Err c =
     let base = flags_of c.args.records.now c.args.flags.now in
-    sym (tie_there c.args.found.now (left_of base) ∙ none_kept record_order record_total c.args.found.now base (rw (items_flags c.args.records.now c.args.flags.now c.requires.long) c.in-Err.ensures))
+    sym (tie_there c.args.found.now (left_of base) ∙ none_kept record_order record_total c.args.found.now base
+    (rw (items_flags c.args.records.now c.args.flags.now c.requires.long) c.in-Err.ensures))
 
 pub returns-in-Ok : goal.returns-in-Ok
 returns-in-Ok c =
@@ -22,5 +23,7 @@ returns-in-Ok c =
     let b = flag_at records flags at c.args.found.now false in
     let long = length_flags records flags c.requires.long in
     sym (tie_there c.args.found.now (left_of base)
-    ∙ kept_has record_order record_total base at b c.args.found.now (rw (items_flags records flags c.requires.long) c.requires.rises)
-    (omega (arith, long, c.in-Ok.ensures.0)) (at_flags records flags at c.args.found.now false b c.requires.long c.in-Ok.ensures.0) (c.in-Ok.ensures.1 c.args.found.now))
+    ∙ kept_has record_order record_total base
+    at b c.args.found.now (rw (items_flags records flags c.requires.long) c.requires.rises)
+    (omega (arith, long, c.in-Ok.ensures.0)) (at_flags records flags
+    at c.args.found.now false b c.requires.long c.in-Ok.ensures.0) (c.in-Ok.ensures.1 c.args.found.now))

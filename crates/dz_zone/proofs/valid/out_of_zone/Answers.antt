@@ -11,7 +11,9 @@ returns c =
     elim c.if-is_within.branch [
       | then-is_within w ↦
           rw w.result-is
-          (ends_tell apex rs c.index-records-0.result w.index-records-records.result w.is_within-then-is_within.result c.requires some c.index-records-0.is w.index-records-records.is
+          (ends_tell apex rs c.index-records-0.result w.index-records-records.result w.is_within-then-is_within.result
+          c.requires some c.index-records-0.is w.index-records-records.is
           (sym c.is_within.ensures ∙ w.if-is_within.true) w.is_within-then-is_within.ensures)
-      | else-is_within w ↦ rw (w.result-is, w.if-is_within.false) (sym (one_outside apex rs 0 c.index-records-0.result some c.index-records-0.is (sym c.is_within.ensures ∙ w.if-is_within.false)))
+      | else-is_within w ↦ rw (w.result-is, w.if-is_within.false) (sym (one_outside apex rs 0 c.index-records-0.result
+          some c.index-records-0.is (sym c.is_within.ensures ∙ w.if-is_within.false)))
     ]

@@ -4,29 +4,34 @@ use Rattle.dz_zone.proofs.ApexLemmas.{zone_made, judged, faultless_in, kinds_in}
 use Rattle.dz_zone.proofs.version.check_tidied.Goals as goal
 
 pub fault_of-requires-clause-kinds : goal.fault_of-requires-clause-kinds
-fault_of-requires-clause-kinds c = rw (c.as_slice-2.ensures.value, ← c.as_slice.ensures.value) c.kinds_of-kinds.ensures.kinds
+fault_of-requires-clause-kinds c =
+    rw (c.as_slice-2.ensures.value, ← c.as_slice.ensures.value) c.kinds_of-kinds.ensures.kinds
 
 pub returns-in-Some : goal.returns-in-Some
 returns-in-Some c = judged _ _ _ _ _ c.in_ok-tidy.ensures.value c.as_slice-2.ensures.value c.in-Some.ensures
 
 pub index_of-requires-clause-few : goal.index_of-requires-clause-few
 index_of-requires-clause-few c =
-    rw c.as_slice-in-None.ensures.value (few_records c.args.apex.now c.tidy.new.records.items (rw c.as_slice-2.ensures.value at (sym c.in-None.ensures)))
+    rw c.as_slice-in-None.ensures.value
+    (few_records c.args.apex.now c.tidy.new.records.items (rw c.as_slice-2.ensures.value at (sym c.in-None.ensures)))
 
 pub nsecs_if_secure-requires-clause-few : goal.nsecs_if_secure-requires-clause-few
 nsecs_if_secure-requires-clause-few c =
-    rw c.as_slice-in-None-2.ensures.value (few_records c.args.apex.now c.tidy.new.records.items (rw c.as_slice-2.ensures.value at (sym c.in-None.ensures)))
+    rw c.as_slice-in-None-2.ensures.value
+    (few_records c.args.apex.now c.tidy.new.records.items (rw c.as_slice-2.ensures.value at (sym c.in-None.ensures)))
 
 pub version_of-requires-clause-faultless : goal.version_of-requires-clause-faultless
 version_of-requires-clause-faultless c =
-    faultless_in c.args.apex.now c.tidy.new.records.items c.in_ok-tidy.ensures.rises (rw c.as_slice-2.ensures.value at (sym c.in-None.ensures))
+    faultless_in c.args.apex.now c.tidy.new.records.items c.in_ok-tidy.ensures.rises
+    (rw c.as_slice-2.ensures.value at (sym c.in-None.ensures))
 
 pub version_of-requires-clause-indexed : goal.version_of-requires-clause-indexed
 version_of-requires-clause-indexed c = rw c.as_slice-in-None.ensures.value at c.in_ok-index-in-None.ensures
 
 pub version_of-requires-clause-kinds : goal.version_of-requires-clause-kinds
 version_of-requires-clause-kinds c =
-    kinds_in c.args.apex.now c.tidy.new.records.items _ c.in_ok-tidy.ensures.rises (rw c.as_slice-2.ensures.value at (sym c.in-None.ensures))
+    kinds_in c.args.apex.now c.tidy.new.records.items _ c.in_ok-tidy.ensures.rises
+    (rw c.as_slice-2.ensures.value at (sym c.in-None.ensures))
     (rw c.as_slice.ensures.value at c.kinds_of-kinds.ensures.kinds)
 
 pub version_of-requires-clause-nsecs : goal.version_of-requires-clause-nsecs
@@ -39,5 +44,6 @@ pub returns-in_ok-nsecs-in-None : goal.returns-in_ok-nsecs-in-None
 returns-in_ok-nsecs-in-None c =
     let none = rw c.as_slice-2.ensures.value at (sym c.in-None.ensures) in (
       judged _ _ _ _ _ c.in_ok-tidy.ensures.value c.as_slice-2.ensures.value c.in-None.ensures,
-      c.version_of.ensures ∙ zone_made c.args.apex.now c.tidy.new.records.items c.args.records.items c.in_ok-tidy.ensures.rises none c.in_ok-tidy.ensures.value,
+      c.version_of.ensures ∙ zone_made c.args.apex.now c.tidy.new.records.items c.args.records.items
+          c.in_ok-tidy.ensures.rises none c.in_ok-tidy.ensures.value,
     )

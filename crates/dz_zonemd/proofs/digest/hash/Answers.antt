@@ -16,11 +16,15 @@ records-preserved g c =
     elim c.if-not-is_left_out.branch [
       | then-not-is_left_out w ↦
           let next = w.join_record-count.ensures.holds r c.record_at.ensures invariant.1.0 invariant.1.1 in
-          let one = one_digested c.args.apex.now c.args.records.now c.records.place r c.records-test.true is (sym c.is_left_out.ensures ∙ w.if-not-is_left_out.true) in
-          rw (w.count-is, w.hasher-is, w.batch-is)
-          (w.join_record-count.ensures.within, (next.0, next.1, next.2 ∙ (ap (λ s. s ++ record_octets r) invariant.1.2 ∙ one)))
+          let one = one_digested c.args.apex.now c.args.records.now c.records.place r c.records-test.true is
+          (sym c.is_left_out.ensures ∙ w.if-not-is_left_out.true) in
+          rw (w.count-is, w.hasher-is, w.batch-is) (
+            w.join_record-count.ensures.within,
+            (next.0, next.1, next.2 ∙ (ap (λ s. s ++ record_octets r) invariant.1.2 ∙ one)),
+          )
       | else-not-is_left_out w ↦
-          let one = one_left_out c.args.apex.now c.args.records.now c.records.place r c.records-test.true is (sym c.is_left_out.ensures ∙ w.if-not-is_left_out.false) in
+          let one = one_left_out c.args.apex.now c.args.records.now c.records.place r c.records-test.true is
+          (sym c.is_left_out.ensures ∙ w.if-not-is_left_out.false) in
           rw (w.count-is, w.hasher-is, w.batch-is) (invariant.0, (invariant.1.0, invariant.1.1, invariant.1.2 ∙ one))
     ]
 
@@ -28,6 +32,9 @@ pub returns : goal.returns
 returns g c =
     let invariant = c.records.invariant in
     let last = c.update.ensures invariant.1.0 invariant.1.1 in
-    let all : take c.records.place c.args.records.now ≡ c.args.records.now = take_all c.records.place c.args.records.now (omega arith) in
-    let e = invariant.1.2 ∙ (ap (λ rs. flat_map record_octets (filter (λ r. not (is_left_out c.args.apex.now r)) rs)) all ∙ digested_rising c.args.apex.now c.args.records.now c.requires) in
+    let all : take c.records.place c.args.records.now ≡ c.args.records.now =
+    take_all c.records.place c.args.records.now (omega arith) in
+    let e =
+    invariant.1.2 ∙ (ap (λ rs. flat_map record_octets (filter (λ r. not (is_left_out c.args.apex.now r)) rs)) all
+    ∙ digested_rising c.args.apex.now c.args.records.now c.requires) in
     c.finalize.ensures _ (subst (λ m. g.D.Digest.holds c.update.new.self m) e last)

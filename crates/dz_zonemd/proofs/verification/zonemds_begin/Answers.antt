@@ -8,4 +8,6 @@ use Rattle.dz_zonemd.proofs.verification.zonemds_begin.Goals as goal
 
 pub returns-clause-point : goal.returns-clause-point
 returns-clause-point c =
-    c.partition_point.ensures.partitioned (λ (r : Record). is_lt (from_zonemds c.args.apex.now r)) (always_returns_same _ _ _ (λ a r f h. search rules)) (parted_before c.args.apex.now c.args.records.now c.requires)
+    c.partition_point.ensures.partitioned (λ (r : Record). is_lt (from_zonemds c.args.apex.now r))
+    (always_returns_same _ _ _ (λ a r f h. search rules))
+    (parted_before c.args.apex.now c.args.records.now c.requires)

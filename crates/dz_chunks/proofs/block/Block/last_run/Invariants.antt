@@ -2,7 +2,7 @@ use Rattle.std.proofs.Common.{◌≡◌, ◌+◌, ◌-◌, ◌*◌, ◌%◌, ◌
 use Rattle.dz_chunks.specs.inner.Chunked.{IsUptoAt, IsBehindAt}
 use Rattle.dz_chunks.proofs.block.Block.last_run.Given as goal
 
--- the one that was found is the last so far: where others came behind it, the next is behind the key
+-- the one that was found is the last so far: where others came after it, the next is after the key
 abbrev pub invariant-marks : goal.invariant-marks
 invariant-marks g l =
     (l.place < l.end)

@@ -18,6 +18,10 @@ bounds-entries-len g c =
 pub returns-clause-value : goal.returns-clause-value
 returns-clause-value g c =
     let some = led_some g.K.Ord.cmp g.K.Lead.lead _ _ c.self.invariant in
-    let more : 0 < length c.entries-entries.result.now = omega (arith, some, ap length c.self.view_is, ap length c.entries-entries.ensures) in
-    c.is_lt.ensures ∙ (ap is_lt c.compare.ensures.value ∙ (ap (λ e. is_lt (g.K.Ord.cmp e.0 c.args.key.now)) c.index-entries-len.is ∙ (sym (ends_in_last g.K.Ord.cmp g.met.K.Ord.total c.args.key.now c.entries-entries.result.now (length c.entries-entries.result.now - 1) c.index-entries-len.result (omega (arith, more)))
+    let more : 0 < length c.entries-entries.result.now =
+    omega (arith, some, ap length c.self.view_is, ap length c.entries-entries.ensures) in
+    c.is_lt.ensures
+    ∙ (ap is_lt c.compare.ensures.value ∙ (ap (λ e. is_lt (g.K.Ord.cmp e.0 c.args.key.now)) c.index-entries-len.is
+    ∙ (sym (ends_in_last g.K.Ord.cmp g.met.K.Ord.total c.args.key.now c.entries-entries.result.now
+    (length c.entries-entries.result.now - 1) c.index-entries-len.result (omega (arith, more)))
     ∙ ap (ends_before g.K.Ord.cmp c.args.key.now) c.entries-entries.ensures)))

@@ -12,6 +12,9 @@ bounds-entries-0 g c =
 pub returns-clause-value : goal.returns-clause-value
 returns-clause-value g c =
     let some = led_some g.K.Ord.cmp g.K.Lead.lead _ _ c.self.invariant in
-    let more : 0 < length c.entries-entries.result.now = omega (arith, some, ap length c.self.view_is, ap length c.entries-entries.ensures) in
-    ap not (c.is_gt.ensures ∙ (ap is_gt c.compare.ensures.value ∙ ap (λ e. is_gt (g.K.Ord.cmp e.0 c.args.key.now)) c.index-entries-0.is))
-    ∙ (sym (begins_first g.K.Ord.cmp c.args.key.now c.entries-entries.result.now c.index-entries-0.result more) ∙ ap (begins_upto g.K.Ord.cmp c.args.key.now) c.entries-entries.ensures)
+    let more : 0 < length c.entries-entries.result.now =
+    omega (arith, some, ap length c.self.view_is, ap length c.entries-entries.ensures) in
+    ap not (c.is_gt.ensures
+    ∙ (ap is_gt c.compare.ensures.value ∙ ap (λ e. is_gt (g.K.Ord.cmp e.0 c.args.key.now)) c.index-entries-0.is))
+    ∙ (sym (begins_first g.K.Ord.cmp c.args.key.now c.entries-entries.result.now c.index-entries-0.result more)
+    ∙ ap (begins_upto g.K.Ord.cmp c.args.key.now) c.entries-entries.ensures)

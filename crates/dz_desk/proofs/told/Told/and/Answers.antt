@@ -13,5 +13,6 @@ compare_exchange-found-requires c =
       own,
       pen.0 ∙ own,
       offer.0,
-      rw (ap (λ w. w.key) word, pen.1, offer.1, offer.3) (enters_moves c.again-reached.result.log c.args.entry.now c.self.inside.count (rw reached (sym c.self.invariant.0))),
+      rw (ap (λ w. w.key) word, pen.1, offer.1, offer.3) (enters_moves c.again-reached.result.log c.args.entry.now
+          c.self.inside.count (rw reached (sym c.self.invariant.0))),
     )

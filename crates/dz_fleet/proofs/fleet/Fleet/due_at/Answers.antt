@@ -11,7 +11,8 @@ pub hand_out-requires-clause-due : goal.hand_out-requires-clause-due
 hand_out-requires-clause-due c =
     let v = get_or_from_slice_get c.self.inside.schedule c.args.place c.at.result fresh c.at.ensures in
     let m = ap (λ (j : JobOf). j.flight.moment) c.in-Ok.ensures ∙ job_moment c.args.self.now c.args.now c.args.place in
-    rw (m, ← c.self.view_is, v) (late_test c.args.now c.at.result.timing.next (omega (arith, c.if-now-next.false, c.next.ensures.value)))
+    rw (m, ← c.self.view_is, v)
+    (late_test c.args.now c.at.result.timing.next (omega (arith, c.if-now-next.false, c.next.ensures.value)))
 
 pub hand_out-requires-clause-job : goal.hand_out-requires-clause-job
 hand_out-requires-clause-job c =

@@ -23,10 +23,12 @@ pub invariant_of-self : goal.invariant_of-self
 invariant_of-self c =
     let i = c.self.inside in
     let f : Flying = record { flight = c.flight.result.now; held = c.of.result; key = c.of-2.result; ended = None } in
-    let own : job_in f ≡ c.args.job = flying_is c.args.job f c.flight.ensures.flight (ap (option_map arc_value) c.of.ensures ∙ c.shared.ensures) (c.of-2.ensures ∙ c.shared_key.ensures) in
+    let own : job_in f ≡ c.args.job = flying_is c.args.job f c.flight.ensures.flight
+    (ap (option_map arc_value) c.of.ensures ∙ c.shared.ensures) (c.of-2.ensures ∙ c.shared_key.ensures) in
     let v = get_or_from_slice_get i.schedule c.args.place c.at.result fresh c.at.ensures in (
       rw (c.in-Ok.ensures.items, c.change.ensures, c.departed-values.ensures, ← v)
-          (kept_due i.holdings i.history i.tickets i.flying.items i.schedule c.args.place c.args.job.flight.moment f c.self.invariant.0 (rw (← c.self.view_is) at c.requires.room) (rw (← c.self.view_is) at c.requires.first)
+          (kept_due i.holdings i.history i.tickets i.flying.items i.schedule c.args.place c.args.job.flight.moment f
+          c.self.invariant.0 (rw (← c.self.view_is) at c.requires.room) (rw (← c.self.view_is) at c.requires.first)
           (own ∙ (rw (← c.self.view_is) at c.requires.job)) (subst IsJob (sym own) c.flight.ensures.ready.valid) refl),
       c.self.invariant.1,
     )
@@ -35,12 +37,15 @@ pub returns-clause-due : goal.returns-clause-due
 returns-clause-due c = elim c.match-push.branch [
   | in-Ok w ↦
       let i = c.self.inside in
-      let f : Flying = record { flight = c.flight.result.now; held = c.of.result; key = c.of-2.result; ended = None } in
-      let own : job_in f ≡ c.args.job = flying_is c.args.job f c.flight.ensures.flight (ap (option_map arc_value) c.of.ensures ∙ c.shared.ensures) (c.of-2.ensures ∙ c.shared_key.ensures) in
+      let f : Flying =
+      record { flight = c.flight.result.now; held = c.of.result; key = c.of-2.result; ended = None } in
+      let own : job_in f ≡ c.args.job = flying_is c.args.job f c.flight.ensures.flight
+      (ap (option_map arc_value) c.of.ensures ∙ c.shared.ensures) (c.of-2.ensures ∙ c.shared_key.ensures) in
       let v = get_or_from_slice_get i.schedule c.args.place w.at.result fresh w.at.ensures in
       let first = rw (← c.self.view_is) at c.requires.first in
       rw (w.result-is, w.self-is) (
-        ap due.Job c.requires.job ∙ due_is c.args.self.now c.args.job.flight.moment c.args.place c.requires.room c.requires.first c.requires.due,
+        ap due.Job c.requires.job ∙ due_is c.args.self.now c.args.job.flight.moment c.args.place c.requires.room
+            c.requires.first c.requires.due,
         (rw (← c.self.view_is, w.in-Ok.ensures.items, w.change.ensures, w.departed-values.ensures, ← v)
             (due_made i.history i.tickets i.flying.items i.schedule f c.args.job c.args.place own first)),
       )
@@ -51,13 +56,18 @@ pub returns-clause-flying : goal.returns-clause-flying
 returns-clause-flying c = elim c.match-push.branch [
   | in-Ok w ↦
       let i = c.self.inside in
-      let f : Flying = record { flight = c.flight.result.now; held = c.of.result; key = c.of-2.result; ended = None } in
-      let own : job_in f ≡ c.args.job = flying_is c.args.job f c.flight.ensures.flight (ap (option_map arc_value) c.of.ensures ∙ c.shared.ensures) (c.of-2.ensures ∙ c.shared_key.ensures) in
+      let f : Flying =
+      record { flight = c.flight.result.now; held = c.of.result; key = c.of-2.result; ended = None } in
+      let own : job_in f ≡ c.args.job = flying_is c.args.job f c.flight.ensures.flight
+      (ap (option_map arc_value) c.of.ensures ∙ c.shared.ensures) (c.of-2.ensures ∙ c.shared_key.ensures) in
       let v = get_or_from_slice_get i.schedule c.args.place w.at.result fresh w.at.ensures in
-      let k = kept_due i.holdings i.history i.tickets i.flying.items i.schedule c.args.place c.args.job.flight.moment f c.self.invariant.0 (rw (← c.self.view_is) at c.requires.room) (rw (← c.self.view_is) at c.requires.first)
+      let k = kept_due i.holdings i.history i.tickets i.flying.items i.schedule c.args.place c.args.job.flight.moment f
+      c.self.invariant.0 (rw (← c.self.view_is) at c.requires.room) (rw (← c.self.view_is) at c.requires.first)
       (own ∙ (rw (← c.self.view_is) at c.requires.job)) (subst IsJob (sym own) c.flight.ensures.ready.valid) refl in
       rw (w.result-is, w.self-is, w.in-Ok.ensures.items, w.change.ensures, w.departed-values.ensures, ← v)
-      (handed_flies (core_in i.history (i.tickets + 1) (i.flying.items ++ f ∷ []) (slice_set i.schedule c.args.place (departed (value_at i.schedule c.args.place)))) (map job_in i.flying.items) c.args.job k.sound
+      (handed_flies (core_in i.history (i.tickets + 1) (i.flying.items ++ f ∷ [])
+      (slice_set i.schedule c.args.place (departed (value_at i.schedule c.args.place))))
+      (map job_in i.flying.items) c.args.job k.sound
       (map_push job_in i.flying.items f ∙ ap (λ j. map job_in i.flying.items ++ j ∷ []) own))
   | in-Err w ↦ rw w.result-is tt
 ]

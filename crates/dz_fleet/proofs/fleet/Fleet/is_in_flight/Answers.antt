@@ -14,6 +14,7 @@ returns c =
     let flight : map job_in fs ≡ c.args.self.now.flight = ap (λ (x : Core). x.flight) c.self.view_is in
     let is = rw (c.deref.ensures.value, c.flight.ensures.flight) at c.is_among.ensures in
     let both = among_decides job.flight fs in (
-      λ t. given_flies c.args.self.now job ok (c.requires.given ok) (subst (IsAmong job.flight) flight (both.0 (sym is ∙ t))),
+      λ t. given_flies c.args.self.now job ok (c.requires.given ok)
+          (subst (IsAmong job.flight) flight (both.0 (sym is ∙ t))),
       λ f. is ∙ both.1 (subst (IsAmong job.flight) (sym flight) f.there),
     )

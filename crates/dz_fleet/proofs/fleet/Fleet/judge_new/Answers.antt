@@ -12,7 +12,8 @@ returns-then-not-approves-clause-verdict c =
     let new = rw c.requires.transfer at c.requires.new in
     let answer = sym c.approves.ensures ∙ c.if-not-approves.true in
     let a = rw c.zone.ensures at answer in
-    rw c.standing_of-standing.ensures (sym (verdict_policy c.args.self.now c.args.job.now c.args.finished.now.octets c.args.version.now c.requires.signed new c.requires.standing a))
+    rw c.standing_of-standing.ensures (sym (verdict_policy c.args.self.now c.args.job.now c.args.finished.now.octets
+    c.args.version.now c.requires.signed new c.requires.standing a))
 
 pub returns-clause-verdict : goal.returns-clause-verdict
 returns-clause-verdict c =
@@ -24,6 +25,8 @@ returns-clause-verdict c =
     let a = rw c.zone.ensures at answer in
     let count = c.count.ensures ∙ (ap (λ (s : State). s.count) k.after ∙ count_is i.history k.sound.legal) in
     let serial = serial_new c.args.version.now c.soa.result c.soa.ensures in
-    let aftermath = c.in_ok-aftermath.ensures.aftermath ∙ ap (aftermath_of (state_of c.args.self.now) zone) c.requires.new in
-    let v = verdict_new c.args.self.now c.args.job.now c.args.finished.now.octets c.args.version.now c.requires.signed new c.requires.standing a in
+    let aftermath =
+    c.in_ok-aftermath.ensures.aftermath ∙ ap (aftermath_of (state_of c.args.self.now) zone) c.requires.new in
+    let v = verdict_new c.args.self.now c.args.job.now c.args.finished.now.octets c.args.version.now c.requires.signed
+    new c.requires.standing a in
     rw (count, serial, aftermath, ← c.self.view_is) (sym (rw (← c.self.view_is) at v))

@@ -18,10 +18,12 @@ returns-clause-verdict c =
     let signed = rw (← c.self.view_is) at c.requires.signed in
     let count = c.count.ensures ∙ (ap (λ (s : State). s.count) k.after ∙ count_is i.history k.sound.legal) in
     let serial = rw c.held.ensures.held at c.serial_of.ensures in
-    rw (← c.self.view_is, count, serial) (sym (verdict_is (core_in i.history i.tickets i.flying.items i.schedule) c.args.job.now c.args.finished.now.octets None up_to_date None signed same none))
+    rw (← c.self.view_is, count, serial) (sym (verdict_is (core_in i.history i.tickets i.flying.items i.schedule)
+    c.args.job.now c.args.finished.now.octets None up_to_date None signed same none))
 
 pub returns-clause-renewed : goal.returns-clause-renewed
 returns-clause-renewed c =
     let zone = c.args.job.now.flight.zone in
-    let a = c.in_ok-renewal.ensures.aftermath ∙ (ap (aftermath_of (state_of c.args.self.now) zone) c.requires.same ∙ same_alone (state_of c.args.self.now) zone) in
+    let a = c.in_ok-renewal.ensures.aftermath ∙ (ap (aftermath_of (state_of c.args.self.now) zone) c.requires.same
+    ∙ same_alone (state_of c.args.self.now) zone) in
     rw a at c.in_ok-renewal.ensures.renewed

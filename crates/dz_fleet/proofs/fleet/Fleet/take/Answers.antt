@@ -16,8 +16,10 @@ take-requires-clause-assigned c =
     let i = c.self.inside in
     let f = rw (← c.self.view_is) at c.requires.flying in
     let none = rw (← c.self.view_is) at c.requires.standing in
-    let stood = among_stands (core_in i.history i.tickets i.flying.items i.schedule) c.args.job.now k.sound f.there none in
-    rw c.requires.transfer (subst (λ s. IsSome (incarnation_at s c.args.job.now.flight.zone)) (sym k.after) (stands_some (after i.history) c.args.job.now.flight.zone c.args.job.now.flight.incarnation stood))
+    let stood =
+    among_stands (core_in i.history i.tickets i.flying.items i.schedule) c.args.job.now k.sound f.there none in
+    rw c.requires.transfer (subst (λ s. IsSome (incarnation_at s c.args.job.now.flight.zone)) (sym k.after)
+    (stands_some (after i.history) c.args.job.now.flight.zone c.args.job.now.flight.incarnation stood))
 
 pub take-requires-clause-moment : goal.take-requires-clause-moment
 take-requires-clause-moment c = rw c.moment.ensures.moment c.moment.ensures.valid.moment
@@ -27,7 +29,12 @@ take-requires-clause-room c =
     let k = c.self.invariant.0 in
     let i = c.self.inside in
     let f = rw (← c.self.view_is) at c.requires.flying in
-    omega (arith, room_more (core_in i.history i.tickets i.flying.items i.schedule) c.args.job.now k.sound f.there, count_is i.history k.sound.legal, ap (λ (s : State). s.count) k.after)
+    omega (
+      arith,
+      room_more (core_in i.history i.tickets i.flying.items i.schedule) c.args.job.now k.sound f.there,
+      count_is i.history k.sound.legal,
+      ap (λ (s : State). s.count) k.after,
+    )
 
 pub renewal-requires : goal.renewal-requires
 renewal-requires c =
@@ -39,7 +46,10 @@ renewal-requires c =
     let stood = among_stands (core_in i.history i.tickets i.flying.items i.schedule) j k.sound f.there none in
     let state = rw (c.requires.transfer, c.moment.ensures.moment) at c.in_ok-holdings.ensures.state in
     let is = state ∙ taken_step i.holdings (after i.history) j c.args.finished.now.octets k.after (f.held stood) in
-    rw (← c.self.view_is) record { config = ap (λ (s : State). s.fold.config) is ∙ config_step (after i.history) (taken_for j c.args.finished.now.octets) }
+    rw (← c.self.view_is) record {
+      config = ap (λ (s : State). s.fold.config) is
+          ∙ config_step (after i.history) (taken_for j c.args.finished.now.octets);
+    }
 
 pub returns-clause-aftermath : goal.returns-clause-aftermath
 returns-clause-aftermath c =

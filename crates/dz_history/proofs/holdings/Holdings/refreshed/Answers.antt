@@ -9,10 +9,14 @@ pub returns-in_ok-share-in-Some : goal.returns-in_ok-share-in-Some
 returns-in_ok-share-in-Some c =
     let s = c.args.self.now in
     let number = rw c.deref.ensures at c.in-Some.ensures in
-    let is : taken s c.args.zone.now c.args.moment up_to_date ≡ counted (catalog_after s c.in-Some.field-0 c.args.zone.now up_to_date) =
+    let is : taken s c.args.zone.now c.args.moment up_to_date
+    ≡ counted (catalog_after s c.in-Some.field-0 c.args.zone.now up_to_date) =
     rw (← c.self.view_is) (taken_catalog _ c.args.zone.now c.args.moment c.in-Some.field-0 up_to_date number) in
-    c.counted.ensures ∙ (ap counted (c.in_ok-share-in-Some.ensures ∙ sym (same_catalog s c.in-Some.field-0 c.args.zone.now)) ∙ sym is)
+    c.counted.ensures
+    ∙ (ap counted (c.in_ok-share-in-Some.ensures ∙ sym (same_catalog s c.in-Some.field-0 c.args.zone.now)) ∙ sym is)
 
 pub returns-in-None : goal.returns-in-None
 returns-in-None c =
-    IfOk-weaker c.member_refreshed.result _ _ (λ h e. e ∙ sym (taken_member c.args.self.now c.args.zone.now c.args.moment up_to_date (rw (← c.self.view_is) (rw c.deref.ensures at c.in-None.ensures)))) c.member_refreshed.ensures
+    IfOk-weaker c.member_refreshed.result _ _
+    (λ h e. e ∙ sym (taken_member c.args.self.now c.args.zone.now c.args.moment up_to_date
+    (rw (← c.self.view_is) (rw c.deref.ensures at c.in-None.ensures)))) c.member_refreshed.ensures

@@ -14,11 +14,14 @@ take_version-requires-clause-own c =
     rw c.apex-zone.ensures (new_fits t octets (arc_value c.in-New.version) is)
 
 pub returns-in_ok-refreshed-in-UpToDate-clause-aftermath : goal.returns-in_ok-refreshed-in-UpToDate-clause-aftermath
-returns-in_ok-refreshed-in-UpToDate-clause-aftermath c = rw (← c.outcome.ensures, c.in-UpToDate.is) (sym (same_alone c.args.self.now c.args.finished.now.transfer.apex))
+returns-in_ok-refreshed-in-UpToDate-clause-aftermath c =
+    rw (← c.outcome.ensures, c.in-UpToDate.is) (sym (same_alone c.args.self.now c.args.finished.now.transfer.apex))
 
 pub returns-in_ok-share-in-Refused-clause-state : goal.returns-in_ok-share-in-Refused-clause-state
 returns-in_ok-share-in-Refused-clause-state c =
-    c.counted.ensures ∙ rw (c.in_ok-share-in-Refused.ensures, ← c.outcome.ensures, c.in-Refused.is) (sym (refused_stays c.args.self.now c.args.finished.now.transfer.apex c.args.moment _))
+    c.counted.ensures ∙ rw (c.in_ok-share-in-Refused.ensures, ← c.outcome.ensures, c.in-Refused.is)
+    (sym (refused_stays c.args.self.now c.args.finished.now.transfer.apex c.args.moment _))
 
 pub returns-in_ok-share-in-Refused-clause-aftermath : goal.returns-in_ok-share-in-Refused-clause-aftermath
-returns-in_ok-share-in-Refused-clause-aftermath c = rw (← c.outcome.ensures, c.in-Refused.is) (sym (refused_alone c.args.self.now c.args.finished.now.transfer.apex _))
+returns-in_ok-share-in-Refused-clause-aftermath c =
+    rw (← c.outcome.ensures, c.in-Refused.is) (sym (refused_alone c.args.self.now c.args.finished.now.transfer.apex _))

@@ -16,7 +16,9 @@ pub invariant_of-result : goal.invariant_of-result
 invariant_of-result c =
     let mine : Rows = record { keys = c.self.inside.keys; firsts = c.self.inside.firsts.items } in
     let theirs : Rows = record { keys = c.other.inside.keys; firsts = c.other.inside.firsts.items } in
-    let are : IsPlaces theirs.firsts c.args.portion = subst (λ (r : Rows). IsPlaces r.firsts c.args.portion) (sym c.other.view_is) c.requires.portion in
+    let are : IsPlaces theirs.firsts c.args.portion =
+    subst (λ (r : Rows). IsPlaces r.firsts c.args.portion) (sym c.other.view_is) c.requires.portion in
     let records : c.total-total.result ≡ total mine = c.total-total.ensures ∙ sym (ap total c.self.view_is) in
     let firsts = rw (c.as_slice.ensures.value, records) at c.in_ok-extend_places.ensures in
-    rw (c.in_ok-with_run.ensures, firsts) (joined_kept mine theirs c.args.portion c.self.invariant c.other.invariant are)
+    rw (c.in_ok-with_run.ensures, firsts)
+    (joined_kept mine theirs c.args.portion c.self.invariant c.other.invariant are)

@@ -10,5 +10,7 @@ overflow_sub-result c =
 pub returns-clause-portion : goal.returns-clause-portion
 returns-clause-portion c =
     let kept : IsKept c.args.self.now = rw c.self.view_is at c.self.invariant in
-    portion_is c.args.self.now c.firsts_before.result c.firsts_before-2.result c.args.begin c.args.end kept c.requires.some c.requires.within
-    c.firsts_before.ensures.before c.firsts_before.ensures.behind c.firsts_before-2.ensures.before c.firsts_before-2.ensures.behind
+    portion_is c.args.self.now c.firsts_before.result c.firsts_before-2.result c.args.begin c.args.end kept
+    c.requires.some c.requires.within
+    c.firsts_before.ensures.before c.firsts_before.ensures.behind c.firsts_before-2.ensures.before
+    c.firsts_before-2.ensures.behind

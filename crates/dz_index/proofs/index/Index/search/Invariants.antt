@@ -14,7 +14,8 @@ invariant-search g l = record {
   half : 2 ^ (l.steps - l.fn.steps) * (l.high - l.low) ≤ count l.self;
   cost : IsSearch (count l.self) (l.steps - l.fn.steps);
   before : AreRising l.self → (i : ℕ) → i < l.low → is_lt (compared (key_at l.self i) l.key) ≡ true;
-  behind : AreRising l.self → (i : ℕ) → l.high ≤ i → i < count l.self → is_lt (compared (key_at l.self i) l.key) ≡ false;
+  behind : AreRising l.self → (i : ℕ) → l.high ≤ i → i < count l.self
+      → is_lt (compared (key_at l.self i) l.key) ≡ false;
 }
 
 abbrev pub decreases-search : goal.decreases-search

@@ -10,5 +10,7 @@ part-requires-clause-within c =
 pub returns : goal.returns
 returns c =
     let long = parts_length c.self.inside.octets.items c.self.inside.bounds.items c.self.invariant.some in
-    rw (c.as_slice.ensures.value, c.as_slice-2.ensures.value) at c.part.ensures ∙ (sym (part_at c.self.inside.octets.items c.self.inside.bounds.items c.args.number (omega (arith, long, ap length c.self.view_is, c.requires)))
+    rw (c.as_slice.ensures.value, c.as_slice-2.ensures.value) at c.part.ensures
+    ∙ (sym (part_at c.self.inside.octets.items c.self.inside.bounds.items c.args.number
+    (omega (arith, long, ap length c.self.view_is, c.requires)))
     ∙ ap (λ keys. get_or keys c.args.number []) c.self.view_is)

@@ -15,4 +15,5 @@ returns-clause-value c =
     let key = c.args.key.now in
     ap (λ o. parts_of o c.push_part.new.bounds.items) c.in_ok-push_part.ensures.octets
     ∙ (ap (λ b. parts_of (octets ++ key) b) c.in_ok-push_part.ensures.bounds
-    ∙ (part_added octets key bounds (length octets + length key) c.self.invariant refl ∙ ap (λ keys. keys ++ key ∷ []) c.self.view_is))
+    ∙ (part_added octets key bounds (length octets + length key) c.self.invariant refl
+    ∙ ap (λ keys. keys ++ key ∷ []) c.self.view_is))

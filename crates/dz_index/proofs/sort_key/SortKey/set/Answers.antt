@@ -18,26 +18,38 @@ bounds-wire-place c = rw (c.labels.invariant.wire, c.labels.invariant.at) (offse
 
 pub slice_bounds-prepend_label-end : goal.slice_bounds-prepend_label-end
 slice_bounds-prepend_label-end c =
-    omega (arith, label_room c.args.name.now c.wire-wire.result.now c.labels.place c.labels.count c.labels.invariant.wire c.labels.invariant.at c.labels.invariant.count)
+    omega (
+      arith,
+      label_room c.args.name.now c.wire-wire.result.now c.labels.place c.labels.count
+          c.labels.invariant.wire c.labels.invariant.at c.labels.invariant.count,
+    )
 
 pub overflow_add-count : goal.overflow_add-count
 overflow_add-count c = omega (arith, few_labels _ c.labels.invariant.name)
 
 pub labels-smaller : goal.labels-smaller
 labels-smaller c =
-    omega (arith, more_at _ _ _ _ c.labels.invariant.name c.labels.invariant.wire c.labels.invariant.at c.labels.invariant.count c.labels-test.true)
+    omega (
+      arith,
+      more_at _ _ _ _ c.labels.invariant.name c.labels.invariant.wire c.labels.invariant.at
+          c.labels.invariant.count c.labels-test.true,
+    )
 
 pub labels-preserved : goal.labels-preserved
 labels-preserved c =
-    let more = more_at _ _ _ _ c.labels.invariant.name c.labels.invariant.wire c.labels.invariant.at c.labels.invariant.count c.labels-test.true in
+    let more = more_at _ _ _ _ c.labels.invariant.name c.labels.invariant.wire c.labels.invariant.at
+    c.labels.invariant.count c.labels-test.true in
     record {
       wire = c.labels.invariant.wire;
       name = c.labels.invariant.name;
-      at = next_place c.args.name.now c.wire-wire.result.now c.labels.place c.labels.count c.labels.invariant.wire c.labels.invariant.at more;
+      at = next_place c.args.name.now c.wire-wire.result.now c.labels.place c.labels.count c.labels.invariant.wire
+          c.labels.invariant.at more;
       count = omega arith;
-      key = key_next c.args.name.now c.wire-wire.result.now c.labels.self _ _ c.labels.place c.labels.count c.labels.invariant.wire c.labels.invariant.at more c.labels.invariant.key refl c.prepend_label.ensures;
+      key = key_next c.args.name.now c.wire-wire.result.now c.labels.self _ _ c.labels.place c.labels.count
+          c.labels.invariant.wire c.labels.invariant.at more c.labels.invariant.key refl c.prepend_label.ensures;
       room = room_next _ _ _ _ _ c.labels.invariant.room c.prepend_label.ensures;
     }
 
 pub returns : goal.returns
-returns c = key_whole _ _ _ (all_at _ _ _ _ c.labels.invariant.name c.labels.invariant.wire c.labels.invariant.at c.labels.invariant.count c.labels-test.false) c.labels.invariant.key
+returns c = key_whole _ _ _ (all_at _ _ _ _ c.labels.invariant.name c.labels.invariant.wire c.labels.invariant.at
+    c.labels.invariant.count c.labels-test.false) c.labels.invariant.key

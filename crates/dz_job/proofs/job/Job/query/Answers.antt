@@ -11,7 +11,8 @@ returns-clause-long c = rw c.in_ok-query.ensures.octets (query_long _ _ _)
 
 pub returns-clause-short : goal.returns-clause-short
 returns-clause-short c =
-    rw c.in_ok-query.ensures.octets (query_short _ _ _ c.in_ok-query.ensures.name c.in_ok-query.ensures.held (rw c.soa_asked-held.ensures (asks_soa (transfer_for c.args.self.now))))
+    rw c.in_ok-query.ensures.octets (query_short _ _ _ c.in_ok-query.ensures.name c.in_ok-query.ensures.held
+    (rw c.soa_asked-held.ensures (asks_soa (transfer_for c.args.self.now))))
 
 pub returns-clause-additional : goal.returns-clause-additional
 returns-clause-additional c = rw c.in_ok-query.ensures.octets (query_none _ _ _ c.id-id.type_inv)

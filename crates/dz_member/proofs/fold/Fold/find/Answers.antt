@@ -6,7 +6,9 @@ use Rattle.std.proofs.Common.{sym}
 
 pub returns-in-Some : goal.returns-in-Some
 returns-in-Some c =
-    place_found (λ (m : MemberOf). same_name m.zone c.args.zone.now) c.args.self.now.members c.in-Some.place c.member.result (sym c.in-Some.ensures) c.member.ensures
+    place_found (λ (m : MemberOf). same_name m.zone c.args.zone.now) c.args.self.now.members c.in-Some.place
+    c.member.result (sym c.in-Some.ensures) c.member.ensures
 
 pub returns-in-None : goal.returns-in-None
-returns-in-None c = place_missing (λ (m : MemberOf). same_name m.zone c.args.zone.now) c.args.self.now.members (sym c.in-None.ensures)
+returns-in-None c =
+    place_missing (λ (m : MemberOf). same_name m.zone c.args.zone.now) c.args.self.now.members (sym c.in-None.ensures)

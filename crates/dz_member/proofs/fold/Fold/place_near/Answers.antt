@@ -12,9 +12,12 @@ use Rattle.dz_member.proofs.KeptLemmas.{zones_rise, place_shown}
 use Rattle.dz_member.proofs.fold.Fold.place_near.Goals as goal
 
 -- a member of the zone is the only one
-place_here : (ms : List Membership) (i : ℕ) (m : Membership) (zone : Name) → slice_get ms i ≡ Some m → m.zone ≡ zone → IsStrictlySortedBy canonical_order (map (λ (m : Membership). m.zone) ms) → Some i ≡ position (λ m. same_name m.zone zone) ms
+place_here : (ms : List Membership) (i : ℕ) (m : Membership) (zone : Name) → slice_get ms i ≡ Some m
+    → m.zone ≡ zone → IsStrictlySortedBy canonical_order (map (λ (m : Membership). m.zone) ms)
+    → Some i ≡ position (λ m. same_name m.zone zone) ms
 place_here ms i m zone e same up =
-    place_at canonical_total (λ (m : Membership). m.zone) (λ m. same_name m.zone zone) zone (λ m. same_ties m.zone zone) ms i m (slice_get_within ms i m e) up
+    place_at canonical_total (λ (m : Membership). m.zone) (λ m. same_name m.zone zone) zone
+    (λ m. same_ties m.zone zone) ms i m (slice_get_within ms i m e) up
     (λ d. rw (get_or_from_slice_get ms i m d e, same) (tied_itself canonical_total zone))
 
 pub returns-then-same : goal.returns-then-same
@@ -24,5 +27,6 @@ returns-then-same c =
     let inside : c.args.likely < length ms = omega (arith, c.if-likely-len.true, c.len.ensures) in
     let there = slice_get_read ms (length ms) c.args.likely c.index.result.now refl inside c.index.ensures in
     let same = (same_decides c.index.result.now.zone zone).0 (sym c.same.ensures.value ∙ c.if-same.true) in
-    let here = place_here ms c.args.likely c.index.result.now zone there same (zones_rise _ _ c.self.invariant.fold.rises) in
+    let here =
+    place_here ms c.args.likely c.index.result.now zone there same (zones_rise _ _ c.self.invariant.fold.rises) in
     rw (← c.self.view_is) (here ∙ sym (place_shown c.self.inside.config.value ms zone))

@@ -9,6 +9,9 @@ returns c =
     let catalogs = c.self.inside.config.value in
     let ms = c.self.inside.members.items in
     let m = c.index.result.now in
-    let same : c.catalogs.result.now ≡ catalogs = c.catalogs.ensures.catalogs ∙ ap (λ (f : FoldOf). f.config) (sym c.self.view_is) in
-    let at = at_place catalogs ms c.args.place m c.self.invariant.numbered (rw (← c.self.view_is) at c.requires) c.index.ensures in
-    rw (← c.self.view_is, c.policy_of.ensures, same) (policy_at catalogs m c.self.invariant.fold.allowed at.numbered ms c.args.place at.is)
+    let same : c.catalogs.result.now ≡ catalogs =
+    c.catalogs.ensures.catalogs ∙ ap (λ (f : FoldOf). f.config) (sym c.self.view_is) in
+    let at = at_place catalogs ms c.args.place m c.self.invariant.numbered
+    (rw (← c.self.view_is) at c.requires) c.index.ensures in
+    rw (← c.self.view_is, c.policy_of.ensures, same)
+    (policy_at catalogs m c.self.invariant.fold.allowed at.numbered ms c.args.place at.is)

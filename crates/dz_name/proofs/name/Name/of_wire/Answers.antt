@@ -9,8 +9,10 @@ write_at-requires c = omega (arith, ap length c.requires.wire_is, c.requires.nam
 
 pub invariant_of-result : goal.invariant_of-result
 invariant_of-result c =
-    kept_from (labels_of c.args.wire.now) _ _ c.requires.name (ancestor_padded _ _ _ c.requires.wire_is c.write_at.ensures) (ap length c.requires.wire_is)
+    kept_from (labels_of c.args.wire.now) _ _ c.requires.name
+    (ancestor_padded _ _ _ c.requires.wire_is c.write_at.ensures) (ap length c.requires.wire_is)
 
 pub returns : goal.returns
 returns c =
-    view_from (labels_of c.args.wire.now) _ _ c.requires.name (ancestor_padded _ _ _ c.requires.wire_is c.write_at.ensures) (ap length c.requires.wire_is)
+    view_from (labels_of c.args.wire.now) _ _ c.requires.name
+    (ancestor_padded _ _ _ c.requires.wire_is c.write_at.ensures) (ap length c.requires.wire_is)

@@ -13,7 +13,8 @@ pub returns-clause-once : goal.returns-clause-once
 returns-clause-once g c = rw (← c.octets.ensures) (λ other reads. reads_once _ _ _ _ reads c.read_name.ensures.reads)
 
 pub returns-clause-written : goal.returns-clause-written
-returns-clause-written g c = rw (← c.octets.ensures) (λ end labels is. sym (name_at_is _ _ _ c.read_name.ensures.reads) ∙ name_at_between _ _ _ _ is)
+returns-clause-written g c = rw (← c.octets.ensures)
+    (λ end labels is. sym (name_at_is _ _ _ c.read_name.ensures.reads) ∙ name_at_between _ _ _ _ is)
 
 pub returns-clause-most : goal.returns-clause-most
 returns-clause-most g c = c.read_name.ensures.most (rw c.octets.ensures c.landings.ensures.ends)

@@ -11,7 +11,8 @@ invariant-labels l = record {
   right : l.right ≤ length l.other;
   mine : AreStarts l.self (length l.self) l.mine;
   theirs : AreStarts l.other (length l.other) l.theirs;
-  order : slice_cmp (slice_cmp nat_cmp) (reverse (take l.left l.self)) (reverse (take l.right l.other)) ≡ canonical_order l.self l.other;
+  order : slice_cmp (slice_cmp nat_cmp) (reverse (take l.left l.self)) (reverse (take l.right l.other))
+      ≡ canonical_order l.self l.other;
 }
 
 abbrev pub decreases-labels : goal.decreases-labels

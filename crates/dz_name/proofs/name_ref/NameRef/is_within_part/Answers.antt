@@ -16,7 +16,8 @@ labels-preserved c =
 
 pub returns-clause-value : goal.returns-clause-value
 returns-clause-value c =
-    left_is _ _ _ _ _ c.labels.invariant c.behind-suffix.ensures.name c.behind-suffix.ensures.wire (omega (arith, c.labels-test.false)) c.eq.ensures
+    left_is _ _ _ _ _ c.labels.invariant c.behind-suffix.ensures.name c.behind-suffix.ensures.wire
+    (omega (arith, c.labels-test.false)) c.eq.ensures
 
 pub returns-clause-suffix : goal.returns-clause-suffix
 returns-clause-suffix c = part_within _ _ _ (returns-clause-value c)

@@ -16,10 +16,13 @@ behind_label-requires-clause-whole c = rw c.wire-wire.ensures.wire (first_in _)
 
 pub of_wire-requires : goal.of_wire-requires
 of_wire-requires c =
-    let w = parent_wire _ _ _ c.wire-wire.ensures.name c.wire-wire.ensures.wire c.if-wire-eq0.false c.behind_label.ensures in
+    let w = parent_wire _ _ _ c.wire-wire.ensures.name c.wire-wire.ensures.wire c.if-wire-eq0.false
+    c.behind_label.ensures in
     is_wire _ _ w.name w.wire
 
 pub returns : goal.returns
 returns c =
-    let w = parent_wire _ _ _ c.wire-wire.ensures.name c.wire-wire.ensures.wire c.if-wire-eq0.false c.behind_label.ensures in
-    ap Some (c.of_wire.ensures ∙ labels_of-wire _ _ w.name w.wire) ∙ parent_some _ _ c.wire-wire.ensures.name c.wire-wire.ensures.wire c.if-wire-eq0.false
+    let w = parent_wire _ _ _ c.wire-wire.ensures.name c.wire-wire.ensures.wire c.if-wire-eq0.false
+    c.behind_label.ensures in
+    ap Some (c.of_wire.ensures ∙ labels_of-wire _ _ w.name w.wire)
+    ∙ parent_some _ _ c.wire-wire.ensures.name c.wire-wire.ensures.wire c.if-wire-eq0.false

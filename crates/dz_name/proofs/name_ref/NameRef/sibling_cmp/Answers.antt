@@ -24,4 +24,7 @@ label_at-requires-then-eq-clause-whole c = rw c.wire-theirs.ensures.wire (omega 
 
 pub returns-then-eq : goal.returns-then-eq
 returns-then-eq c =
-    c.cmp.ensures ∙ sibling_wires _ _ _ _ _ _ _ _ _ c.wire-mine.ensures.name c.wire-theirs.ensures.name c.wire-mine.ensures.wire c.wire-theirs.ensures.wire c.if-mine-eq0.false c.if-theirs-eq0.false c.behind_label.ensures c.behind_label-2.ensures c.label_at.ensures c.label_at-then-eq.ensures c.eq.ensures c.if-eq.true
+    c.cmp.ensures
+    ∙ sibling_wires _ _ _ _ _ _ _ _ _ c.wire-mine.ensures.name c.wire-theirs.ensures.name c.wire-mine.ensures.wire
+    c.wire-theirs.ensures.wire c.if-mine-eq0.false c.if-theirs-eq0.false c.behind_label.ensures
+    c.behind_label-2.ensures c.label_at.ensures c.label_at-then-eq.ensures c.eq.ensures c.if-eq.true

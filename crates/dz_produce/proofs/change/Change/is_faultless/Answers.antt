@@ -5,4 +5,5 @@ pub returns-then-self-le-SURE-clause-good : goal.returns-then-self-le-SURE-claus
 returns-then-self-le-SURE-clause-good c =
     let newer = rw (← c.self.view_is) at c.requires.newer in
     let labels = rw (← c.self.view_is) at c.requires.labels in
-    rw (← c.self.view_is) (sure c.self.inside.version c.args.serial c.self.inside.octets c.self.inside.dropped.items c.self.invariant.known c.self.invariant.octets c.if-self-le-SURE.true newer labels)
+    rw (← c.self.view_is) (sure c.self.inside.version c.args.serial c.self.inside.octets c.self.inside.dropped.items
+    c.self.invariant.known c.self.invariant.octets c.if-self-le-SURE.true newer labels)

@@ -14,4 +14,5 @@ returns-then-self-le-SURE c =
     let holds = sym (c.self.invariant.stays c.args.label) ∙ (sym c.contains.ensures ∙ c.if-not-contains.false) in
     let with_label = labels_with c.self.inside.version c.self.inside.dropped.items c.args.label labels holds in
     rw (← c.self.view_is)
-    (sure c.self.inside.version c.args.serial c.self.inside.octets (c.self.inside.dropped.items ++ c.args.label ∷ []) c.self.invariant.known c.self.invariant.octets c.if-self-le-SURE.true newer with_label)
+    (sure c.self.inside.version c.args.serial c.self.inside.octets (c.self.inside.dropped.items ++ c.args.label ∷ [])
+    c.self.invariant.known c.self.invariant.octets c.if-self-le-SURE.true newer with_label)

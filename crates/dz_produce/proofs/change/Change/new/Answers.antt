@@ -17,6 +17,7 @@ invariant_of-result c =
     record {
       known = record { catalog = c.requires; held = rw again at c.octets_of-octets.ensures.held };
       lists = search rules;
-      stays = λ label. rw c.new.ensures.items (c.in_ok-left.ensures label ∙ (ap (list_any (λ n. same_label n.label label)) nodes ∙ sym (and_true (is_listed old label))));
+      stays = λ label. rw c.new.ensures.items (c.in_ok-left.ensures label
+          ∙ (ap (list_any (λ n. same_label n.label label)) nodes ∙ sym (and_true (is_listed old label))));
       octets = search rules;
     }

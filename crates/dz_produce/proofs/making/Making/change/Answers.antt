@@ -7,7 +7,11 @@ pub invariant_of-self : goal.invariant_of-self
 invariant_of-self c =
     let begins = rw c.in-Some.is at c.in_ok-change_of.ensures in
     let at = c.in_ok-version.ensures.apex ∙ sym (ap (λ (m : Making). m.apex) c.self.view_is) in
-    record { sound = begun_sound c.args.self.now c.self.inside.apex c.args.serial c.in_ok-version.field-0.version c.in-Some.change c.clear.new.self.items at begins c.clear.ensures.items; drafted = λ x e. absurd (cc) }
+    record {
+      sound = begun_sound c.args.self.now c.self.inside.apex c.args.serial c.in_ok-version.field-0.version
+          c.in-Some.change c.clear.new.self.items at begins c.clear.ensures.items;
+      drafted = λ x e. absurd (cc);
+    }
 
 pub returns-in-None-clause-good : goal.returns-in-None-clause-good
 returns-in-None-clause-good c =
@@ -17,4 +21,5 @@ returns-in-None-clause-good c =
 pub returns-in-Some-clause-good : goal.returns-in-Some-clause-good
 returns-in-Some-clause-good c =
     let begins = rw c.in-Some.is at c.in_ok-change_of.ensures in
-    begun_good c.args.self.now c.args.serial c.in_ok-version.field-0.version c.in-Some.change c.in_ok-version.ensures.made.version_is begins
+    begun_good c.args.self.now c.args.serial c.in_ok-version.field-0.version c.in-Some.change
+    c.in_ok-version.ensures.made.version_is begins

@@ -8,11 +8,15 @@ returns-then-self-clause-settled g c = rw (← c.self.view_is) (unsettled _ c.if
 
 pub returns-in-Some-clause-settled : goal.returns-in-Some-clause-settled
 returns-in-Some-clause-settled g c =
-    rw (← c.self.view_is) (settled_none _ c.args.job c.args.now c.in-Some.absent c.if-self.false c.in-Some.ensures.absent (λ fly. let none : Some c.in-Some.absent ≡ None = c.in-Some.ensures.none.1 fly in absurd (cc none)) _)
+    rw (← c.self.view_is)
+    (settled_none _ c.args.job c.args.now c.in-Some.absent c.if-self.false c.in-Some.ensures.absent
+    (λ fly. let none : Some c.in-Some.absent ≡ None = c.in-Some.ensures.none.1 fly in absurd (cc none)) _)
 
 pub returns-in-Err-clause-settled : goal.returns-in-Err-clause-settled
 returns-in-Err-clause-settled g c =
-    starved_so c.args.self.now c.starve.new.self c.args.job _ c.args.now c.starve.result.0 c.starve.result.1 (ap (λ (h : Held). h.failed) (sym c.self.view_is) ∙ c.if-self.false) (rw (← c.self.view_is) (c.in-None.ensures.none.0 refl)) c.starve.ensures.settled
+    starved_so c.args.self.now c.starve.new.self c.args.job _ c.args.now c.starve.result.0 c.starve.result.1
+    (ap (λ (h : Held). h.failed) (sym c.self.view_is) ∙ c.if-self.false)
+    (rw (← c.self.view_is) (c.in-None.ensures.none.0 refl)) c.starve.ensures.settled
 
 pub returns-in-Err-clause-used : goal.returns-in-Err-clause-used
 returns-in-Err-clause-used g c = λ some. absurd (some c.starve.ensures.settled.verdict)

@@ -4,15 +4,27 @@ use Rattle.dz_record.proofs.rr.Rr.kind_and_class.Goals as goal
 
 pub split_at-requires : goal.split_at-requires
 split_at-requires c =
-    let o : Opened c.args.self.now c.octets.result.now c.owner_size.result = record { is = c.octets.ensures.valid; octets_are = c.octets.ensures.octets; owner_len_is = c.owner_size.ensures.size } in
+    let o : Opened c.args.self.now c.octets.result.now c.owner_size.result = record {
+      is = c.octets.ensures.valid;
+      octets_are = c.octets.ensures.octets;
+      owner_len_is = c.owner_size.ensures.size;
+    } in
     omega (arith, opened_long _ _ _ o)
 
 pub split_at-requires-2 : goal.split_at-requires-2
 split_at-requires-2 c =
-    let o : Opened c.args.self.now c.octets.result.now c.owner_size.result = record { is = c.octets.ensures.valid; octets_are = c.octets.ensures.octets; owner_len_is = c.owner_size.ensures.size } in
+    let o : Opened c.args.self.now c.octets.result.now c.owner_size.result = record {
+      is = c.octets.ensures.valid;
+      octets_are = c.octets.ensures.octets;
+      owner_len_is = c.owner_size.ensures.size;
+    } in
     omega (arith, opened_long _ _ _ o, c.split_at.ensures.back_len)
 
 pub returns : goal.returns
 returns c =
-    let o : Opened c.args.self.now c.octets.result.now c.owner_size.result = record { is = c.octets.ensures.valid; octets_are = c.octets.ensures.octets; owner_len_is = c.owner_size.ensures.size } in
+    let o : Opened c.args.self.now c.octets.result.now c.owner_size.result = record {
+      is = c.octets.ensures.valid;
+      octets_are = c.octets.ensures.octets;
+      owner_len_is = c.owner_size.ensures.size;
+    } in
     opened_kind_and_class _ _ _ _ _ o c.split_at.ensures.back c.split_at-2.ensures.front

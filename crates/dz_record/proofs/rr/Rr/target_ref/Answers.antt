@@ -10,4 +10,5 @@ of_wire-requires c =
 
 pub returns : goal.returns
 returns c =
-    target_is c.args.self.now _ (rw c.kind.ensures.kind at (sym c.if-not-has_target.ensures)) (rw c.rdata.ensures.rdata at c.of_wire.ensures)
+    target_is c.args.self.now _ (rw c.kind.ensures.kind at (sym c.if-not-has_target.ensures))
+    (rw c.rdata.ensures.rdata at c.of_wire.ensures)

@@ -7,4 +7,5 @@ use Rattle.dz_reply.proofs.authority.Authority.signed.Goals as goal
 pub returns : goal.returns
 returns c =
     rw c.as_slice.ensures.value at c.signed_all.ensures
-    ∙ (all_shown (own_signed c.args.version.now.records) c.self.inside.rrsets.items ∙ ap (flat_map (own_signed c.args.version.now.records)) c.self.view_is)
+    ∙ (all_shown (own_signed c.args.version.now.records) c.self.inside.rrsets.items
+    ∙ ap (flat_map (own_signed c.args.version.now.records)) c.self.view_is)

@@ -7,5 +7,7 @@ use Rattle.dz_request.proofs.frame.Frame.begin.Goals as goal
 
 pub returns : goal.returns
 returns c =
-    opening_by (is_tcp c.args.self.now.transport) (query_of c.args.self.now.request.now c.args.self.now.asked.now) c.args.heading.now (header_octets c.reply_header-header.result) _ _ _
-    (rw c.opt_count.ensures.value at c.reply_header-header.ensures) (c.begin.ensures.writing ∙ ap empty c.limit_of.ensures.value) c.put_header.ensures (rw c.question_in.ensures at c.put.ensures.writing)
+    opening_by (is_tcp c.args.self.now.transport) (query_of c.args.self.now.request.now c.args.self.now.asked.now)
+    c.args.heading.now (header_octets c.reply_header-header.result) _ _ _
+    (rw c.opt_count.ensures.value at c.reply_header-header.ensures) (c.begin.ensures.writing
+    ∙ ap empty c.limit_of.ensures.value) c.put_header.ensures (rw c.question_in.ensures at c.put.ensures.writing)

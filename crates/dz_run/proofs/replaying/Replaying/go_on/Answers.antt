@@ -5,7 +5,8 @@ use Rattle.dz_run.proofs.KeptLemmas.{run_done, run_stopped, run_same, runs_core,
 use Rattle.dz_run.proofs.replaying.Replaying.go_on.Goals as goal
 
 pub returns-in-Err : goal.returns-in-Err
-returns-in-Err g c d is = run_stopped c.args.self.now c.run_event.new.self _ c.args.number c.in-Err.error (c.in-Err.ensures d is c.args.number)
+returns-in-Err g c d is = run_stopped c.args.self.now c.run_event.new.self _ c.args.number c.in-Err.error
+    (c.in-Err.ensures d is c.args.number)
 
 pub returns-in-Done : goal.returns-in-Done
 returns-in-Done g c d is =
@@ -23,4 +24,6 @@ pub returns : goal.returns
 returns g c d is =
     let ran = c.in-Ok.ensures d is c.args.number in
     let same = run_same c.args.self.now c.run_event.new.self _ c.args.number (rw c.in-Bad.is at ran) in
-    turned_from c.args.self.now c.run_event.new.self c.end_badly.new.self _ _ c.end_badly.result (same.0 ∙ ap (λ (x : Shown). bad_line x.state c.args.number) (sym same.1)) (ap (λ (x : Shown). x.written) same.1) (ap (λ (x : Shown). x.faults) same.1) c.end_badly.ensures
+    turned_from c.args.self.now c.run_event.new.self c.end_badly.new.self _ _ c.end_badly.result
+    (same.0 ∙ ap (λ (x : Shown). bad_line x.state c.args.number) (sym same.1)) (ap (λ (x : Shown). x.written) same.1)
+    (ap (λ (x : Shown). x.faults) same.1) c.end_badly.ensures

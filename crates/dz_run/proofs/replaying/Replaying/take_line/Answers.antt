@@ -8,4 +8,5 @@ pub take_read-requires-clause-timed : goal.take_read-requires-clause-timed
 take_read-requires-clause-timed g c = timed c.args.line.now c.in-Ok.line c.in-Ok.ensures
 
 pub returns-in-OutOfMemory : goal.returns-in-OutOfMemory
-returns-in-OutOfMemory g c = turned_wanting c.args.self.now c.args.self.now _ refl refl (turn_leads c.args.self.now.state c.args.number c.args.line.now)
+returns-in-OutOfMemory g c = turned_wanting c.args.self.now c.args.self.now _ refl refl
+    (turn_leads c.args.self.now.state c.args.number c.args.line.now)

@@ -10,4 +10,5 @@ pub returns-clause-cause : goal.returns-clause-cause
 returns-clause-cause g c = ended_cause c.args.self.now c.end_at.new.self _ c.end_at.result c.end_at.ensures
 
 pub returns-clause-leads : goal.returns-clause-leads
-returns-clause-leads g c = ended_leads c.args.self.now c.end_at.new.self (replay_too_long c.args.self.now.state c.args.number) _ c.end_at.result refl c.end_at.ensures
+returns-clause-leads g c = ended_leads c.args.self.now c.end_at.new.self
+    (replay_too_long c.args.self.now.state c.args.number) _ c.end_at.result refl c.end_at.ensures

@@ -3,13 +3,16 @@ use Rattle.dz_run.proofs.LeadLemmas.{turn_leads}
 use Rattle.dz_run.proofs.replaying.ReplayingScript.turn.Goals as goal
 
 pub returns-else-self-clause-done : goal.returns-else-self-clause-done
-returns-else-self-clause-done g c = turned_done c.args.self.now c.take_line.new.self _ c.take_line.result c.take_line.ensures
+returns-else-self-clause-done g c =
+    turned_done c.args.self.now c.take_line.new.self _ c.take_line.result c.take_line.ensures
 
 pub returns-else-self-clause-cause : goal.returns-else-self-clause-cause
-returns-else-self-clause-cause g c = turned_cause c.args.self.now c.take_line.new.self _ c.take_line.result c.take_line.ensures
+returns-else-self-clause-cause g c =
+    turned_cause c.args.self.now c.take_line.new.self _ c.take_line.result c.take_line.ensures
 
 pub returns-then-self-clause-leads : goal.returns-then-self-clause-leads
 returns-then-self-clause-leads g c = turn_leads c.args.self.now.state c.args.number c.args.line.now
 
 pub returns-else-self-clause-leads : goal.returns-else-self-clause-leads
-returns-else-self-clause-leads g c = turned_leads c.args.self.now c.take_line.new.self _ c.take_line.result c.take_line.ensures
+returns-else-self-clause-leads g c =
+    turned_leads c.args.self.now c.take_line.new.self _ c.take_line.result c.take_line.ensures

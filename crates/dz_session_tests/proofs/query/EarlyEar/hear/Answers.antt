@@ -16,4 +16,5 @@ pub returns-then-count-eq0-clause-heard : goal.returns-then-count-eq0-clause-hea
 returns-then-count-eq0-clause-heard g c =
     let list = c.args.reading.now.list in
     let none : list ≡ [] = nil_from_length list (omega (arith, c.count.ensures.count, c.if-count-eq0.true)) in
-    sym (ap (λ list. heard_at list c.args._peer.now c.args._zone.now) none ∙ nothing_served c.args._peer.now c.args._zone.now)
+    sym (ap (λ list. heard_at list c.args._peer.now c.args._zone.now) none
+    ∙ nothing_served c.args._peer.now c.args._zone.now)

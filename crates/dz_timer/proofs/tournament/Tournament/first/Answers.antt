@@ -6,10 +6,12 @@ pub returns-clause-least : goal.returns-clause-least
 returns-clause-least c =
     let nodes = c.self.inside.nodes.items in
     let answer = first_node nodes c.self.inside.count c.self.invariant (omega arith) in
-    rw (← c.self.view_is, first_read nodes c.index.result.now (omega (arith, c.self.invariant.size)) c.index.ensures) answer.least
+    rw (← c.self.view_is, first_read nodes c.index.result.now (omega (arith, c.self.invariant.size)) c.index.ensures)
+    answer.least
 
 pub returns-clause-moment : goal.returns-clause-moment
 returns-clause-moment c =
     let nodes = c.self.inside.nodes.items in
     let answer = first_node nodes c.self.inside.count c.self.invariant (omega arith) in
-    rw (← c.self.view_is, first_read nodes c.index.result.now (omega (arith, c.self.invariant.size)) c.index.ensures) answer.moment
+    rw (← c.self.view_is, first_read nodes c.index.result.now (omega (arith, c.self.invariant.size)) c.index.ensures)
+    answer.moment

@@ -6,6 +6,8 @@ use Rattle.dz_tsig.proofs.mac.MacHasher.start.Goals as goal
 
 pub returns : goal.returns
 returns c = record {
-  inner = subst (λ m. Holds256 c.update.new.self m) (c.as_slice.ensures ∙ (c.padded.ensures ∙ sym (append-nil (padded 54 c.args.key.now)))) (c.update.ensures [] c.new-inner.ensures);
-  outer = subst (λ m. Holds256 c.update-2.new.self m) (c.as_slice-2.ensures ∙ c.padded-2.ensures) (c.update-2.ensures [] c.new-outer.ensures);
+  inner = subst (λ m. Holds256 c.update.new.self m) (c.as_slice.ensures
+      ∙ (c.padded.ensures ∙ sym (append-nil (padded 54 c.args.key.now)))) (c.update.ensures [] c.new-inner.ensures);
+  outer = subst (λ m. Holds256 c.update-2.new.self m) (c.as_slice-2.ensures ∙ c.padded-2.ensures)
+      (c.update-2.ensures [] c.new-outer.ensures);
 }

@@ -5,4 +5,6 @@ use Rattle.dz_zone.proofs.KindsLemmas.{dnames_counted}
 use Rattle.dz_zone.proofs.version.Version.has_dnames.Goals as goal
 
 pub returns-clause-dnames : goal.returns-clause-dnames
-returns-clause-dnames c = dnames_counted (zone_in c.self.inside.records.items) c.self.inside.kinds c.self.invariant.kinds_are ∙ ap has_dnames c.self.view_is
+returns-clause-dnames c =
+    dnames_counted (zone_in c.self.inside.records.items) c.self.inside.kinds c.self.invariant.kinds_are
+    ∙ ap has_dnames c.self.view_is

@@ -5,4 +5,6 @@ use Rattle.dz_zone.proofs.KindsLemmas.{secure_counted}
 use Rattle.dz_zone.proofs.version.Version.is_secure.Goals as goal
 
 pub returns-clause-secure : goal.returns-clause-secure
-returns-clause-secure c = secure_counted (zone_in c.self.inside.records.items) c.self.inside.kinds c.self.invariant.kinds_are ∙ ap is_secure c.self.view_is
+returns-clause-secure c =
+    secure_counted (zone_in c.self.inside.records.items) c.self.inside.kinds c.self.invariant.kinds_are
+    ∙ ap is_secure c.self.view_is
