@@ -116,7 +116,8 @@ fn write_next(version: &Version, id: u16, stage: Stage, out: &mut [u8]) -> Optio
 fn write_first(version: &Version, id: u16, out: &mut [u8]) -> (usize, Stage)
     requires room { length out.old ≡ MESSAGE_OCTETS }
     requires fit { IsOutgoing version.now }
-    ensures { Gives (messages_of id version.now) (left_of version.now id result.1) result.0 out.new }
+    ensures { Gives (messages_of id version.now) (left_of version.now id result.1) result.0
+        out.new }
 {
     let question = Question {
         name: version.apex().to_name(),

@@ -191,7 +191,8 @@ fn with_run<L: Ledger>(
     requires some { begin < end }
     requires within { end ≤ total other.now }
     requires few { total index + (end - begin) ≤ OWNERS }
-    ensures { (owners others : List Name) (d : Name) → IsIndex owners index → IsIndex others other.now
+    ensures { (owners others : List Name) (d : Name)
+        → IsIndex owners index → IsIndex others other.now
         → is_gt (order_behind owners (slice_index_or others begin d)) ≡ false
         → IfOk result (IsIndex (owners ++ slice_range others begin end)) }
 {

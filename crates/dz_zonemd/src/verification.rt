@@ -142,7 +142,8 @@ fn has_digest<L: Ledger>(
     steps: &mut Steps<L>,
 ) -> bool
     requires { IsStrictlySortedBy record_order records.now }
-    ensures value { result ≡ bytes_eq digest.now (hash_by algorithm (digested apex.now records.now)) }
+    ensures value { result
+        ≡ bytes_eq digest.now (hash_by algorithm (digested apex.now records.now)) }
     ensures cost { steps.new ≡ steps.old + 1 }
 {
     match algorithm {
