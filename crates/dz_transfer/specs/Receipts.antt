@@ -22,8 +22,10 @@ use Rattle.dz_fetch.specs.Fetching.{IsFetchedOver, IsDialledFor, ShowsDial, link
 use Rattle.dz_transfer.specs.declared.report.Report.{Report}
 use Rattle.dz_transfer.specs.declared.report.Report.TheVariants as report
 
--- ---- what is reported of a job that ended: of its verdict, of its failure for a cause, and where it is no job of the
--- core or the log has failed
+-- ---- reports
+
+-- what is reported of a job that ended: of its verdict, of its failure for a cause, and where it is no job of the core
+-- or the log has failed
 abbrev pub unmade_report : Unmade → Report
 unmade_report unmade.LogFault = report.LogFault
 unmade_report (unmade.NotInFlight absent) = report.NotInFlight absent
