@@ -139,7 +139,8 @@ fn labels_in(alloc: Global, nodes: &[Node]) -> Result<BTreeSet<Label>, AllocErro
 /// Whether each of the labels is that of a node.
 fn are_listed(alloc: Global, nodes: &[Node], dropped: &[Label]) -> Result<bool, AllocError>
     ensures { IfOk result (λ all. all
-        ≡ list_all (λ label. list_any (λ node. same_label node.label label) nodes.now) dropped.now) }
+        ≡ list_all (λ label. list_any (λ node. same_label node.label label) nodes.now)
+        dropped.now) }
 {
     let labels = labels_in(alloc, nodes)?;
     Ok(dropped.iter().all(|label| labels.contains(label)))

@@ -133,8 +133,8 @@ fn reply_slot(exchange: &Exchange<'_>, slot: &Slot, asked: &Asked, writer: &mut 
     ensures reply { IsReply result writer.new.writing
         (written (octets_of (is_tcp exchange.now.transport)
         (query_of exchange.now.octets.now asked.now)
-        (at_slot (asks_dnssec asked.now.edns) (Some slot.now) exchange.now.moment asked.now.question.name
-        asked.now.question.kind))) }
+        (at_slot (asks_dnssec asked.now.edns) (Some slot.now) exchange.now.moment
+        asked.now.question.name asked.now.question.kind))) }
     ensures held { AnswersHeld (Some slot.now) exchange.now.moment }
     ensures size { FitsBuffer result }
 {
