@@ -38,10 +38,7 @@ fn name_from(text: &str) -> Result<Name, ConfigFault>
 fn name_at(table: &Table) -> Result<Name, ConfigFault>
     ensures { result ≡ read_in name_from (text_at (codes "name") (table_view table.now)) }
 {
-    match text_at(table, "name") {
-        Ok(text) => name_from(text),
-        Err(fault) => Err(fault),
-    }
+    name_from(text_at(table, "name")?)
 }
 
 /// The policy of a text.
@@ -58,10 +55,7 @@ fn policy_from(text: &str) -> Result<Policy, ConfigFault>
 fn policy_at(table: &Table) -> Result<Policy, ConfigFault>
     ensures { result ≡ read_in policy_from (text_at (codes "policy") (table_view table.now)) }
 {
-    match text_at(table, "policy") {
-        Ok(text) => policy_from(text),
-        Err(fault) => Err(fault),
-    }
+    policy_from(text_at(table, "policy")?)
 }
 
 /// The peer of a text.
@@ -78,20 +72,14 @@ fn peer_from(text: &str) -> Result<Peer, ConfigFault>
 fn listen_at(table: &Table) -> Result<Peer, ConfigFault>
     ensures { result ≡ read_in peer_from (text_at (codes "listen") (table_view table.now)) }
 {
-    match text_at(table, "listen") {
-        Ok(text) => peer_from(text),
-        Err(fault) => Err(fault),
-    }
+    peer_from(text_at(table, "listen")?)
 }
 
 /// One of the primaries.
 fn primary_of(value: &Value) -> Result<Peer, ConfigFault>
     ensures { result ≡ primary_of (view value.now) }
 {
-    match text_of(value) {
-        Ok(text) => peer_from(text),
-        Err(fault) => Err(fault),
-    }
+    peer_from(text_of(value)?)
 }
 
 /// The primaries of these values.
@@ -139,14 +127,12 @@ fn group_from(
     ensures { result ≡ made (λ p. record { word = p.1.0; policy = p.1.1.0; primaries = p.1.1.1 })
         parts }
 {
-    match parts {
-        Ok(((), (word, (policy, primaries)))) => Ok(GroupSettings {
-            word,
-            policy,
-            primaries,
-        }),
-        Err(fault) => Err(fault),
-    }
+    let ((), (word, (policy, primaries))) = parts?;
+    Ok(GroupSettings {
+        word,
+        policy,
+        primaries,
+    })
 }
 
 /// The group of a table.
@@ -250,20 +236,15 @@ fn secret_at(alloc: Global, table: &Table) -> Result<Result<Secret, ConfigFault>
 fn key_name_at(table: &Table) -> Result<Name, ConfigFault>
     ensures { result ≡ read_in name_from (text_at (codes "key") (table_view table.now)) }
 {
-    match text_at(table, "key") {
-        Ok(text) => name_from(text),
-        Err(fault) => Err(fault),
-    }
+    name_from(text_at(table, "key")?)
 }
 
 /// A key of its parts.
 fn key_from(parts: Result<(Name, Secret), ConfigFault>) -> Result<Option<Key>, ConfigFault>
     ensures { result ≡ made Some (made (λ p. record { name = p.0; secret = p.1 }) parts) }
 {
-    match parts {
-        Ok((name, secret)) => Ok(Some(Key { name, secret })),
-        Err(fault) => Err(fault),
-    }
+    let (name, secret) = parts?;
+    Ok(Some(Key { name, secret }))
 }
 
 /// The key of a table that has a name or a secret of one.
@@ -299,16 +280,14 @@ fn catalog_from(
         })
         parts }
 {
-    match parts {
-        Ok(((), (name, (policy, (primaries, (groups, key)))))) => Ok(CatalogSettings {
-            name,
-            policy,
-            primaries,
-            groups,
-            key,
-        }),
-        Err(fault) => Err(fault),
-    }
+    let ((), (name, (policy, (primaries, (groups, key))))) = parts?;
+    Ok(CatalogSettings {
+        name,
+        policy,
+        primaries,
+        groups,
+        key,
+    })
 }
 
 /// The catalog of a table.
@@ -386,10 +365,7 @@ fn host_from(text: &str) -> Result<Peer, ConfigFault>
 fn downstream_host(value: &Value) -> Result<Peer, ConfigFault>
     ensures { result ≡ downstream_host (view value.now) }
 {
-    match text_of(value) {
-        Ok(text) => host_from(text),
-        Err(fault) => Err(fault),
-    }
+    host_from(text_of(value)?)
 }
 
 /// The hosts of these values, however many.

@@ -64,10 +64,7 @@ fn values_of(value: &Value) -> Result<&[Value], ConfigFault>
     ensures { made (λ values. map view values.now) result
         ≡ made list_of (wanted (as_array (view value.now))) }
 {
-    match array_of(value) {
-        Ok(array) => Ok(array.as_slice()),
-        Err(fault) => Err(fault),
-    }
+    Ok(array_of(value)?.as_slice())
 }
 
 /// The values of the array at a key.

@@ -115,10 +115,10 @@ impl<'a, K: Sink> Script for ProduceScript<'a, K> {
     fn too_long(&mut self, alloc: Global, number: u64) -> Result<ProduceEnd, TurnError> {
         match bad_line(alloc, number) {
             Err(_) => Err(TurnError::OutOfMemory),
-            Ok(text) => match put(self.output, text.as_slice()) {
-                Err(error) => Err(error),
-                Ok(()) => Ok(ProduceEnd::BadInput),
-            },
+            Ok(text) => {
+                put(self.output, text.as_slice())?;
+                Ok(ProduceEnd::BadInput)
+            }
         }
     }
 
@@ -126,10 +126,10 @@ impl<'a, K: Sink> Script for ProduceScript<'a, K> {
     fn finish(&mut self, alloc: Global, number: u64) -> Result<ProduceEnd, TurnError> {
         match self.producing.finish(alloc, number) {
             Err(_) => Err(TurnError::OutOfMemory),
-            Ok((text, ending)) => match put(self.output, text.as_slice()) {
-                Err(error) => Err(error),
-                Ok(()) => Ok(ending),
-            },
+            Ok((text, ending)) => {
+                put(self.output, text.as_slice())?;
+                Ok(ending)
+            }
         }
     }
 }

@@ -44,10 +44,8 @@ pub(crate) fn answer<T: Drop>(
 ) -> Result<(T, Told), LogFault>
     ensures { result ≡ answered logged (how, told) }
 {
-    match logged {
-        Ok(()) => Ok((how, told)),
-        Err(fault) => Err(fault),
-    }
+    logged?;
+    Ok((how, told))
 }
 
 /// The same of a job that ended.

@@ -1,7 +1,7 @@
 -- What `replay` shows before and after each step of a line.
 use Rattle.std.proofs.Common.{◌≡◌, ℕ, Bool, true, false, List, [], ◌∷◌, ◌++◌, length, refl, sym, ◌∙◌, ap, arith, inl}
 use Rattle.std.proofs.Common.{inr, Option, None, Some, Result, Ok, Err}
-use Rattle.std.specs.Prelude.{is_some, ◌==◌, MatchResult, OnErr, IfSome, IsSome}
+use Rattle.std.specs.Prelude.{not, ◌==◌, MatchResult, OnErr, option_map}
 use Rattle.std.proofs.lemmas.Bool.{eqb-true, cases_Bool}
 use Rattle.dz_io.specs.Device.{Gains, GainsPrefix, HasCauseOf}
 use Rattle.dz_script.specs.Script.{Turn, goes_on, turn_text, turn_state, DoesTurn, Said, Says}
@@ -17,13 +17,17 @@ use Rattle.dz_fleet.specs.Core.{Core, opened_core}
 use Rattle.dz_desk.specs.Seen.{Book, Published, Viewed}
 use Rattle.dz_provision.specs.Held.{Held}
 use Rattle.dz_run.specs.Answering.{bad}
-use Rattle.dz_run.specs.Phase.{IsPut, IsGrouped}
-use Rattle.dz_run.specs.Replaying.{State, opening, running, list_in, IsListBefore, left, bad_line, catalog_line}
+use Rattle.dz_run.specs.Phase.{IsPut, IsGrouped, state_in}
+use Rattle.dz_run.specs.Replaying.{State, opening, running, IsListBefore, left, bad_line, catalog_line}
 use Rattle.dz_run.specs.Replaying.{group_line, grouped, grouped_with, opened_with, event_line, event_turn, line_turn}
-use Rattle.dz_run.specs.Replaying.{replay_finish}
-use Rattle.dz_run.specs.Taken.{IsTaken}
-use Rattle.dz_run.specs.Kept.{Shown, shown, state_in, IsKept, IsClosed, HasTurned, HasEnded, HasConfig, HasRun}
-use Rattle.dz_run.specs.Kept.{IsRunning, HasBook}
+use Rattle.dz_run.specs.Replaying.{replay_finish, is_opening}
+use Rattle.dz_run.specs.Taken.{IsTaken, CanStart}
+use Rattle.dz_run.specs.Kept.{Shown, shown, core_in, written_in, faults_in, IsResting, HasTurned, HasEnded, HasConfig}
+use Rattle.dz_run.specs.Kept.{HasRun, IsRunning}
+use Rattle.dz_run.specs.declared.ends.Ends.{Ends}
+use Rattle.std.specs.declared.snapshot.Snapshot.{Snapshot}
+use Rattle.dz_run.specs.declared.stage.Stage.{Stage}
+use Rattle.dz_run.specs.declared.stage.Stage.TheVariants as stage
 use Rattle.dz_run.specs.declared.answering.End.{End}
 use Rattle.dz_run.specs.declared.answering.End.TheVariants.{Done, BadInput}
 use Rattle.dz_run.specs.declared.events.Took.{Took}
@@ -105,32 +109,33 @@ ended_leads a b said text (Ok ending) state e = tt
 ended_leads a b said text (Err error) state e = state_same b.state said.state (e.1.1.1 ∙ sym state)
 
 -- ---- before the first event and after it
-fresh_kept : (publisher : Book) (last : Option Core) (p : Option Published) (v : Option Viewed)
-    (told : Option (Option Octets)) (count : Option ℕ) (over : Bool) → IsKept publisher None last p v told count over
-    → over ≡ false → last ≡ None
-fresh_kept publisher last None v told count over kept before = absurd kept
-fresh_kept publisher last (Some e) None told count over kept before = absurd kept
-fresh_kept publisher last (Some e) (Some w) None count over kept before = absurd kept
-fresh_kept publisher last (Some e) (Some w) (Some t) None over kept before = absurd kept
-fresh_kept publisher last (Some e) (Some w) (Some t) (Some n) over kept before = (kept.1 before).0
+pub opening_by : (config rest : List CatalogSettings) (core : Option Core) → is_opening (state_in config core) ≡ true
+    → state_in rest core ≡ opening rest
+opening_by config rest None opens = refl
+opening_by config rest (Some c) opens = absurd (let e : false ≡ true = opens in cc e)
 
-pub opening_by : (config : List CatalogSettings) (publisher : Book) (h : Option Held) (last : Option Core)
-    (p : Option Published) (v : Option Viewed) (told : Option (Option Octets)) (count : Option ℕ) (over : Bool)
-    → is_some h ≡ false → IsKept publisher h last p v told count over → over ≡ false
-    → state_in config h last ≡ opening config
-opening_by config publisher (Some x) last p v told count over none kept before = absurd (cc none)
-opening_by config publisher None last p v told count over none kept before =
-    rw (fresh_kept publisher last p v told count over kept before) refl
+pub running_by : (state : State) → is_opening state ≡ false → (c : Core) × (state ≡ running c)
+running_by (opening config) not_it = absurd (let e : true ≡ false = not_it in cc e)
+running_by (running c) not_it = (c, refl)
 
-pub running_by : (config : List CatalogSettings) (h : Option Held) (last : Option Core) → is_some h ≡ true
-    → (c : Core) × (state_in config h last ≡ running c)
-running_by config None last some = absurd (cc some)
-running_by config (Some x) last some = (x.core, refl)
+pub was_opening : (b x : Bool) → b ≡ not x → b ≡ false → x ≡ true
+was_opening true x is none = absurd (cc none)
+was_opening false true is none = refl
+was_opening false false is none = absurd (let e : false ≡ true = is in cc e)
 
-pub run_state : (config : List CatalogSettings) (h : Option Held) (last : Option Core) → is_some h ≡ true
-    → IsRunning (state_in config h last)
-run_state config None last some = absurd (cc some)
-run_state config (Some x) last some = tt
+pub was_running : (b x : Bool) → b ≡ not x → b ≡ true → x ≡ false
+was_running b true is some = absurd (let e : false ≡ true = sym is ∙ some in cc e)
+was_running b false is some = refl
+
+-- without a provisioner no configuration is left
+pub left_by : (config : List CatalogSettings) (core : Option Core) → is_opening (state_in config core) ≡ true
+    → state_in [] core ≡ left (state_in config core)
+left_by config None opens = refl
+left_by config (Some c) opens = refl
+
+pub left_running : (state : State) → is_opening state ≡ false → state ≡ left state
+left_running (opening config) not_it = absurd (let e : true ≡ false = not_it in cc e)
+left_running (running c) not_it = refl
 
 -- ---- lines of the configuration
 pub catalog_behind : (state : State) (c : Core) (number : ℕ) (settings : CatalogSettings) → state ≡ running c
@@ -224,15 +229,15 @@ pub runs : (state : State) (c : Core) → state ≡ running c → IsRunning stat
 runs state c is = rw is tt
 
 -- ---- an event is run
-pub run_of : (config : List CatalogSettings) (h k : Held) (last : Option Core) (told : Option (Option Octets))
-    (count : Option ℕ) (over : Bool) (turn : Turn State End) (number : ℕ) (r : Result Took TurnError) → over ≡ false
-    → IsTaken turn number h r k
-    → HasRun turn number (shown config (Some h) last told count over) r (shown config (Some k) last told count over)
+pub run_of : {K : Type 0} (J : Type 0) (held : K → Option Octets) (faults : K → ℕ) (config : List CatalogSettings)
+    (h k : Held) (turn : Turn State End) (number : ℕ) (r : Result Took TurnError) → IsTaken turn number h r k
+    → HasRun turn number (shown {K = K} {J = J} held faults config (Some (stage.Running h))) r
+    (shown {K = K} {J = J} held faults config (Some (stage.Running k)))
 unfolding IsTaken HasRun HasTurned
-run_of config h k last told count over turn number (Ok took.Done) before t = (t.does, (t.faults, λ none. before))
-run_of config h k last told count over turn number (Ok took.Bad) before t =
-    (t.0, ap (λ (x : Held). shown config (Some x) last told count over) t.1)
-run_of config h k last told count over turn number (Err error) before t = (t.part, (t.later, (t.cause, t.list)))
+run_of J held faults config h k turn number (Ok took.Done) t = (t.does, (t.faults, λ none. refl))
+run_of {K = K} J held faults config h k turn number (Ok took.Bad) t =
+    (t.0, ap (λ (x : Held). shown {K = K} {J = J} held faults config (Some (stage.Running x))) t.1)
+run_of J held faults config h k turn number (Err error) t = (t.part, (t.later, (t.cause, t.list)))
 
 pub run_done : (a b : Shown) (turn : Turn State End) (number : ℕ) → HasRun turn number a (Ok took.Done) b
     → HasTurned turn a (Ok None) b
@@ -258,26 +263,12 @@ pub runs_core : (state : State) → IsRunning state → (c : Core) × (state ≡
 runs_core (opening config) runs = absurd runs
 runs_core (running c) runs = (c, refl)
 
-pub config_some : (config : List CatalogSettings) (h : Option Held) (last : Option Core)
-    → HasConfig (state_in config h last) → (length config == 0) ≡ false
-config_some config (Some x) last some = absurd some
-config_some config None (Some c) some = absurd some
-config_some [] None None some = absurd some
-config_some (settings ∷ config) None None some = elim (cases_Bool (length (settings ∷ config) == 0))
+pub config_some : (config : List CatalogSettings) (core : Option Core) → HasConfig (state_in config core)
+    → (length config == 0) ≡ false
+config_some config (Some c) some = absurd some
+config_some [] None some = absurd some
+config_some (settings ∷ config) None some = elim (cases_Bool (length (settings ∷ config) == 0))
     [ inl t ↦ (let e = eqb-true (length (settings ∷ config)) 0 t in absurd (omega (arith, e))) | inr f ↦ f ]
-
--- before the first event the ledger is there
-pub book_there : {U : Type 0} (config : List CatalogSettings) (h : Option Held) (last : Option Core) (over : Bool)
-    (book : Option U) → HasConfig (state_in config h last) → over ≡ false → HasBook h over book → IsSome book
-book_there config (Some x) last over book some goes has = absurd some
-book_there config None last over book some goes has = has refl goes
-
--- before the first event nothing is in the list, whatever configuration is left
-pub fresh_list : (config rest : List CatalogSettings) (h : Option Held) (last : Option Core)
-    → HasConfig (state_in config h last) → list_in (state_in rest h last) ≡ []
-fresh_list config rest (Some x) last some = absurd some
-fresh_list config rest None (Some c) some = absurd some
-fresh_list config rest None None some = refl
 
 pub finish_running : (state : State) (c : Core) (number : ℕ) → state ≡ running c
     → replay_finish state number ≡ record { text = []; state = state; ending = Done }
@@ -304,45 +295,36 @@ pub said_done : (a : Shown) (said : Said State End) → said ≡ record { text =
 said_done a said is = rw is (refl, refl, gains_none a.written)
 
 -- ---- the end
-same_state : (config : List CatalogSettings) (last : Option Core)
-    → state_in config None last ≡ state_in config None last
-same_state config last = refl
-
-pub ended_kept : (config : List CatalogSettings) (last : Option Core) (before after : Option Octets) (n m : ℕ)
-    (over : Bool) (text : Octets) (r : Result End TurnError)
-    → MatchResult r (λ ending. (ending ≡ BadInput) × Gains text before after) (λ e. GainsPrefix text before after)
-    → HasCauseOf n m r stops.Write
-    → HasEnded text (shown config None last (Some before) (Some n) over) r
-    (shown config None last (Some after) (Some m) true)
+pub ended_so : {K J : Type 0} (held : K → Option Octets) (faults : K → ℕ) (config : List CatalogSettings)
+    (s : Stage K J) (ends : Ends K) (last : Option (Snapshot Core)) (text : Octets) (r : Result End TurnError)
+    (before : Option Octets) (n : ℕ) → option_map (λ s. s.value) last ≡ core_in (Some s)
+    → before ≡ written_in held (Some s) → n ≡ faults_in faults (Some s)
+    → MatchResult r (λ ending. (ending ≡ BadInput) × Gains text before (held ends.output))
+    (λ e. GainsPrefix text before (held ends.output)) → HasCauseOf n (faults ends.output) r stops.Write
+    → HasEnded text (shown held faults config (Some s)) r (shown {J = J} held faults config (Some (stage.Over ends last)))
 unfolding HasEnded
-ended_kept config last before after n m over text (Ok ending) d c = (d.0, (same_state config last, (d.1, c.kept)))
-ended_kept config last before after n m over text (Err error) d c =
-    (d, (c.later, (λ is. c.failed (cc is), same_state config last)))
+ended_so held faults config s ends last text (Ok ending) before n core written count d cause =
+    (d.0, (ap (λ (c : Option Core). state_in config c) core, (rw (← written) d.1, rw (← count) cause.kept)))
+ended_so held faults config s ends last text (Err error) before n core written count d cause = (
+  rw (← written) d,
+  (
+    rw (← count) cause.later,
+    (
+      λ is. rw (← count) (cause.failed (cc is)),
+      ap (λ (c : Option Core). state_in config c) core,
+    ),
+  ),
+)
 
-pub ended_closed : (config : List CatalogSettings) (h : Held) (last : Option Core) (after : Option Octets) (m : ℕ)
-    (over : Bool) (text : Octets) (r : Result End TurnError) (told : Option (Option Octets)) (count : Option ℕ)
-    → last ≡ Some h.core → MatchResult r (λ ending. (ending ≡ BadInput) × Gains text h.written after)
-    (λ e. GainsPrefix text h.written after) → HasCauseOf h.faults m r stops.Write
-    → (first : Option Core)
-    → HasEnded text (shown config (Some h) first told count over) r (shown config None last (Some after) (Some m) true)
-unfolding HasEnded
-ended_closed config h last after m over text (Ok ending) told count is d cause first =
-    rw is (d.0, (refl, (d.1, cause.kept)))
-ended_closed config h last after m over text (Err error) told count is d cause first =
-    rw is (d, (cause.later, (λ e. cause.failed (cc e), refl)))
+-- before the first event the list is empty
+pub start_rests : (publisher : Book) (text : Option Octets) (count : ℕ) (end : Published) (view : Viewed)
+    → CanStart publisher text count end view → IsResting publisher (opening []) end view
+start_rests publisher text count end view start =
+    record { list = start.list; staged = start.staged; own = start.own; rest = start.reading }
 
-pub end_so : (config : List CatalogSettings) (h : Option Held) (last after_last : Option Core)
-    (told : Option (Option Octets)) (count : Option ℕ) (over : Bool) (text : Octets) (r : Result End TurnError)
-    (before after : Option Octets) (n m : ℕ)
-    (publisher : Book) (p : Published) (v : Viewed)
-    → (h ≡ None → (told ≡ Some before) × ((count ≡ Some n) × (after_last ≡ last)))
-    → IfSome h (λ x. IsClosed publisher x before n p v after_last)
-    → MatchResult r (λ ending. (ending ≡ BadInput) × Gains text before after) (λ e. GainsPrefix text before after)
-    → HasCauseOf n m r stops.Write
-    → HasEnded text (shown config h last told count over) r (shown config None after_last (Some after) (Some m) true)
-end_so config None last after_last told count over text r before after n m publisher p v kept closed d c =
-    let k = kept refl in
-    rw (k.0, k.1.0, k.1.1) (ended_kept config last before after n m over text r d c)
-end_so config (Some h) last after_last told count over text r before after n m publisher p v kept closed d c =
-    ended_closed config h after_last after m over text r told count closed.last (rw closed.written at d)
-    (rw closed.faults at c) last
+-- the list is that of the core, whatever configuration was read
+pub rests_in : (publisher : Book) (config rest : List CatalogSettings) (core : Option Core) (end : Published)
+    (view : Viewed) → IsResting publisher (state_in rest core) end view
+    → IsResting publisher (state_in config core) end view
+rests_in publisher config rest None end view r = record { list = r.list; staged = r.staged; own = r.own; rest = r.rest }
+rests_in publisher config rest (Some c) end view r = r

@@ -1,16 +1,15 @@
 -- No line of `replay` leads back: the list of taken transfers only grows.
-use Rattle.std.proofs.Common.{◌≡◌, ℕ, Bool, true, List, [], ◌∷◌, ◌++◌, refl, sym, ◌∙◌, ap, Option, Some, None, Result}
+use Rattle.std.proofs.Common.{◌≡◌, ℕ, true, List, [], ◌∷◌, ◌++◌, refl, sym, ◌∙◌, ap, Option, Some, None, Result}
 use Rattle.std.proofs.Common.{Ok, Err}
 use Rattle.std.specs.Prelude.{OnErr}
 use Rattle.std.proofs.lemmas.List.{append-nil}
 use mathlib.Core.List.{IsPrefix}
 use Rattle.dz_io.specs.declared.peer.Peer.{Peer}
 use Rattle.dz_name.specs.Words.{Name, Octets}
-use Rattle.dz_settings.specs.declared.config.CatalogSettings.{CatalogSettings}
 use Rattle.dz_header.specs.declared.transport.Transport.{Transport}
 use Rattle.dz_notify.specs.Notify.{notify_zone_in}
 use Rattle.dz_script.specs.Line.{line_of}
-use Rattle.dz_script.specs.Script.{Turn, turn_state, LeadsOn}
+use Rattle.dz_script.specs.Script.{turn_state, LeadsOn}
 use Rattle.dz_script.specs.Run.{said_of}
 use Rattle.dz_script.specs.Answers.{IsRun}
 use Rattle.dz_script.specs.declared.run.ScriptError.{ScriptError}

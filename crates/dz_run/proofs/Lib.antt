@@ -5,7 +5,6 @@ pub mod FlightLemmas
 pub mod KeptLemmas
 pub mod MomentLemmas
 pub mod OpeningLemmas
-pub mod PhaseLemmas
 pub mod ReplayLemmas
 pub mod StepLemmas
 pub mod TakingLemmas

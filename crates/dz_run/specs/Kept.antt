@@ -1,5 +1,6 @@
--- Meaning: what `replay` shows, and how it is kept: a configuration and the ends, a provisioner, or the ends again.
-use Rattle.std.specs.Prelude.{⊤, ◌≡◌, ◌≤◌, ℕ, Bool, false, List, [], ◌∷◌, Option, Some, None, IsSome, Result, Ok, Err}
+-- Meaning: what `replay` shows, by its stage: a configuration is read, a provisioner takes the events, or it has ended.
+use Rattle.std.specs.Prelude.{⊤, ◌≡◌, ◌≤◌, ℕ, Bool, true, false, List, [], ◌∷◌, Option, Some, None, option_map, Result}
+use Rattle.std.specs.Prelude.{Ok, Err}
 use Rattle.dz_io.specs.Counts.{HasRisen}
 use Rattle.dz_io.specs.Device.{Gains, GainsPrefix}
 use Rattle.dz_script.specs.Script.{Turn, turn_text, turn_state, DoesTurn}
@@ -9,9 +10,11 @@ use Rattle.dz_name.specs.Words.{Octets}
 use Rattle.dz_settings.specs.declared.config.CatalogSettings.{CatalogSettings}
 use Rattle.dz_fleet.specs.Core.{Core, opened_core}
 use Rattle.dz_desk.specs.Seen.{Book, Published, Viewed}
-use Rattle.dz_provision.specs.Held.{Held}
 use Rattle.dz_run.specs.Replaying.{State, opening, running, list_in, IsListBefore, bad_line}
+use Rattle.dz_run.specs.Phase.{state_in}
 use Rattle.dz_run.specs.Taken.{IsAtRest, CanStart}
+use Rattle.dz_run.specs.declared.stage.Stage.{Stage}
+use Rattle.dz_run.specs.declared.stage.Stage.TheVariants as stage
 use Rattle.dz_run.specs.declared.answering.End.{End}
 use Rattle.dz_run.specs.declared.answering.End.TheVariants.{BadInput}
 use Rattle.dz_run.specs.declared.events.Took.{Took}
@@ -24,28 +27,48 @@ pub record Shown : Type 0 where
   pub faults : ℕ
   pub is_over : Bool
 
--- the core of the provisioner, or the last core, or the configuration where no event came
-abbrev pub state_in : List CatalogSettings → Option Held → Option Core → State
-state_in config (Some h) last = running h.core
-state_in config None (Some c) = running c
-state_in config None None = opening config
+-- the core of the provisioner, or the last one
+abbrev pub core_in : {K J : Type 0} → Option (Stage K J) → Option Core
+core_in None = None
+core_in (Some (stage.Reading ends starved)) = None
+core_in (Some (stage.Running h)) = Some h.core
+core_in (Some (stage.Over ends last)) = option_map (λ s. s.value) last
 
--- what was written, by the provisioner or by the ends
-abbrev pub written_in : Option Held → Option (Option Octets) → Option Octets
-written_in (Some h) told = h.written
-written_in None (Some told) = told
-written_in None None = None
+-- what was written, by the ends or by the provisioner
+abbrev pub written_in : {K J : Type 0} → (K → Option Octets) → Option (Stage K J) → Option Octets
+written_in held None = None
+written_in held (Some (stage.Reading ends starved)) = held ends.output
+written_in held (Some (stage.Running h)) = h.written
+written_in held (Some (stage.Over ends last)) = held ends.output
 
--- the count of the output's faults, by the provisioner or by the ends
-abbrev pub faults_in : Option Held → Option ℕ → ℕ
-faults_in (Some h) count = h.faults
-faults_in None (Some count) = count
-faults_in None None = 0
+-- the count of the output's faults, by the ends or by the provisioner
+abbrev pub faults_in : {K J : Type 0} → (K → ℕ) → Option (Stage K J) → ℕ
+faults_in faults None = 0
+faults_in faults (Some (stage.Reading ends starved)) = faults ends.output
+faults_in faults (Some (stage.Running h)) = h.faults
+faults_in faults (Some (stage.Over ends last)) = faults ends.output
 
--- what is shown, of what is kept
-abbrev pub shown : List CatalogSettings → Option Held → Option Core → Option (Option Octets) → Option ℕ → Bool → Shown
-shown config h last told count over =
-    record { state = state_in config h last; written = written_in h told; faults = faults_in h count; is_over = over }
+-- no event came yet
+abbrev pub IsReading : {K J : Type 0} → Stage K J → Type 0
+IsReading (stage.Reading ends starved) = ⊤
+IsReading (stage.Running h) = ⊥
+IsReading (stage.Over ends last) = ⊥
+
+-- it has ended
+abbrev pub has_ended : {K J : Type 0} → Option (Stage K J) → Bool
+has_ended None = true
+has_ended (Some (stage.Reading ends starved)) = false
+has_ended (Some (stage.Running h)) = false
+has_ended (Some (stage.Over ends last)) = true
+
+-- what is shown, by the configuration that was read and the stage
+abbrev pub shown : {K J : Type 0} → (K → Option Octets) → (K → ℕ) → List CatalogSettings → Option (Stage K J) → Shown
+shown held faults config stage = record {
+  state = state_in config (core_in stage);
+  written = written_in held stage;
+  faults = faults_in faults stage;
+  is_over = has_ended stage;
+}
 
 -- a publisher of this list, with nothing staged, and a reading of it
 pub record IsResting (publisher : Book) (state : State) (end : Published) (view : Viewed) : Type 0 where
@@ -54,18 +77,15 @@ pub record IsResting (publisher : Book) (state : State) (end : Published) (view 
   pub own : end.book ≡ publisher
   pub rest : IsAtRest publisher view
 
--- the ends are kept while no provisioner has them; before the first event nothing was published and nothing written
-abbrev pub IsKept : Book → Option Held → Option Core → Option Published → Option Viewed → Option (Option Octets)
-    → Option ℕ → Bool → Type 0
-IsKept publisher (Some h) None None None None None over = ⊤
-IsKept publisher None last (Some end) (Some view) (Some told) (Some count) over =
-    IsResting publisher (state_in [] None last) end view
-    × (over ≡ false → (last ≡ None) × CanStart publisher told count end view)
-IsKept publisher h last end view told count over = ⊥
-
--- until the first event there is a ledger for the provisioner
-abbrev pub HasBook : {T U : Type 0} → Option T → Bool → Option U → Type 0
-HasBook h over book = h ≡ None → over ≡ false → IsSome book
+-- a stage is there; before the first event nothing was published and nothing written, and after the end the list is
+-- that of the last core
+abbrev pub IsKept : {K J : Type 0} → Book → (K → Option Octets) → (K → ℕ) → Option (Stage K J) → Type 0
+IsKept publisher held faults None = ⊥
+IsKept publisher held faults (Some (stage.Reading ends starved)) =
+    CanStart publisher (held ends.output) (faults ends.output) ends.publisher ends.reading
+IsKept publisher held faults (Some (stage.Running h)) = ⊤
+IsKept publisher held faults (Some (stage.Over ends last)) =
+    IsResting publisher (state_in [] (option_map (λ s. s.value) last)) ends.publisher ends.reading
 
 -- what a turn did: it was done, or stopped after a prefix of its text, with a list that begins that of its state
 unfoldable pub HasTurned : Turn State End → Shown → Result (Option End) TurnError → Shown → Type 0
@@ -105,11 +125,3 @@ unfoldable pub HasRun : Turn State End → ℕ → Shown → Result Took TurnErr
 HasRun turn number a (Ok took.Done) b = HasTurned turn a (Ok None) b
 HasRun turn number a (Ok took.Bad) b = (turn ≡ bad_line a.state number) × (b ≡ a)
 HasRun turn number a (Err error) b = HasTurned turn a (Err error) b
-
--- a provisioner was closed
-pub record IsClosed (publisher : Book) (h : Held) (told : Option Octets) (count : ℕ) (end : Published) (view : Viewed)
-    (core : Option Core) : Type 0 where
-  pub written : told ≡ h.written
-  pub faults : count ≡ h.faults
-  pub last : core ≡ Some h.core
-  pub rest : IsResting publisher (running h.core) end view

@@ -1,11 +1,11 @@
 -- Meaning: how the states of `replay` are kept.
-use Rattle.std.specs.Prelude.{⊤, ◌<◌, ◌^◌, ◌≡◌, ◌⊎◌, Bool, true, false, List, [], ◌∷◌, Option, Some, None}
+use Rattle.std.specs.Prelude.{⊤, ◌<◌, ◌^◌, ◌≡◌, ◌⊎◌, Bool, false, List, [], Option, Some, None}
 use Rattle.std.specs.Prelude.{if◌then◌else◌}
 use Rattle.dz_settings.specs.Config.{is_allowed, IsAllowed}
 use Rattle.dz_settings.specs.declared.config.CatalogSettings.{CatalogSettings}
 use Rattle.dz_script.specs.declared.line.Line.{Line}
 use Rattle.dz_script.specs.declared.line.Line.TheVariants as lines
-use Rattle.dz_fleet.specs.Core.{Core, opened_core}
+use Rattle.dz_fleet.specs.Core.{Core}
 use Rattle.dz_run.specs.Replaying.{State, opening, running}
 
 -- a configuration that was read so far: none, or an allowed one
@@ -21,16 +21,10 @@ abbrev pub IsGrouped : Option (List CatalogSettings) → Bool → List CatalogSe
 IsGrouped None done left = (done ≡ false) × (left ≡ [])
 IsGrouped (Some config) done left = IsPut config done left
 
--- the configuration until the first event, and then the core
+-- the configuration where no event came, and else the core
 abbrev pub state_in : List CatalogSettings → Option Core → State
 state_in config None = opening config
 state_in config (Some c) = running c
-
--- the first event begins with the configuration, where there is one
-abbrev pub HasBegun : State → Bool → State → Type 0
-HasBegun (running c) goes state = (goes ≡ true) × (state ≡ running c)
-HasBegun (opening []) goes state = (goes ≡ false) × (state ≡ opening [])
-HasBegun (opening (settings ∷ config)) goes state = (goes ≡ true) × (state ≡ running (opened_core (settings ∷ config)))
 
 -- an event's moment is below its limit
 abbrev pub IsTimed : Line → Type 0

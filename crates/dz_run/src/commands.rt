@@ -276,8 +276,8 @@ fn run_with<
         IsPrefix result.desk.publisher.list (list_of_script (script number)) }
     ensures serves { command_of words.now ≡ Ok Command.Serve
         → (how : ServeEnd) × (result.status ≡ status_after how)
-        × IsServe (is_some disk.entry) how ((k : K) × HasRisen 0 (K.faults k)) (C.may_give clock.now)
-        (C.may_stop clock.now)
+        × IsServe (is_some disk.entry) how ((k : K) × HasRisen 0 (K.faults k))
+        (C.may_give clock.now) (C.may_stop clock.now)
         (S.left input.old) (K.held result.output) result.desk.publisher.list
         (rows (P.datagrams ports.old) (P.acceptors ports.old) (P.dialers ports.old))
         (rows (P.datagrams ports.new) (P.acceptors ports.new) (P.dialers ports.new)) }
@@ -385,8 +385,8 @@ fn run_serve<
     requires written { IfSome (K.held output) (λ text. text ≡ []) }
     requires faultless { K.faults output ≡ 0 }
     ensures serves { (how : ServeEnd) × (result.status ≡ status_after how)
-        × IsServe (is_some disk.entry) how ((k : K) × HasRisen 0 (K.faults k)) (C.may_give clock.now)
-        (C.may_stop clock.now)
+        × IsServe (is_some disk.entry) how ((k : K) × HasRisen 0 (K.faults k))
+        (C.may_give clock.now) (C.may_stop clock.now)
         (S.left input.old) (K.held result.output) result.desk.publisher.list
         (rows (P.datagrams ports.old) (P.acceptors ports.old) (P.dialers ports.old))
         (rows (P.datagrams ports.new) (P.acceptors ports.new) (P.dialers ports.new)) }

@@ -12,6 +12,7 @@ mod opening;
 mod rehearse;
 mod replaying;
 mod script;
+mod stage;
 mod status;
 mod zone_line;
 

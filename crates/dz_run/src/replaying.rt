@@ -1,13 +1,13 @@
 //! The command `replay`: it reads a configuration, and then takes each event at its moment.
 
-ghost use Rattle.std.specs.Prelude.{◌≡◌, ◌⊎◌, ◌<◌, ◌^◌, ◌∷◌, ℕ, Some, None, [], true, false, IsSome, IfSome, OnOk};
-ghost use Rattle.std.specs.Prelude.{OnErr, option_map};
+ghost use Rattle.std.specs.Prelude.{◌≡◌, ◌<◌, ◌^◌, ◌∷◌, ℕ, Some, None, [], false, not, OnOk, OnErr};
 ghost use Rattle.dz_fleet.specs.Core.{Core};
 ghost use Rattle.dz_run.specs.Answering.{bad};
 ghost use Rattle.dz_run.specs.Phase.{IsTimed};
-ghost use Rattle.dz_run.specs.Replaying.{State, opening, running, list_in, IsListBefore, replay_rules, replay_turn};
-ghost use Rattle.dz_run.specs.Replaying.{catalog_line, group_line, event_line, event_turn, line_turn, bad_line, left};
-ghost use Rattle.dz_run.specs.Kept.{IsResting, IsClosed, HasTurned, HasEnded, HasBegun, HasConfig, HasRun, IsRunning};
+ghost use Rattle.dz_run.specs.Replaying.{State, opening, running, is_opening, list_in, IsListBefore, replay_rules};
+ghost use Rattle.dz_run.specs.Replaying.{replay_turn, catalog_line, group_line, event_line, event_turn, line_turn};
+ghost use Rattle.dz_run.specs.Replaying.{bad_line, left};
+ghost use Rattle.dz_run.specs.Kept.{IsResting, HasTurned, HasEnded, HasBegun, HasConfig, HasRun, IsRunning};
 ghost use Rattle.dz_run.specs.Taken.{CanStart};
 
 use crate::answering::End;
@@ -16,7 +16,7 @@ use crate::ends::Ends;
 use crate::events::{Running, Took};
 use crate::opening::Opening;
 use crate::script::put_bad;
-use dz_fleet::Fleet;
+use crate::stage::Stage;
 use dz_header::ReplyBuffer;
 use dz_io::Sink;
 use dz_name::Name;
@@ -25,37 +25,25 @@ use dz_script::{Event, Line, LineError, Script, TurnError, read_line};
 use dz_settings::{CatalogSettings, GroupSettings};
 use std::alloc::{AllocError, Global};
 use std::marker::Model;
-use std::snapshot::Snapshot;
 use std::sync::Wait;
 
-/// The configuration and the provisioner's ledger until the first event; then the provisioner; and after a bad line the ends again, beside what
-/// contracts see of the core. It is ended by [`Replaying::close`].
+/// A configuration that is read line by line, and how far the replay has come with it; no stage is there only while it
+/// changes. It is ended by [`Replaying::close`].
 pub struct Replaying<'a, R, K: Sink, J: Naming> {
     rt: &'a R,
     opening: Opening,
-    ends: Option<Ends<K>>,
-    starved: Option<EmptyBook<J>>,
-    running: Option<Running<K, J>>,
-    last: Option<Snapshot<Fleet>>,
-    is_over: bool,
+    stage: Option<Stage<K, J>>,
     buffer: ReplyBuffer,
 }
 
 impl<'a, R, K: Sink, J: Naming> Model for Replaying<'a, R, K, J> {
-    ghost use Rattle.std.specs.Prelude.{option_map};
-    ghost use Rattle.dz_run.specs.Kept.{Shown, shown, IsKept, HasBook};
+    ghost use Rattle.dz_run.specs.Kept.{Shown, shown, IsKept};
 
     ghost Value = { Shown };
 
-    ghost view = { λ r. shown r.opening r.running (option_map (λ s. s.value) r.last)
-        (option_map (λ e. K.held e.output) r.ends)
-        (option_map (λ e. K.faults e.output) r.ends) r.is_over };
+    ghost view = { λ r. shown K.held K.faults r.opening r.stage };
 
-    ghost invariant = { λ r. IsKept J.publisher r.running (option_map (λ s. s.value) r.last)
-        (option_map (λ e. e.publisher) r.ends) (option_map (λ e. e.reading) r.ends)
-        (option_map (λ e. K.held e.output) r.ends)
-        (option_map (λ e. K.faults e.output) r.ends) r.is_over
-        × HasBook r.running r.is_over r.starved };
+    ghost invariant = { λ r. IsKept J.publisher K.held K.faults r.stage };
 }
 
 impl<'a, R: Wait, K: Sink, J: Naming> Replaying<'a, R, K, J> {
@@ -79,11 +67,7 @@ impl<'a, R: Wait, K: Sink, J: Naming> Replaying<'a, R, K, J> {
         Replaying {
             rt,
             opening: Opening::new(alloc),
-            ends: Some(ends),
-            starved: Some(starved),
-            running: None,
-            last: None,
-            is_over: false,
+            stage: Some(Stage::Reading(ends, starved)),
             buffer,
         }
     }
@@ -95,23 +79,28 @@ impl<'a, R: Wait, K: Sink, J: Naming> Replaying<'a, R, K, J> {
         ensures ends { IsResting J.publisher self.entry.state result.publisher result.reading }
     {
         let Replaying {
-            ends,
-            running,
-            starved: _,
             rt: _,
             opening: _,
-            last: _,
-            is_over: _,
+            stage,
             buffer: _,
         } = self;
-        match running {
-            None => some_of(ends),
-            Some(running) => {
-                let (fleet, back) = running.close();
-                drop(fleet);
-                beside_none(ends, back)
-            }
-        }
+        let Some(stage) = stage else { unreachable!() };
+        let (ends, _) = stage.close();
+        ends
+    }
+
+    /// Whether a provisioner takes the events.
+    fn is_running(&self) -> bool
+        ensures { self.now.is_over ≡ false → result ≡ not (is_opening self.now.state) }
+    {
+        matches!(&self.stage, Some(Stage::Running(_)))
+    }
+
+    /// Whether it has ended.
+    fn is_over(&self) -> bool
+        ensures { result ≡ self.now.is_over }
+    {
+        !matches!(&self.stage, Some(Stage::Reading(..) | Stage::Running(_)))
     }
 
     /// Takes a line.
@@ -125,10 +114,8 @@ impl<'a, R: Wait, K: Sink, J: Naming> Replaying<'a, R, K, J> {
         ensures { HasTurned (replay_turn self.old.state number line.now) self.old result self.new }
     {
         match read_line(alloc, line) {
-            Err(error) => match error {
-                LineError::OutOfMemory => Err(TurnError::OutOfMemory),
-                LineError::BadLine => self.end_badly(alloc, number),
-            },
+            Err(LineError::OutOfMemory) => Err(TurnError::OutOfMemory),
+            Err(LineError::BadLine) => self.end_badly(alloc, number),
             Ok(line) => self.take_read(alloc, number, line),
         }
     }
@@ -162,7 +149,7 @@ impl<'a, R: Wait, K: Sink, J: Naming> Replaying<'a, R, K, J> {
         requires { self.old.is_over ≡ false }
         ensures { HasTurned (catalog_line self.old.state number settings) self.old result self.new }
     {
-        if self.running.is_some() {
+        if self.is_running() {
             return self.end_badly(alloc, number);
         }
         match self.opening.add_catalog(alloc, settings) {
@@ -183,7 +170,7 @@ impl<'a, R: Wait, K: Sink, J: Naming> Replaying<'a, R, K, J> {
         requires { self.old.is_over ≡ false }
         ensures { HasTurned (group_line self.old.state number name group) self.old result self.new }
     {
-        if self.running.is_some() {
+        if self.is_running() {
             return self.end_badly(alloc, number);
         }
         match self.opening.add_group(alloc, &name, group) {
@@ -206,7 +193,7 @@ impl<'a, R: Wait, K: Sink, J: Naming> Replaying<'a, R, K, J> {
         ensures { HasTurned (event_line self.old.state number moment event) self.old result
             self.new }
     {
-        if self.running.is_some() {
+        if self.is_running() {
             return self.go_on(alloc, number, moment, event);
         }
         if self.opening.is_empty() {
@@ -232,12 +219,9 @@ impl<'a, R: Wait, K: Sink, J: Naming> Replaying<'a, R, K, J> {
         ensures { (c : Core) → self.old.state ≡ running c →
             HasTurned (event_turn c number moment event) self.old result self.new }
     {
-        match self.run_event(alloc, moment, &event) {
-            Err(error) => Err(error),
-            Ok(took) => match took {
-                Took::Done => Ok(None),
-                Took::Bad => self.end_badly(alloc, number),
-            },
+        match self.run_event(alloc, moment, &event)? {
+            Took::Done => Ok(None),
+            Took::Bad => self.end_badly(alloc, number),
         }
     }
 
@@ -251,15 +235,17 @@ impl<'a, R: Wait, K: Sink, J: Naming> Replaying<'a, R, K, J> {
         ensures none { OnErr result (list_in self.new.state ≡ []) }
     {
         let config = self.opening.take(alloc);
-        let starved = some_of(self.starved.take());
-        match Running::start(self.rt, alloc, config, some_of(self.ends.take()), starved) {
+        let Some(stage) = self.stage.take() else {
+            unreachable!()
+        };
+        let (ends, starved) = stage.into_start();
+        match Running::start(self.rt, alloc, config, ends, starved) {
             Ok(running) => {
-                put(&mut self.running, running);
+                put(&mut self.stage, Stage::Running(running));
                 Ok(())
             }
             Err(ends) => {
-                put(&mut self.ends, ends);
-                self.is_over = true;
+                put(&mut self.stage, Stage::Over(ends, None));
                 Err(AllocError)
             }
         }
@@ -274,14 +260,14 @@ impl<'a, R: Wait, K: Sink, J: Naming> Replaying<'a, R, K, J> {
             (number : ℕ) → HasRun (event_turn c number moment event.now) number self.old result
             self.new }
     {
-        match &mut self.running {
-            None => unreachable!(),
-            Some(running) => {
+        match &mut self.stage {
+            Some(Stage::Running(running)) => {
                 if running.has_failed() {
                     return Err(TurnError::OutOfMemory);
                 }
                 running.take_event(self.rt, alloc, moment, event, &mut self.buffer)
             }
+            _ => unreachable!(),
         }
     }
 
@@ -291,10 +277,8 @@ impl<'a, R: Wait, K: Sink, J: Naming> Replaying<'a, R, K, J> {
         ensures { HasTurned (bad_line self.old.state number) self.old result self.new }
     {
         self.let_go(alloc);
-        match self.end_at(alloc, number) {
-            Ok(end) => Ok(Some(end)),
-            Err(error) => Err(error),
-        }
+        let end = self.end_at(alloc, number)?;
+        Ok(Some(end))
     }
 
     /// Clears the configuration, where no event came yet.
@@ -302,7 +286,7 @@ impl<'a, R: Wait, K: Sink, J: Naming> Replaying<'a, R, K, J> {
         requires { self.old.is_over ≡ false }
         ensures { self.new ≡ record self.old { state = left self.old.state } }
     {
-        if self.running.is_none() {
+        if !self.is_running() {
             self.opening = Opening::new(alloc);
         }
     }
@@ -311,10 +295,12 @@ impl<'a, R: Wait, K: Sink, J: Naming> Replaying<'a, R, K, J> {
     fn end_at(&mut self, alloc: Global, number: u64) -> Result<End, TurnError>
         ensures { HasEnded (bad number) self.old result self.new }
     {
-        self.is_over = true;
-        let mut ends = ends_of(&mut self.ends, &mut self.running, &mut self.last);
+        let Some(stage) = self.stage.take() else {
+            unreachable!()
+        };
+        let (mut ends, last) = stage.close();
         let ended = put_bad(alloc, number, &mut ends.output);
-        put(&mut self.ends, ends);
+        put(&mut self.stage, Stage::Over(ends, last));
         ended
     }
 }
@@ -340,7 +326,7 @@ impl<'a, R: Wait, K: Sink, J: Naming> Script for Replaying<'a, R, K, J> {
 
     /// Takes a line. A script that has ended takes nothing.
     fn turn(&mut self, alloc: Global, number: u64, line: &[u8]) -> Result<Option<End>, TurnError> {
-        if self.is_over {
+        if self.is_over() {
             Err(TurnError::OutOfMemory)
         } else {
             self.take_line(alloc, number, line)
@@ -354,63 +340,16 @@ impl<'a, R: Wait, K: Sink, J: Naming> Script for Replaying<'a, R, K, J> {
 
     /// Ends the input; there must be a catalog. A script that has ended takes nothing.
     fn finish(&mut self, alloc: Global, number: u64) -> Result<End, TurnError> {
-        if self.is_over {
+        if self.is_over() {
             return Err(TurnError::OutOfMemory);
         }
-        if self.running.is_some() {
+        if self.is_running() {
             return Ok(End::Done);
         }
         if self.opening.is_empty() {
             return self.end_at(alloc, number);
         }
         Ok(End::Done)
-    }
-}
-
-/// The ends, which are kept or are the provisioner's.
-fn ends_of<K: Sink, J: Naming>(
-    ends: &mut Option<Ends<K>>,
-    running: &mut Option<Running<K, J>>,
-    last: &mut Option<Snapshot<Fleet>>,
-) -> Ends<K>
-    requires one { (IsSome ends.old × (running.old ≡ None))
-        ⊎ ((ends.old ≡ None) × IsSome running.old) }
-    ensures none { (ends.new ≡ None) × (running.new ≡ None) }
-    ensures kept { running.old ≡ None → (ends.old ≡ Some result) × (last.new ≡ last.old) }
-    ensures closed { IfSome running.old (λ h. IsClosed J.publisher h
-        (K.held result.output) (K.faults result.output) result.publisher result.reading
-        (option_map (λ s. s.value) last.new)) }
-{
-    match running.take() {
-        None => some_of(ends.take()),
-        Some(running) => {
-            let (fleet, back) = running.close();
-            *last = Some(Snapshot::of(&fleet));
-            drop(fleet);
-            back
-        }
-    }
-}
-
-/// What is there.
-fn some_of<T>(place: Option<T>) -> T
-    requires { IsSome place }
-    ensures { Some result ≡ place }
-{
-    match place {
-        Some(value) => value,
-        None => unreachable!(),
-    }
-}
-
-/// What is there, beside a place where nothing is.
-fn beside_none<T>(place: Option<T>, value: T) -> T
-    requires { place ≡ None }
-    ensures { result ≡ value }
-{
-    match place {
-        None => value,
-        Some(_other) => unreachable!(),
     }
 }
 

@@ -80,10 +80,10 @@ impl<'a, K: Sink> Script for AnswerScript<'a, K> {
     fn turn(&mut self, alloc: Global, number: u64, line: &[u8]) -> Result<Option<End>, TurnError> {
         match self.answering.take_line(alloc, number, line) {
             Err(_) => Err(TurnError::OutOfMemory),
-            Ok(saying) => match put(self.output, saying.text.as_slice()) {
-                Err(error) => Err(error),
-                Ok(()) => Ok(saying.ending),
-            },
+            Ok(saying) => {
+                put(self.output, saying.text.as_slice())?;
+                Ok(saying.ending)
+            }
         }
     }
 
@@ -112,9 +112,9 @@ pub fn put_bad<K: Sink>(alloc: Global, number: u64, output: &mut K) -> Result<En
 {
     match numbered_line(alloc, b"bad ", number) {
         Err(_) => Err(TurnError::OutOfMemory),
-        Ok(text) => match put(output, text.as_slice()) {
-            Err(error) => Err(error),
-            Ok(()) => Ok(End::BadInput),
-        },
+        Ok(text) => {
+            put(output, text.as_slice())?;
+            Ok(End::BadInput)
+        }
     }
 }

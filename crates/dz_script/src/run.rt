@@ -101,10 +101,9 @@ fn last_turn<T: Script>(
     ensures beside { T.beside script.new ≡ T.beside script.old }
     ensures cause { HasCauseOf (T.faults script.old) (T.faults script.new) result TurnError.Write }
 {
-    match script.turn(alloc, number, line) {
-        Err(error) => Err(error),
-        Ok(Some(ending)) => Ok(ending),
-        Ok(None) => script.finish(alloc, number + 1),
+    match script.turn(alloc, number, line)? {
+        Some(ending) => Ok(ending),
+        None => script.finish(alloc, number + 1),
     }
 }
 

@@ -1,10 +1,9 @@
 -- What sessions and transfers from nothing come to, by the list that a run leaves.
-use Rattle.std.proofs.Common.{◌≡◌, ◌⊎◌, inl, inr, ℕ, zero, suc, ◌+◌, ◌<◌, ◌≤◌, Bool, true, false, List, [], ◌∷◌, ◌++◌}
-use Rattle.std.proofs.Common.{length, Option, None, Some, refl, sym, ap, ◌∙◌, arith}
+use Rattle.std.proofs.Common.{◌≡◌, ◌⊎◌, inl, inr, ℕ, zero, suc, ◌+◌, ◌<◌, ◌≤◌, Bool, true, false, List, [], ◌∷◌}
+use Rattle.std.proofs.Common.{length, Option, refl, sym, ◌∙◌, arith}
 use mathlib.Core.List.{IsPrefix}
 use Rattle.dz_io.specs.Counts.{HasRisen, HasRisenBy}
-use Rattle.dz_io.specs.Device.{Gains, Tells}
-use Rattle.dz_io.specs.Links.{Dialled}
+use Rattle.dz_io.specs.Device.{Tells}
 use Rattle.dz_io.specs.Ports.{Exchange, Accepts, Dials, exchange, IsFreshExchange, IsFreshAccepts, IsFreshDials}
 use Rattle.dz_name.specs.Words.{Octets}
 use Rattle.dz_history.specs.declared.entry.Entry.{Entry}
@@ -17,14 +16,14 @@ use Rattle.dz_query.specs.declared.datagrams.SessionEnd.{SessionEnd}
 use Rattle.dz_query.specs.declared.datagrams.SessionEnd.TheVariants.{Closed, Failed}
 use Rattle.dz_query.proofs.GainLemmas.{tells_gained}
 use Rattle.dz_query.proofs.TurnLemmas.{turn_later, turn_sooner, sent_later}
-use Rattle.dz_query.specs.Links.{Visit, links_of, all_served, starved_at, unheard_at, AreVisits, AcceptsUntil}
+use Rattle.dz_query.specs.Links.{links_of, all_served, starved_at, unheard_at, AreVisits, AcceptsUntil}
 use Rattle.dz_query.specs.Links.{links_told}
 use Rattle.dz_query.specs.declared.links.LinksEnd.{LinksEnd}
 use Rattle.dz_query.specs.declared.links.LinksEnd.TheVariants as links_ends
 use Rattle.dz_query.proofs.LinkLemmas.{visits_later}
 use Rattle.std.specs.List.{All}
 use Rattle.dz_provision.specs.Endings.{EndsAmong}
-use Rattle.dz_transfer.specs.Serving.{Dial, IsServed, IsTransfers}
+use Rattle.dz_transfer.specs.Serving.{IsTransfers}
 use Rattle.dz_transfer.specs.Serving as work
 use Rattle.dz_transfer.proofs.StepLemmas.{served_later, served_sooner}
 use Rattle.dz_transfer.specs.declared.serve.Transfers.{Transfers}

@@ -6,16 +6,14 @@ use Rattle.dz_io.specs.Device.{Gains, GainsPrefix, Gives, IsAtEnd, Tells}
 use Rattle.dz_io.specs.declared.peer.Peer.{Peer}
 use Rattle.dz_settings.specs.declared.config.CatalogSettings.{CatalogSettings}
 use Rattle.dz_history.specs.declared.entry.Entry.{Entry}
-use Rattle.dz_provision.specs.Log.{IsLogged}
 use Rattle.dz_config.specs.Answers.{Reads, ReadsDownstream}
 use Rattle.dz_config.specs.Reading.{number_of}
 use Rattle.dz_config.specs.declared.config.TheConstants.{TEXT_OCTETS}
 use Rattle.dz_config.specs.declared.fault.ConfigFault.{ConfigFault}
 use Rattle.dz_config.specs.declared.fault.ConfigError.{ConfigError}
 use Rattle.dz_config.specs.declared.fault.ConfigError.TheVariants.{Fault, OutOfMemory}
-use Rattle.dz_serve.specs.Ends.{is_write_fault}
 use Rattle.dz_serve.specs.Rows.{Rows, AreUnused}
-use Rattle.dz_serve.specs.Runs.{HasRun, IsListOf}
+use Rattle.dz_serve.specs.Runs.{HasRunLogged, IsListOf}
 use Rattle.dz_serve.specs.declared.status.ServeEnd.{ServeEnd}
 use Rattle.dz_serve.specs.declared.status.ServeEnd.TheVariants as ends
 use Rattle.dz_serve.specs.declared.served.ServerConfig.{ServerConfig}
@@ -76,9 +74,7 @@ pub record IsServed (keeps : Bool) (how : ServeEnd) (may_fail : Type 0) (may_giv
   pub reads : (octets : Octets) → input ≡ Some octets → Reads octets (Ok (listen, config))
   pub lists : (octets : Octets) → input ≡ Some octets → ReadsDownstream octets (Ok downstream)
   pub begins : IsListOf config list
-  pub starved : ℕ
-  pub run : HasRun keeps how downstream may_fail may_give starved list listen before after
-  pub logged : IsLogged list starved held (is_write_fault how)
+  pub ran : HasRunLogged keeps how downstream may_fail may_give held list listen before after
 
 -- what came of the command, of a server that keeps zones or not: no worker was started, the list has no entry, and
 -- what was opened is closed; or the list has begun

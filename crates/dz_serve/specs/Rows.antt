@@ -1,5 +1,5 @@
 -- Meaning: two devices of one kind that are opened at ports, and that go back.
-use Rattle.std.specs.Prelude.{◌≡◌, ℕ, List, ◌++◌, Option, option_map}
+use Rattle.std.specs.Prelude.{◌≡◌, ℕ, List, ◌++◌, option_map}
 use Rattle.std.specs.List.{AllByRecursion}
 use Rattle.dz_io.specs.Ports.{Row, Exchange, Accepts, Dials, IsFreshExchange, IsFreshAccepts, IsFreshDials, opening}
 use Rattle.dz_io.specs.Ports.{closing, place}

@@ -4,13 +4,11 @@ use Rattle.std.specs.List.{All}
 use Rattle.std.specs.Mem.{manually_drop_value}
 use mathlib.Core.List.{IsPrefix}
 use Rattle.dz_name.specs.Words.{Octets}
-use Rattle.dz_io.specs.Links.{Dialled}
 use Rattle.dz_io.specs.Ports.{Accepts, Dials, accepts, dials}
 use Rattle.dz_io.specs.declared.acceptor.Acceptor as acceptors
 use Rattle.dz_io.specs.declared.clock.Clock as clocks
 use Rattle.dz_io.specs.declared.datagrams.Datagrams as datagrams
 use Rattle.dz_io.specs.declared.dialer.Dialer as dialers
-use Rattle.dz_history.specs.declared.entry.Entry.{Entry}
 use Rattle.dz_desk.specs.Seen.{Book, Viewed}
 use Rattle.dz_query.specs.Session.{Told, told, IsSession, HasClosed}
 use Rattle.dz_query.specs.declared.datagrams.SessionEnd.{SessionEnd}

@@ -122,10 +122,7 @@ pub fn serve<
     } = desk;
     let (book, share) = ledger.open::<J>();
     match Provisioner::start(rt, alloc, server.config, publisher, output, book) {
-        Err(unstarted) => {
-            close_devices(ports, devices);
-            not_started(unstarted, readings)
-        }
+        Err(unstarted) => not_started(ports, devices, unstarted, readings),
         Ok(begun) => {
             let (seats, readings) = seat_all::<J>(readings);
             let inputs = WorkerInputs::new(seats, devices, clocks, server.downstream, share);
@@ -245,13 +242,40 @@ fn begin_over<
     }
 }
 
-/// Memory ran out before the list began.
-fn not_started<K>(unstarted: Unstarted<K>, readings: Vec<Reading>) -> Served<K>
+/// Memory ran out before the list began. All devices are given back.
+fn not_started<K, P: Ports>(
+    ports: &mut P,
+    devices: Devices<P::D, P::A, P::L>,
+    unstarted: Unstarted<K>,
+    readings: Vec<Reading>,
+) -> Served<K>
+    requires out { (2 ≤ (P.datagrams ports.old).out) × (2 ≤ (P.acceptors ports.old).out)
+        × (2 ≤ (P.dialers ports.old).out) }
     ensures end { result.end ≡ ServeEnd.NoMemory }
     ensures output { result.output ≡ unstarted.output }
     ensures publisher { result.desk.publisher ≡ unstarted.publisher }
     ensures readings { result.desk.readings ≡ readings }
+    ensures datagrams { P.datagrams ports.new ≡ both_back
+        (exchange (P.D.received devices.datagrams.first) (P.D.sent devices.datagrams.first)
+        (P.D.is_closed devices.datagrams.first) (P.D.faults devices.datagrams.first))
+        (exchange (P.D.received devices.datagrams.second) (P.D.sent devices.datagrams.second)
+        (P.D.is_closed devices.datagrams.second) (P.D.faults devices.datagrams.second))
+        (P.datagrams ports.old) }
+    ensures acceptors { P.acceptors ports.new ≡ both_back
+        (accepts (P.A.links devices.acceptors.first) (P.A.out devices.acceptors.first)
+        (P.A.is_closed devices.acceptors.first) (P.A.faults devices.acceptors.first))
+        (accepts (P.A.links devices.acceptors.second) (P.A.out devices.acceptors.second)
+        (P.A.is_closed devices.acceptors.second) (P.A.faults devices.acceptors.second))
+        (P.acceptors ports.old) }
+    ensures dialers { P.dialers ports.new ≡ both_back
+        (dials (P.L.links devices.dialers.first) (P.L.out devices.dialers.first)
+        (P.L.faults devices.dialers.first))
+        (dials (P.L.links devices.dialers.second) (P.L.out devices.dialers.second)
+        (P.L.faults devices.dialers.second))
+        (P.dialers ports.old) }
+    ensures later { P.faults ports.old ≤ P.faults ports.new }
 {
+    close_devices(ports, devices);
     let Unstarted { publisher, output } = unstarted;
     let desk = Desk {
         publisher,

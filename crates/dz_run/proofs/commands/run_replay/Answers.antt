@@ -1,5 +1,5 @@
 -- The reading that was played with comes back after the others.
-use Rattle.std.proofs.Common.{◌≡◌, ◌++◌, List, [], ◌∷◌, ℕ, All, length, ap, arith, length-append}
+use Rattle.std.proofs.Common.{◌≡◌, ◌++◌, List, [], ◌∷◌, All, length, ap, arith, length-append}
 use Rattle.std.proofs.lemmas.List.Elements.{All-push, All-take}
 use Rattle.dz_desk.specs.Seen.{Viewed}
 use Rattle.dz_run.specs.Taken.{IsAtRest}

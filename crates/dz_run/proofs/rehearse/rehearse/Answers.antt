@@ -1,5 +1,5 @@
 -- Where no script was made, nothing was published; no line of one is bad.
-use Rattle.std.proofs.Common.{◌++◌, ap, refl, sym, arith}
+use Rattle.std.proofs.Common.{◌++◌, ap, refl, arith}
 use Rattle.dz_gen.specs.Script.{script}
 use Rattle.dz_run.specs.Running.{list_of_script}
 use Rattle.dz_run.proofs.RehearsalLemmas.{goes_on, no_bad_line}

@@ -1,5 +1,5 @@
 -- What was said of a disk that can't be used, and how the list began.
-use Rattle.std.proofs.Common.{◌≡◌, ◌∙◌, [], sym, ap, subst, Ok, Err}
+use Rattle.std.proofs.Common.{[], subst}
 use Rattle.dz_provision.specs.Held.{IsSaid}
 use Rattle.dz_provision.specs.Log.{unkept_text}
 use Rattle.dz_serve.proofs.RunLemmas.{said_core, same_begun, same_legal, seated_on}

@@ -1,4 +1,3 @@
-use Rattle.std.proofs.Common.{◌≡◌, rules, refl, sym, ap, ◌∙◌}
 use Rattle.dz_serve.proofs.ConfigLemmas.{says_bad, says_part}
 use Rattle.dz_serve.proofs.command.say_bad.Goals as goal
 

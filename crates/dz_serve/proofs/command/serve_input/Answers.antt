@@ -1,6 +1,5 @@
 -- What the command says of its input, and what a run shows.
-use Rattle.std.proofs.Common.{◌≡◌, refl, sym, ap, ◌∙◌, rules}
-use Rattle.dz_serve.specs.declared.status.ServeEnd.TheVariants as ends
+use Rattle.std.proofs.Common.{sym, ap, ◌∙◌}
 use Rattle.dz_serve.proofs.RunLemmas.{not_served, bad_served, idle_of}
 use Rattle.dz_serve.proofs.command.serve_input.Goals as goal
 
@@ -21,9 +20,7 @@ returns-in-Ok-clause-serve g c =
         reads = λ octets told. (c.in-Ok.ensures.reads octets told).0;
         lists = λ octets told. (c.in-Ok.ensures.reads octets told).1;
         begins = (s.served some).0;
-        starved = (s.served some).1.starved;
-        run = (s.served some).1.run;
-        logged = (s.served some).1.logged;
+        ran = (s.served some).1;
       };
       done = λ is. s.done is;
       bad = λ is. absurd (s.input.0 is);

@@ -1,5 +1,5 @@
 -- A run that no worker began, and one over a list that begins with the configuration.
-use Rattle.std.proofs.Common.{◌≡◌, refl, ap, ◌∙◌}
+use Rattle.std.proofs.Common.{refl, ap, ◌∙◌}
 use Rattle.dz_serve.specs.Runs as runs
 use Rattle.dz_serve.proofs.RunLemmas.{both_used, begins_at, err_not_ok, ok_same, listed_as, ran_as, some_begun}
 use Rattle.dz_serve.proofs.RunLemmas.{some_is}

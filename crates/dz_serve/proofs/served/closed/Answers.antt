@@ -1,5 +1,4 @@
 -- All of the ledger has counted what the book has.
-use Rattle.std.proofs.Common.{◌≡◌}
 use Rattle.dz_serve.proofs.served.closed.Goals as goal
 
 pub returns-clause-logged : goal.returns-clause-logged

@@ -1,5 +1,5 @@
 -- What comes back, by the devices that workers hand on.
-use Rattle.std.proofs.Common.{◌≡◌, ◌∙◌}
+use Rattle.std.proofs.Common.{◌∙◌}
 use Rattle.dz_serve.proofs.EndLemmas.{risen_first, risen_last}
 use Rattle.dz_serve.proofs.served.give_back.Goals as goal
 

@@ -1,5 +1,5 @@
 -- The readings come back, and the log is the provisioner's.
-use Rattle.std.proofs.Common.{◌≡◌, sym}
+use Rattle.std.proofs.Common.{sym}
 use Rattle.dz_serve.proofs.EndLemmas.{six_back}
 use Rattle.dz_serve.proofs.served.halted.Goals as goal
 

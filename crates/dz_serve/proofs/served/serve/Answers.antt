@@ -1,5 +1,5 @@
 -- A run that no worker began, and one over a list that begins with the configuration.
-use Rattle.std.proofs.Common.{◌≡◌, refl, sym, ap, ◌∙◌}
+use Rattle.std.proofs.Common.{ap, ◌∙◌}
 use Rattle.dz_serve.proofs.RunLemmas.{none_used, both_used, begun_of, first_opened}
 use Rattle.dz_serve.proofs.served.serve.Goals as goal
 
@@ -11,8 +11,8 @@ returns-in-Err-clause-unserved g c empty =
     let o = c.in-Ok-open_devices.ensures in (
       c.not_started.ensures.output ∙ c.in-Err.ensures.err.1,
       both_used _ _ _ _ _ _ _ _ _ o.datagram_one o.datagram_two o.acceptor_one o.acceptor_two o.dialer_one o.dialer_two
-          (rw o.datagrams at c.close_devices.ensures.datagrams) (rw o.acceptors at c.close_devices.ensures.acceptors)
-          (rw o.dialers at c.close_devices.ensures.dialers),
+          (rw o.datagrams at c.not_started.ensures.datagrams) (rw o.acceptors at c.not_started.ensures.acceptors)
+          (rw o.dialers at c.not_started.ensures.dialers),
     )
 
 pub returns-in-Ok-start-clause-served : goal.returns-in-Ok-start-clause-served

@@ -1,6 +1,6 @@
 -- What each worker handed on is, by the list that is left, what a run has to show.
 use mir.Syntax.{named}
-use Rattle.std.proofs.Common.{◌≡◌, refl, sym, ap, ◌∙◌}
+use Rattle.std.proofs.Common.{sym, ◌∙◌}
 use Rattle.dz_desk.proofs.PrefixLemmas.{prefix_trans}
 use Rattle.dz_serve.proofs.CrossLemmas.{keeping_sync, locked_sync, provisioner_send, store_send}
 use Rattle.dz_serve.proofs.EndLemmas.{listened_risen, linked_risen, by_each, listened_run, linked_run, transferred_run}
