@@ -1,5 +1,5 @@
 #!/usr/bin/env python3
-"""Scripts for `catzd replay`. usage: gen.py listing N | members N ROUNDS MOST | update N TIMES | due N TIMES | zone N | jobs N"""
+"""Scripts for `catzd replay`. usage: gen.py listing N | members N ROUNDS MOST | update N TIMES [CATALOGS] | due N TIMES | zone N | jobs N"""
 import struct
 import sys
 
@@ -48,16 +48,29 @@ def listing(count):
     return [head, record(CATALOG, 2, name("invalid.")), version] + [pointer(f"n{i}", i) for i in range(count)] + [head]
 
 
+def other(catalog, count):
+    """Another catalog, which lists as many zones of its own."""
+    head = soa(catalog, 1, 1000000000)
+    nodes = [record(f"n{i}.zones.{catalog}", 12, name(f"m{i:06}.{catalog}")) for i in range(count)]
+    return [head, record(catalog, 2, name("invalid.")), record(f"version.{catalog}", 16, b"\x012")] + nodes + [head]
+
+
 def version(zone, serial):
     return [soa(zone, serial, 3600), record(zone, 2, name("ns.invalid.")), soa(zone, serial, 3600)]
 
 
 def main(kind, count, times=0, most=0):
     print(f"catalog {CATALOG} off 192.0.2.1")
+    others = [f"cat{i}.example." for i in range(1, most)] if kind == "update" else []
+    for catalog in others:
+        print(f"catalog {catalog} off 192.0.2.1")
     tickets = 0
     if kind in ("listing", "members", "update", "due"):
         tickets = 1
         print(f"1000 job\n1000 take 1 {stream(CATALOG, 1, 252, listing(count))}")
+    for catalog in others:
+        tickets += 1
+        print(f"1000 job\n1000 take {tickets} {stream(catalog, tickets, 252, other(catalog, count))}")
     if kind == "members":  # so many transfers of each member, up to most of them
         for turn in range(times):
             for i in range(min(count, most)):

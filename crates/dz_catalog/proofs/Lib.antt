@@ -1,7 +1,10 @@
 pub mod BelowLemmas
+pub mod EditLemmas
 pub mod ListingLemmas
 pub mod NameLemmas
 pub mod OrderLemmas
+pub mod PlaceLemmas
+pub mod ReadLemmas
 pub mod TargetLemmas
 pub mod TwinLemmas
 pub mod VersionLemmas

@@ -28,8 +28,7 @@ use Rattle.dz_member.specs.declared.listing.Broken.{Broken}
 use Rattle.dz_member.specs.declared.listing.Broken.TheVariants.{NoVersion, VersionTwice, OtherVersion, MemberTwice}
 use Rattle.dz_member.specs.declared.listing.Broken.TheVariants.{CooTwice, TooManyMembers, ZoneTwice}
 use Rattle.dz_catalog.specs.Broken.{no_version, version_twice, other_version, twins, member_twice, coo_twice, too_many}
-use Rattle.dz_catalog.specs.Broken.{zone_twice, broken_records}
-use Rattle.dz_catalog.specs.inner.Count.{by_count}
+use Rattle.dz_catalog.specs.Broken.{zone_twice, broken_records, by_count}
 use Rattle.dz_catalog.specs.Listing.{listing_of}
 use Rattle.dz_catalog.specs.Member.{is_node, is_member, node_of, nodes_of, zones_of}
 
@@ -51,7 +50,7 @@ sibling z l m =
     rw (a, b) (behind_same (reverse z) l m)
 
 -- the owner of a member record is its label followed by `zones`
-owner_is : (apex : List (List ℕ)) (name : List (List ℕ)) (label : List ℕ) → is_node apex name ≡ true
+pub owner_is : (apex : List (List ℕ)) (name : List (List ℕ)) (label : List ℕ) → is_node apex name ≡ true
     → first_label name ≡ Some label → name ≡ label ∷ zones_of apex
 owner_is apex [] label h f = absurd (cc)
 owner_is apex (l ∷ above) label h f =
@@ -75,7 +74,7 @@ of_parts apex all r n (Some label) (Some zone) f t m e =
     let l : label ≡ n.label = ap (λ (o : Option Node). option_map_or (λ (x : Node). x.label) o label) g in
     record { member = m; label = f ∙ ap Some l }
 
-node_shape : (apex : List (List ℕ)) (all : List Record) (r : Record) (n : Node) → node_of apex all r ≡ Some n
+pub node_shape : (apex : List (List ℕ)) (all : List Record) (r : Record) (n : Node) → node_of apex all r ≡ Some n
     → IsOf apex r n
 unfolding node_of
 node_shape apex all r n e =
@@ -126,7 +125,7 @@ all_less apex all r n (s ∷ ss) a up apart =
       | Some m ↦ λ e. (labels_less apex r s n m a (node_shape apex all s m e) up.0 parts.0, rest)
     ] refl
 
-labels_rise : (apex : List (List ℕ)) (all ss : List Record) → IsStrictlySortedBy record_order ss
+pub labels_rise : (apex : List (List ℕ)) (all ss : List Record) → IsStrictlySortedBy record_order ss
     → some_two (twins (is_node apex)) ss ≡ false
     → IsStrictlySortedBy label_order (map (λ x. x.label) (filter_map (node_of apex all) ss))
 unfolding some_two IsStrictlySortedBy
@@ -150,7 +149,7 @@ none_here true n is e = absurd (cc)
 none_here false n is e = is
 
 -- a member record has a node
-owner_named : (apex : List (List ℕ)) (all : List Record) (r : Record) (owner : List (List ℕ)) → r.owner ≡ owner
+pub owner_named : (apex : List (List ℕ)) (all : List Record) (r : Record) (owner : List (List ℕ)) → r.owner ≡ owner
     → is_member apex r ≡ true → node_of apex all r ≡ None → ⊥
 unfolding node_of
 owner_named apex all r [] o m e =
@@ -171,7 +170,7 @@ no_member apex all r e =
       | inr f ↦ f
     ]
 
-as_many : (apex : List (List ℕ)) (all ss : List Record)
+pub as_many : (apex : List (List ℕ)) (all ss : List Record)
     → length (filter_map (node_of apex all) ss) ≡ count_by (is_member apex) ss
 as_many apex all [] = refl
 as_many apex all (s ∷ ss) =
@@ -221,7 +220,7 @@ makes_listing apex rs nodes up none is once =
       few = rw is (grind (arith, nat_tests, few, m));
     }
 
-nodes_are : (apex : List (List ℕ)) (rs : List Record) → IsStrictlySortedBy record_order rs
+pub nodes_are : (apex : List (List ℕ)) (rs : List Record) → IsStrictlySortedBy record_order rs
     → nodes_of apex rs ≡ filter_map (node_of apex rs) rs
 nodes_are apex rs up = ap (filter_map (node_of apex rs)) (in_order_stays rs up)
 

@@ -76,3 +76,7 @@ broken_records apex records =
 abbrev pub broken_of : Name → List Record → Option Broken
 broken_of apex records =
     option_or (broken_records apex records) (if zone_twice (nodes_of apex records) then Some ZoneTwice else None)
+
+-- the reason that the number of member nodes gives, if it gives one
+abbrev pub by_count : Name → List Record → Option Broken
+by_count apex records = if too_many apex records then Some TooManyMembers else None

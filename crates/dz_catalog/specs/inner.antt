@@ -1,3 +1,3 @@
 -- Inner: how the code keeps things.
 pub mod Below
-pub mod Count
+pub mod Labels

@@ -1,6 +1,6 @@
 //! Why a catalog's records make no listing. In a version they are in canonical order, so each reason takes one pass.
 
-ghost use Rattle.std.specs.Prelude.{◌≡◌, ◌≤◌, ◌+◌, ◌==◌, length, filter, count_by, not, false, Some, MatchOption};
+ghost use Rattle.std.specs.Prelude.{◌≡◌, ◌≤◌, ◌+◌, ◌==◌, ◌||◌, length, filter, count_by, not, false, Some, MatchOption};
 ghost use Rattle.std.specs.Bool.{OnFalse};
 ghost use Rattle.std.specs.List.{list_any};
 ghost use Rattle.std.specs.List.Sorted.{IsStrictlySortedBy};
@@ -8,9 +8,8 @@ ghost use Rattle.dz_name.specs.Name.{wire_of, same_label};
 ghost use Rattle.dz_record.specs.Record.{record_order};
 ghost use Rattle.dz_zone.specs.Valid.{both_are};
 ghost use Rattle.dz_catalog.specs.Member.{is_node, is_coo, is_member};
-ghost use Rattle.dz_catalog.specs.inner.Count.{by_count};
 ghost use Rattle.dz_catalog.specs.Broken.{is_version, no_version, version_twice, other_version, version_name};
-ghost use Rattle.dz_catalog.specs.Broken.{version_2, twins, member_twice, coo_twice, broken_records};
+ghost use Rattle.dz_catalog.specs.Broken.{version_2, twins, member_twice, coo_twice, broken_records, by_count};
 
 use crate::names::{is_coo, is_node};
 use dz_lookup::rrset_of;
@@ -90,6 +89,15 @@ fn other_version(version: &Version) -> bool
     ensures { result ≡ other_version version.now.apex version.now.records }
 {
     has_other(versions(version))
+}
+
+/// Whether there is no version, or more than one, or another one than 2.
+pub(crate) fn is_version_bad(version: &Version) -> bool
+    ensures { result ≡ ((no_version version.now.apex version.now.records
+        || version_twice version.now.apex version.now.records)
+        || other_version version.now.apex version.now.records) }
+{
+    no_version(version) || version_twice(version) || other_version(version)
 }
 
 /// Whether the RDATA of a record isn't the character string 2.

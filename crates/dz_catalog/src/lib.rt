@@ -2,12 +2,15 @@
 #![tactic(auto)]
 
 mod broken;
+mod edits;
 mod fault;
+mod labels;
 mod laws;
 mod listing;
 mod names;
 mod nodes;
 
+pub use edits::read_edits;
 pub use fault::CatalogError;
 pub use laws::order_is_free;
-pub use listing::{read_listing, read_listing_after};
+pub use listing::read_listing;

@@ -3,8 +3,7 @@
 ghost use Rattle.std.specs.Prelude.{◌≡◌};
 ghost use Rattle.std.specs.List.Sorted.{IsStrictlySortedBy};
 ghost use Rattle.dz_record.specs.Record.{record_order};
-ghost use Rattle.dz_catalog.specs.Broken.{broken_records};
-ghost use Rattle.dz_catalog.specs.inner.Count.{by_count};
+ghost use Rattle.dz_catalog.specs.Broken.{broken_records, by_count};
 ghost use Rattle.dz_catalog.specs.Listing.{listing_of};
 ghost use Rattle.dz_catalog.specs.Answers.{Reads};
 
@@ -22,32 +21,15 @@ use std::alloc::Global;
 pub fn read_listing(alloc: Global, version: &Version) -> Result<Listing, CatalogError>
     ensures { Reads result (listing_of version.now.apex version.now.records) }
 {
-    read_listing_after(alloc, version, None)
-}
-
-/// The same, in less time where most of the nodes are at their labels in an earlier listing. Errors are those of
-/// [`read_listing`].
-pub fn read_listing_after(
-    alloc: Global,
-    version: &Version,
-    before: Option<&Listing>,
-) -> Result<Listing, CatalogError>
-    ensures { Reads result (listing_of version.now.apex version.now.records) }
-{
     match broken_records(version) {
         Some(broken) => Err(CatalogError::Broken(broken)),
-        None => read_nodes(alloc, &version.apex().to_name(), version.records(), before),
+        None => read_nodes(alloc, &version.apex().to_name(), version.records()),
     }
 }
 
 /// The listing of records that are broken by no reason other than the number of members and their zones. Nodes that
 /// aren't too many make no listing only where two name one zone. Errors are those of [`read_listing`].
-fn read_nodes(
-    alloc: Global,
-    apex: &Name,
-    records: &[Rr],
-    before: Option<&Listing>,
-) -> Result<Listing, CatalogError>
+fn read_nodes(alloc: Global, apex: &Name, records: &[Rr]) -> Result<Listing, CatalogError>
     requires sorted { IsStrictlySortedBy record_order records.now }
     requires unbroken { broken_records apex.now records.now ≡ by_count apex.now records.now }
     ensures { Reads result (listing_of apex.now records.now) }
@@ -56,7 +38,7 @@ fn read_nodes(
     if Listing::NODES < nodes.len() {
         return Err(CatalogError::Broken(Broken::TooManyMembers));
     }
-    match Listing::try_from_vec_after(alloc, nodes, before)? {
+    match Listing::try_from_vec(alloc, nodes)? {
         None => Err(CatalogError::Broken(Broken::ZoneTwice)),
         Some(listing) => Ok(listing),
     }

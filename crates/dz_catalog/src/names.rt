@@ -18,7 +18,7 @@ fn is_root(name: &NameRef) -> bool
 }
 
 /// The name one label up, on the same octets; none for the root.
-fn parent<'a>(name: &NameRef<'a>) -> Option<NameRef<'a>>
+pub(crate) fn parent<'a>(name: &NameRef<'a>) -> Option<NameRef<'a>>
     ensures { result ≡ parent_of name.now }
 {
     if is_root(name) {

@@ -212,7 +212,7 @@ module _ {K X : Type 0} (R : K → K → Ordering) (o : IsTotalOrder R) where
   sorted_at (c ∷ cs) (suc i) d h s = sorted_at cs i d (omega arith) (sorted_back c (flat cs) s)
 
   -- the chunks before a place, the one there and those after it
-  flat_at : (cs : List (List (K × X))) (i : ℕ) (d : List (K × X)) → i < length cs
+  pub flat_at : (cs : List (List (K × X))) (i : ℕ) (d : List (K × X)) → i < length cs
       → flat cs ≡ flat (take i cs) ++ (get_or cs i d ++ flat (drop (i + 1) cs))
   flat_at [] i d h = absurd (omega arith)
   flat_at (c ∷ cs) zero d h = refl

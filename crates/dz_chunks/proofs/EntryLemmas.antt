@@ -18,12 +18,12 @@ less_of Less h = refl
 less_of Equal h = absurd (false≢true h)
 less_of Greater h = absurd (false≢true h)
 
-equal_of : (o : Ordering) → is_eq o ≡ true → o ≡ Equal
+pub equal_of : (o : Ordering) → is_eq o ≡ true → o ≡ Equal
 equal_of Less h = absurd (false≢true h)
 equal_of Equal h = refl
 equal_of Greater h = absurd (false≢true h)
 
-less_left : (o : Ordering) → is_gt o ≡ false → is_eq o ≡ false → o ≡ Less
+pub less_left : (o : Ordering) → is_gt o ≡ false → is_eq o ≡ false → o ≡ Less
 less_left Less g e = refl
 less_left Equal g e = absurd (false≢true (sym e))
 less_left Greater g e = absurd (false≢true (sym g))

@@ -6,3 +6,4 @@ pub mod CutLemmas
 pub mod NumberLemmas
 pub mod MarkLemmas
 pub mod SearchLemmas
+pub mod RankLemmas

@@ -1,2 +1,3 @@
 -- Inner: how the code keeps a map.
 pub mod Chunked
+pub mod Ranked

@@ -41,7 +41,7 @@ pub(crate) fn length_before<K: Lead + Copy, V: Keyed<K>>(chunks: &[Chunk<K, V>],
 }
 
 /// How many chunks end before a key.
-fn count_before<K: Lead + Copy, V: Keyed<K>, L: Ledger>(
+pub(crate) fn count_before<K: Lead + Copy, V: Keyed<K>, L: Ledger>(
     chunks: &[Chunk<K, V>],
     key: &K,
     steps: &mut Steps<L>,

@@ -40,7 +40,7 @@ fn first_chunk<K: Lead + Copy, V: Keyed<K> + Drop>(
 }
 
 /// The chunks with a value at its key.
-fn chunks_with<K: Lead + Copy, V: Keyed<K> + Drop, E: Ledger, R: Ledger, C: Ledger>(
+pub(crate) fn chunks_with<K: Lead + Copy, V: Keyed<K> + Drop, E: Ledger, R: Ledger, C: Ledger>(
     alloc: Global,
     chunks: &[Chunk<K, V>],
     value: V,
@@ -65,7 +65,7 @@ fn chunks_with<K: Lead + Copy, V: Keyed<K> + Drop, E: Ledger, R: Ledger, C: Ledg
 }
 
 /// The chunks but the entry at a key.
-fn chunks_without<K: Lead + Copy, V: Keyed<K> + Drop, E: Ledger, R: Ledger, C: Ledger>(
+pub(crate) fn chunks_without<K: Lead + Copy, V: Keyed<K> + Drop, E: Ledger, R: Ledger, C: Ledger>(
     alloc: Global,
     chunks: &[Chunk<K, V>],
     key: &K,

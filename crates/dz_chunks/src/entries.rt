@@ -5,7 +5,7 @@ ghost use Rattle.std.specs.Prelude.{Some, OnOk, IfOk};
 ghost use Rattle.std.specs.FinMap.{is_sorted, find, put};
 ghost use Rattle.std.specs.Option.{option_map};
 ghost use Rattle.std.specs.Ordering.{is_lt};
-ghost use Rattle.dz_chunks.specs.Map.{last_upto, without_key};
+ghost use Rattle.dz_chunks.specs.Map.{last_upto, place_in, without_key};
 ghost use Rattle.dz_chunks.specs.Search.{IsSearch};
 ghost use Rattle.dz_chunks.specs.inner.Chunked.{AllBefore, NotBefore, begins_at, IsUptoAt, IsBehindAt};
 
@@ -93,6 +93,25 @@ pub(crate) fn value_of<'a, K: Lead + Copy, V: Keyed<K>, L: Ledger>(
     let place = place_of(entries, key, steps);
     if is_at(entries, place, key, steps) {
         Some(entries[place].value())
+    } else {
+        None
+    }
+}
+
+/// The place of a key.
+pub(crate) fn place_in<K: Lead + Copy, V: Keyed<K>, L: Ledger>(
+    entries: &[Entry<K, V>],
+    key: &K,
+    steps: &mut Steps<L>,
+) -> Option<usize>
+    requires sorted { T (is_sorted K.cmp entries.now) }
+    requires short { length entries.now ≤ 128 }
+    ensures value { result ≡ place_in K.cmp key.now entries.now }
+    ensures cost { steps.new ≤ steps.old + 9 }
+{
+    let place = place_of(entries, key, steps);
+    if is_at(entries, place, key, steps) {
+        Some(place)
     } else {
         None
     }

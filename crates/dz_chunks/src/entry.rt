@@ -52,6 +52,14 @@ impl<K: Lead + Copy, V: Keyed<K>> Entry<K, V> {
         ensures counted { steps.new ≡ steps.old + 1 }
     {
         steps.tick();
+        self.share()
+    }
+
+    /// The same as [`Entry::copied`], for a caller that counts nothing.
+    pub fn share(&self) -> Result<Entry<K, V>, AllocError>
+        ensures copied { IfOk result (λ entry. entry ≡ self.now) }
+        ensures key { V.key self.now.1 ≡ self.now.0 }
+    {
         Ok(Entry {
             lead: self.lead,
             value: Arc::try_clone(&self.value)?,

@@ -47,7 +47,7 @@ use Rattle.dz_fleet.proofs.EndLemmas.{waiting, ends_idle, ends_turn, placed_at}
 use Rattle.dz_fleet.proofs.StartLemmas.{opened_kept}
 use Rattle.dz_fleet.proofs.HandLemmas.{room, first_idle, job_is, sent_by, due_core}
 use Rattle.dz_fleet.proofs.TakeLemmas.{MayJoin, stands_some, follows, Tells, tells, aftermath_is}
-use Rattle.dz_fleet.proofs.TakenLemmas.{own_from, values_same}
+use Rattle.dz_fleet.proofs.TakenLemmas.{own_from}
 use Rattle.dz_fleet.proofs.SettleLemmas.{settled_by}
 use Rattle.dz_fleet.proofs.WakeLemmas.{same_busy}
 use Rattle.dz_fleet.proofs.StateLemmas.{AreOwn, state_step, state_opened, own_step, held_own}
@@ -212,7 +212,7 @@ module _ (c : Core) (job : JobOf) (octets : Octets) (ok : IsWell c) (fly : IsFly
       let r = renewed_waits s (taken_for job octets) c.flight c.values ok.state later_state ok.apart
       (omega (arith, count, ok.sound.begun)) old ok.sound.sized ok.sound.waiting in
       subst (λ vs. AreRenewed later c.flight vs)
-      (values_same s later c.values _ ∙ ap (λ a. values_after s c.values a later.fold.members) (sym is)) r
+      (ap (λ a. values_after s c.values a later.fold.members) (sym is)) r
 
   seated : IsSeated later job.flight.zone job.flight.incarnation
   seated = place_there later job.flight.zone job.flight.incarnation

@@ -10,14 +10,20 @@ pub mod GrowLemmas
 pub mod HandLemmas
 pub mod KeptLemmas
 mod LastLemmas
+pub mod LeapLemmas
+pub mod ListedLemmas
 pub mod MadeLemmas
+pub mod ReachLemmas
 pub mod RelistLemmas
 pub mod RenewLemmas
 pub mod SettleLemmas
 pub mod SoundLemmas
 pub mod StartLemmas
 pub mod StateLemmas
+pub mod StayLemmas
+pub mod StretchLemmas
 pub mod TakeLemmas
 pub mod TakenLemmas
 pub mod WaitLemmas
 pub mod WakeLemmas
+pub mod WriteLemmas

@@ -70,7 +70,7 @@ mapped_from : {X Y : Type 0} (f : X → Y) (o : Option X) (y : Y) → option_map
 mapped_from f None y e = absurd (cc)
 mapped_from f (Some x) y e = (x, refl, (let s : f x ≡ y = cc in sym s))
 
-mapped_there : {X Y : Type 0} (f : X → Y) (xs : List X) (k : ℕ) (y : Y) → slice_get (map f xs) k ≡ Some y
+pub mapped_there : {X Y : Type 0} (f : X → Y) (xs : List X) (k : ℕ) (y : Y) → slice_get (map f xs) k ≡ Some y
     → (x : X) × (slice_get xs k ≡ Some x) × (y ≡ f x)
 mapped_there f xs k y e = mapped_from f (slice_get xs k) y (sym (slice_get-map f xs k) ∙ e)
 
@@ -140,7 +140,7 @@ all_there P (x ∷ xs) (suc k) m h e = all_there P xs k m h.1 e
 other_than : (z k : List (List ℕ)) → canonical_order z k ≡ Less → same_name z k ≡ false
 other_than z k h = same_ties z k ∙ ap is_eq h
 
-found_own : (ms : List MemberOf) (k : ℕ) (m : MemberOf) → IsStrictlySortedBy canonical_order (map (λ x. x.zone) ms)
+pub found_own : (ms : List MemberOf) (k : ℕ) (m : MemberOf) → IsStrictlySortedBy canonical_order (map (λ x. x.zone) ms)
     → slice_get ms k ≡ Some m → member_of m.zone ms ≡ Some m
 unfolding IsStrictlySortedBy
 found_own [] k m up e = absurd (cc)
@@ -152,7 +152,7 @@ found_own (x ∷ xs) (suc k) m up e =
     let lt : canonical_order x.zone m.zone ≡ Less = all_there (λ z. canonical_order x.zone z ≡ Less) xs k m up.0 e in
     rw (other_than x.zone m.zone lt) (found_own xs k m up.1 e)
 
-apart_there : (s : State) (ms : List MemberOf) (k : ℕ) (m : MemberOf)
+pub apart_there : (s : State) (ms : List MemberOf) (k : ℕ) (m : MemberOf)
     → AllByRecursion (λ x. number_of s.fold.config x.zone ≡ None) ms → slice_get ms k ≡ Some m
     → catalog_at s m.zone ≡ None
 apart_there s [] k m h e = absurd (cc)

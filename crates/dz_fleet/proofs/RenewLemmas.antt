@@ -2,7 +2,6 @@
 use Rattle.std.proofs.Common.{◌≡◌, ℕ, ◌<◌, ◌≤◌, List, map, take, length, refl, sym, ◌∙◌, ap, arith, Some, None, Ok}
 use Rattle.std.proofs.Common.{Err}
 use Rattle.std.specs.Prelude.{Option, Result, slice_get}
-use Rattle.std.specs.Option.{unwrap_or}
 use Rattle.std.specs.List.{AllByRecursion}
 use Rattle.std.proofs.lemmas.List.{length-append, length-map, length-take-le}
 use Rattle.dz_member.specs.declared.change.Change.{Change}
@@ -27,8 +26,7 @@ use Rattle.dz_history.proofs.KeptLemmas.{fold_of_member, fold_up_to_date, fold_r
 use Rattle.dz_history.proofs.KeptLemmas.{primaries_by_fold}
 use Rattle.dz_history.proofs.PlaceLemmas.{seats_size}
 use Rattle.dz_job.specs.Job.{JobOf}
-use Rattle.dz_fleet.specs.Values.{carried, relisted_values}
-use Rattle.dz_fleet.specs.Weighing.{values_for}
+use Rattle.dz_fleet.specs.Values.{carried, relisted_values, values_after}
 use Rattle.dz_fleet.proofs.WaitLemmas.{AreWaiting}
 use Rattle.dz_fleet.proofs.RelistLemmas.{waiting_relisted}
 
@@ -84,7 +82,7 @@ renewed_by_aftermath : (s : State) (t : Taken) (jobs : List JobOf) (values : Lis
     → 0 < s.count
     → AllByRecursion (λ j. j.flight.incarnation < s.count) jobs → length values ≡ length (seats s)
     → AreWaiting s jobs values
-    → AreRenewed (step s (Transfer t)) jobs (unwrap_or (values_for s values (step s (Transfer t)) aftermath) values)
+    → AreRenewed (step s (Transfer t)) jobs (values_after s values aftermath (step s (Transfer t)).fold.members)
 renewed_by_aftermath s t jobs values Member e ok later apart some old sized waits =
     let same = fold_stays s t (λ cs h. let f : Member ≡ Changes cs = sym e ∙ h in cc) in
     record {
@@ -110,6 +108,6 @@ pub renewed_waits : (s : State) (t : Taken) (jobs : List JobOf) (values : List V
     → AllByRecursion (λ j. j.flight.incarnation < s.count) jobs → length values ≡ length (seats s)
     → AreWaiting s jobs values
     → AreRenewed (step s (Transfer t)) jobs
-    (unwrap_or (values_for s values (step s (Transfer t)) (aftermath_of s t.zone (decision_of s t))) values)
+    (values_after s values (aftermath_of s t.zone (decision_of s t)) (step s (Transfer t)).fold.members)
 renewed_waits s t jobs values ok later apart some old sized waits = renewed_by_aftermath s t jobs values
     (aftermath_of s t.zone (decision_of s t)) refl ok later apart some old sized waits

@@ -2,11 +2,9 @@
 use Rattle.std.proofs.Common.{◌≡◌, ℕ, ◌<◌, true, List, [], ◌∷◌, ◌++◌, map, length, refl, sym, ◌∙◌, ap, subst, arith}
 use Rattle.std.proofs.Common.{Some, None}
 use Rattle.std.specs.Prelude.{Option, slice_get, slice_set, filter, IsSome, option_map}
-use Rattle.std.specs.Option.{unwrap_or}
 use Rattle.std.proofs.lemmas.Option.{get_or_from_slice_get, slice_get_within}
 use Rattle.dz_timer.specs.Values.{ValuesOf, fresh, succeeded}
 use Rattle.dz_history.specs.declared.aftermath.Aftermath.{Aftermath}
-use Rattle.dz_history.specs.declared.aftermath.Aftermath.TheVariants.{Member, Broken, Changes}
 use Rattle.dz_history.specs.declared.entry.Entry.{Entry}
 use Rattle.dz_history.specs.State.{State, IsState, stands, held_at, catalog_at}
 use Rattle.dz_history.specs.After.{after, step}
@@ -23,7 +21,9 @@ use Rattle.dz_job.specs.Job.{JobOf, taken_for, refresh_in}
 use Rattle.dz_fleet.specs.declared.flight.Flying.{Flying}
 use Rattle.dz_fleet.specs.Values.{value_at, values_after}
 use Rattle.dz_fleet.specs.Core.{entry_for, after_success}
-use Rattle.dz_fleet.specs.Weighing.{Renewed, values_for, renewal_for, aftermath_in}
+use Rattle.dz_fleet.specs.declared.weighed.Renewal.{Renewal}
+use Rattle.dz_fleet.specs.Weighing.{written, aftermath_in}
+use Rattle.dz_fleet.specs.inner.Renewing.{renewed_by, written_by, IsMade}
 use Rattle.dz_fleet.specs.Sound.{seat_of, IsAmong, IsSent}
 use Rattle.dz_fleet.specs.inner.Flying.{job_in, marked}
 use Rattle.dz_fleet.specs.inner.Kept.{core_in, IsKept}
@@ -44,33 +44,23 @@ own_from s job octets (Some number) e h =
     subst (λ i. stands (step s (entry_for job octets)) job.flight.zone i ≡ true) zero
     (stands_catalog s (taken_for job octets) job.flight.zone number e).1
 
-pub values_same : (s t : State) (values : List ValuesOf) (a : Aftermath)
-    → unwrap_or (values_for s values t a) values ≡ values_after s values a t.fold.members
-values_same s t values Member = refl
-values_same s t values (Broken reason) = refl
-values_same s t values (Changes cs) = refl
-
 -- what was made whole, and what holds then
 pub record AreTaken (t : State) (list : List Entry) (values values' : List ValuesOf) (job : JobOf) (octets : List ℕ)
     (aftermath : Aftermath) : Type 0 where
   pub now : t ≡ step (after list) (entry_for job octets)
   pub relisted : values'
-      ≡ unwrap_or (values_for (after list) values (step (after list) (entry_for job octets)) aftermath) values
+      ≡ values_after (after list) values aftermath (step (after list) (entry_for job octets)).fold.members
 
 pub are_taken : (t : State) (list : List Entry) (tickets : ℕ) (fs : List Flying) (values values' : List ValuesOf)
-    (job : JobOf) (octets : List ℕ) (aftermath : Aftermath) (r : Option Renewed)
-    → r ≡ renewal_for (core_in list tickets fs values) job octets aftermath → Some t ≡ option_map (λ x. x.state) r
-    → Some values' ≡ option_map (λ x. unwrap_or x.values values) r
+    (job : JobOf) (octets : List ℕ) (aftermath : Aftermath) (r : Renewal)
+    → IsMade (core_in list tickets fs values) job octets aftermath r
+    → Some t ≡ option_map (λ x. x.state) (renewed_by r) → values' ≡ written values (written_by r)
     → AreTaken t list values values' job octets aftermath
-are_taken t list tickets fs values values' job octets aftermath r e f g =
-    let s : Some t ≡ Some (step (after list) (entry_for job octets)) = rw e at f in
-    let v : Some values' ≡ Some
-    (unwrap_or (values_for (after list) values (step (after list) (entry_for job octets)) aftermath) values) =
-    rw e at g in
+are_taken t list tickets fs values values' job octets aftermath r made f g =
+    let s : Some t ≡ Some (step (after list) (entry_for job octets)) = rw made.renewed at f in
     record {
       now = (let x : t ≡ step (after list) (entry_for job octets) = cc in x);
-      relisted = (let x : values' ≡ unwrap_or
-          (values_for (after list) values (step (after list) (entry_for job octets)) aftermath) values = cc in x);
+      relisted = g ∙ made.values;
     }
 
 module _ (h t : State) (list : List Entry) (tickets : ℕ) (fs : List Flying) (values values' : List ValuesOf)
@@ -138,9 +128,8 @@ module _ (h t : State) (list : List Entry) (tickets : ℕ) (fs : List Flying) (v
       let jobs = marked_jobs t h.count (filter (stay job.flight.ticket) fs) ∙ landed_jobs job.flight.ticket fs in
       let all : values' ≡ values_after (after list) values
       (aftermath_in (core_in list tickets fs values) job octets) t.fold.members =
-      are.relisted ∙ (values_same (after list) (step (after list) (entry_for job octets)) values _
-      ∙ ap (λ (s : State). values_after (after list) values
-      (aftermath_in (core_in list tickets fs values) job octets) s.fold.members) (sym are.now)) in
+      are.relisted ∙ ap (λ (s : State). values_after (after list) values
+      (aftermath_in (core_in list tickets fs values) job octets) s.fold.members) (sym are.now) in
       rw (jobs, ← are.now, ← all, at, v) refl
 
 pub some_place : (t : State) (zone : List (List ℕ)) (i : ℕ) → IsSeated t zone i → IsSome (place_at t zone)

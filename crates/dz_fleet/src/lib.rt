@@ -3,6 +3,8 @@
 #![tactic(auto)]
 
 mod absent;
+mod ahead;
+mod carried;
 mod due;
 mod fleet;
 mod flight;
@@ -10,7 +12,9 @@ mod hand_out;
 mod laws;
 mod places;
 mod relisted;
+mod relisting;
 mod settle;
+mod waiting;
 mod weigh;
 mod weighed;
 

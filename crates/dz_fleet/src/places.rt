@@ -1,7 +1,6 @@
 //! The places of zones.
 
-ghost use Rattle.std.specs.Prelude.{◌≡◌, ◌<◌, length, slice_get, position, Some, IsSome};
-ghost use Rattle.dz_name.specs.Name.{same_name};
+ghost use Rattle.std.specs.Prelude.{◌≡◌, ◌<◌, length, slice_get, Some, IsSome};
 ghost use Rattle.dz_history.specs.Places.{seats, place_at};
 
 use dz_history::Holdings;
@@ -33,19 +32,6 @@ pub(crate) fn own_place(holdings: &Holdings, zone: &Name) -> usize
     }
 }
 
-/// The place of a zone that has this one among the members.
-pub(crate) fn place_behind(holdings: &Holdings, member: usize, zone: &Name) -> usize
-    requires { Some member ≡ position (λ m. same_name m.zone zone.now) holdings.now.fold.members }
-    ensures { place_at holdings.now zone.now ≡ Some result }
-{
-    let fold = holdings.fold();
-    let catalogs = fold.catalogs();
-    match fold.catalog_number(zone) {
-        Some(number) => number,
-        None => catalogs.len() + member,
-    }
-}
-
 /// The zone at a place, and its incarnation.
 pub(crate) fn seat_at(holdings: &Holdings, place: usize) -> (Name, u64)
     requires { place < length (seats holdings.now) }
@@ -58,6 +44,6 @@ pub(crate) fn seat_at(holdings: &Holdings, place: usize) -> (Name, u64)
         (fold.settings(place).name, 0)
     } else {
         let member = fold.member(place - catalogs);
-        (*member.zone(), member.incarnation())
+        (member.zone().to_name(), member.incarnation())
     }
 }

@@ -1,36 +1,53 @@
 //! What zones wait for after a listing.
 
-ghost use Rattle.std.specs.Prelude.{◌≡◌, ◌≤◌, ◌++◌, length, map, take, IfOk, option_map};
-ghost use Rattle.std.specs.Option.{option_eq};
-ghost use Rattle.std.specs.Str.{bytes_eq};
-ghost use Rattle.dz_timer.specs.Values.{fresh};
-ghost use Rattle.dz_fleet.specs.Values.{value_at, kept, same_primaries, carried, relisted_values};
+ghost use Rattle.std.specs.Prelude.{◌≡◌, ◌≤◌, ◌<◌, ◌+◌, ◌-◌, ◌++◌, length, map, take, drop, slice_get, position};
+ghost use Rattle.std.specs.Prelude.{IfOk, IfSome, Some, None, nat_lt, if◌then◌else◌};
+ghost use Rattle.dz_name.specs.Name.{same_name};
+ghost use Rattle.dz_history.specs.Places.{seats, IsApart};
+ghost use Rattle.dz_fleet.specs.Values.{carried, relisted_values};
+ghost use Rattle.dz_fleet.specs.inner.Relisting.{AreRelisted, AreBehind};
 
-use crate::places::place_behind;
+use crate::ahead::{count_before, next_place};
+use crate::carried::carried;
+use crate::relisting::{Relisting, count_of, zone_at};
 use dz_history::Holdings;
-use dz_member::{Fold, Member};
-use dz_name::Octets;
+use dz_member::Changes;
 use dz_timer::{Schedule, Values};
 use std::alloc::{AllocError, Global};
 
 /// More zones than a schedule has places for, 2^32, count as out of memory.
 const ZONES: usize = 4_294_967_296;
 
+/// How many members before a listing, and after it, are behind.
+#[derive(Clone, Copy)]
+pub(crate) struct Behind {
+    left: usize,
+    made: usize,
+}
+
 /// What each zone waits for after a listing: catalogs and the members of the incarnations before keep their values, and
-/// others begin. `AllocError` where memory runs out.
+/// others begin. Between changed zones values are copied in runs. `AllocError` where memory runs out.
 pub(crate) fn relisted(
     alloc: Global,
     before: &Holdings,
     schedule: &Schedule,
     after: &Holdings,
+    changes: &Changes,
 ) -> Result<Schedule, AllocError>
-    requires config { after.now.fold.config ≡ before.now.fold.config }
-    requires sized { length before.now.fold.config ≤ length schedule.now }
+    requires apart { IsApart before.now }
+    requires sized { length schedule.now ≡ length (seats before.now) }
+    requires changes { AreRelisted before.now.fold.members after.now.fold.members changes.now }
     ensures { IfOk result (λ s. s
         ≡ relisted_values before.now schedule.now after.now.fold.members) }
 {
-    let mut values = catalog_values(alloc, before, schedule, after.fold().count())?;
-    carry(&mut values, before, schedule, after.fold())?;
+    let after = after.fold();
+    let mut values = catalog_values(alloc, before, schedule, after.count())?;
+    let relisting = Relisting {
+        before,
+        schedule,
+        after,
+    };
+    carry(&mut values, &relisting, changes)?;
     if ZONES <= values.len() {
         return Err(AllocError);
     }
@@ -56,83 +73,96 @@ fn catalog_values(
 /// Appends the values of members to others. `AllocError` where memory runs out.
 fn carry(
     values: &mut Vec<Values>,
-    before: &Holdings,
-    schedule: &Schedule,
-    after: &Fold,
+    relisting: &Relisting<'_>,
+    changes: &Changes,
 ) -> Result<(), AllocError>
+    requires changes { AreRelisted relisting.now.state.fold.members relisting.now.members
+        changes.now }
     ensures { IfOk result (λ _. values.new.items
-        ≡ values.old.items ++ map (carried before.now schedule.now) after.now.members) }
+        ≡ values.old.items
+        ++ map (carried relisting.now.state relisting.now.values) relisting.now.members) }
 {
-    let mut likely = 0;
-    'members: for place in 0..after.count() {
-        values.push(carried(before, schedule, &mut likely, &after.member(place)))?;
+    let mut behind = Behind { left: 0, made: 0 };
+    'changes: for place in 0..count_of(changes) {
+        behind = carry_to(values, relisting, behind, changes, place)?;
     }
-    Ok(())
+    let count = relisting.before.fold().count();
+    copy_run(values, relisting, behind.left, count)
 }
 
-/// The values of a member after a listing. Its earlier membership is looked for first at a likely place.
-fn carried(
-    before: &Holdings,
-    schedule: &Schedule,
-    likely: &mut usize,
-    member: &Member<'_>,
-) -> Values
-    ensures { result ≡ carried before.now schedule.now member.now }
+/// Appends the values of the members up to the zone of a change, and of its own. It answers how many are behind then.
+/// `AllocError` where memory runs out.
+fn carry_to(
+    values: &mut Vec<Values>,
+    relisting: &Relisting<'_>,
+    behind: Behind,
+    changes: &Changes,
+    place: usize,
+) -> Result<Behind, AllocError>
+    requires there { place < length changes.now }
+    requires behind { AreBehind relisting.now.state.fold.members relisting.now.members
+        (drop place changes.now) behind.left behind.made }
+    ensures behind { IfOk result (λ r. AreBehind relisting.now.state.fold.members
+        relisting.now.members (drop (place + 1) changes.now) r.left r.made) }
+    ensures values { IfOk result (λ r. values.new.items
+        ++ map (carried relisting.now.state relisting.now.values)
+        (drop r.made relisting.now.members)
+        ≡ values.old.items ++ map (carried relisting.now.state relisting.now.values)
+        (drop behind.made relisting.now.members)) }
 {
-    let fold = before.fold();
-    let zone = member.zone();
-    match fold.place_near(*likely, zone) {
-        None => Values::fresh(),
-        Some(place) => {
-            *likely = place.saturating_add(1);
-            let held = fold.member(place);
-            if held.incarnation() == member.incarnation() {
-                let seat = place_behind(before, place, zone);
-                kept(value_at(schedule, seat), &held, member)
-            } else {
-                Values::fresh()
-            }
-        }
+    let zone = zone_at(changes, place);
+    let left = count_before(relisting.before.fold(), behind.left, &zone);
+    copy_run(values, relisting, behind.left, left)?;
+    let made = behind.made + (left - behind.left);
+    let next_left = next_place(relisting.before.fold(), left, &zone);
+    let next_made = next_place(relisting.after, made, &zone);
+    if made < next_made {
+        values.push(carried_at(relisting, place_before(left, next_left), made))?;
     }
+    Ok(Behind {
+        left: next_left,
+        made: next_made,
+    })
 }
 
-/// The values at a place.
-fn value_at(schedule: &Schedule, place: usize) -> Values
-    ensures { result ≡ value_at schedule.now place }
+/// Appends the values of the members before a listing from one place to another, which it leaves as they are.
+/// `AllocError` where memory runs out.
+fn copy_run(
+    values: &mut Vec<Values>,
+    relisting: &Relisting<'_>,
+    from: usize,
+    upto: usize,
+) -> Result<(), AllocError>
+    requires order { from ≤ upto }
+    requires within { upto ≤ length relisting.now.state.fold.members }
+    ensures { IfOk result (λ _. values.new.items
+        ≡ values.old.items ++ map (carried relisting.now.state relisting.now.values)
+        (take (upto - from) (drop from relisting.now.state.fold.members))) }
 {
-    if place < schedule.len() {
-        schedule.at(place)
-    } else {
-        Values::fresh()
-    }
+    let catalogs = relisting.before.fold().catalogs().len();
+    let run = &relisting.schedule.values()[catalogs + from..catalogs + upto];
+    values.extend_from_slice(run)
 }
 
-/// The values of a member that stays: where it has other primaries, the first of them is asked next.
-fn kept(values: Values, before: &Member<'_>, now: &Member<'_>) -> Values
-    ensures { result ≡ kept values before.now now.now }
+/// The values of the member at a place after a listing, whose zone had this place before it, if it was a member.
+pub(crate) fn carried_at(relisting: &Relisting<'_>, held: Option<usize>, place: usize) -> Values
+    requires there { place < length relisting.now.members }
+    requires held { IfSome (slice_get relisting.now.members place)
+        (λ m. held ≡ position (λ b. same_name b.zone m.zone) relisting.now.state.fold.members) }
+    ensures { slice_get (map (carried relisting.now.state relisting.now.values)
+        relisting.now.members) place ≡ Some result }
 {
-    if same_primaries(before, now) {
-        values
-    } else {
-        values.turned_back()
-    }
+    carried(
+        relisting.before,
+        relisting.schedule,
+        held,
+        &relisting.after.member(place),
+    )
 }
 
-/// Whether a member is of the same catalog and the same group as before.
-fn same_primaries(before: &Member<'_>, now: &Member<'_>) -> bool
-    ensures { result ≡ same_primaries before.now now.now }
+/// A place, where it comes before another.
+fn place_before(place: usize, next: usize) -> Option<usize>
+    ensures { result ≡ (if nat_lt place next then Some place else None) }
 {
-    before.catalog() == now.catalog() && same_choice(before.choice(), now.choice())
-}
-
-/// Whether two members are of the same group, or of none.
-fn same_choice(a: Option<&Octets>, b: Option<&Octets>) -> bool
-    ensures { result ≡ option_eq bytes_eq (option_map (λ r. r.now) a.entry)
-        (option_map (λ r. r.now) b.entry) }
-{
-    match (a, b) {
-        (None, None) => true,
-        (Some(a), Some(b)) => a.as_slice() == b.as_slice(),
-        _ => false,
-    }
+    if place < next { Some(place) } else { None }
 }

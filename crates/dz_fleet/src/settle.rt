@@ -3,7 +3,6 @@
 ghost use Rattle.std.specs.Prelude.{◌≡◌, ◌<◌, ◌≤◌, ◌^◌, ◌==◌, ◌++◌, ◌∷◌, [], Some, None, true, false, not, length};
 ghost use Rattle.std.specs.Prelude.{map, filter, option_map, IsSome, if◌then◌else◌};
 ghost use Rattle.std.specs.List.{find};
-ghost use Rattle.std.specs.Option.{unwrap_or};
 ghost use Rattle.dz_history.specs.Legal.{CanFollow};
 ghost use Rattle.dz_timer.specs.Values.{failed, refused};
 ghost use Rattle.dz_job.specs.Job.{IsJob, JobOf, transfer_for};
@@ -12,14 +11,15 @@ ghost use Rattle.dz_fleet.specs.Core.{Core, state_of, ended_of, entry_for, prima
 ghost use Rattle.dz_fleet.specs.Core.{after_failure, after_refusal, after_success, after_end, settled, failed_core};
 ghost use Rattle.dz_fleet.specs.Core.{failure_of};
 ghost use Rattle.dz_fleet.specs.Answers.{IsOffered};
-ghost use Rattle.dz_fleet.specs.Weighing.{Fits, Renewed, octets_in, aftermath_in, renewal_for};
+ghost use Rattle.dz_fleet.specs.Weighing.{Fits, octets_in, aftermath_in, written, written_at};
 ghost use Rattle.dz_fleet.specs.Sound.{IsFlying};
 ghost use Rattle.dz_fleet.specs.inner.Flying.{marked};
-ghost use Rattle.dz_fleet.specs.inner.Renewing.{renewed_by};
+ghost use Rattle.dz_fleet.specs.inner.Renewing.{renewed_by, written_by, written_in, IsMade};
 
 use crate::fleet::{Fleet, Last};
 use crate::flight::Flying;
 use crate::places::{own_place, place_of};
+use crate::waiting::Waiting;
 use crate::weighed::{Renewal, Weighed};
 use dz_history::{Entry, Holdings};
 use dz_job::{Failure, Job, Verdict};
@@ -136,9 +136,8 @@ impl Fleet {
         requires standing { ended_of self.old job.now ≡ None }
         requires entry { entry.value ≡ entry_for job.now (octets_in entry.value) }
         requires follows { IsJob job.now → CanFollow (state_of self.old) entry.value }
-        requires renewed { let octets = octets_in entry.value in
-            renewed_by renewal ≡ renewal_for self.old job.now octets
-            (aftermath_in self.old job.now octets) }
+        requires made { let octets = octets_in entry.value in
+            IsMade self.old job.now octets (aftermath_in self.old job.now octets) renewal }
         ensures { let octets = octets_in entry.value in
             self.new ≡ after_success self.old job.now octets
             (aftermath_in self.old job.now octets) }
@@ -223,20 +222,47 @@ fn waits(before: Values, now: u64, retry: Option<u32>, primaries: usize, whole: 
 fn renew(holdings: &mut Holdings, schedule: &mut Schedule, renewal: Renewal)
     requires { IsSome (renewed_by renewal) }
     ensures state { Some holdings.new ≡ option_map (λ r. r.state) (renewed_by renewal) }
-    ensures values { Some schedule.new
-        ≡ option_map (λ r. unwrap_or r.values schedule.old) (renewed_by renewal) }
+    ensures values { schedule.new ≡ written schedule.old (written_by renewal) }
 {
     match renewal {
         Renewal::Same => unreachable!(),
-        Renewal::Taken(others) => {
-            let old = mem::replace(holdings, others);
+        Renewal::Taken(others) => replace(holdings, others),
+        Renewal::Relisted(others, waiting) => {
+            replace(holdings, others);
+            write(schedule, waiting);
+        }
+    }
+}
+
+/// Replaces holdings by others.
+fn replace(holdings: &mut Holdings, others: Holdings)
+    ensures { holdings.new ≡ others }
+{
+    let old = mem::replace(holdings, others);
+    drop(old);
+}
+
+/// Writes what zones wait for.
+fn write(schedule: &mut Schedule, waiting: Waiting)
+    ensures { schedule.new ≡ written schedule.old (written_in waiting) }
+{
+    match waiting {
+        Waiting::Places(pairs) => write_at(schedule, &pairs),
+        Waiting::All(others) => {
+            let old = mem::replace(schedule, others);
             drop(old);
         }
-        Renewal::Relisted(others, values) => {
-            let old = mem::replace(holdings, others);
-            drop(old);
-            let old = mem::replace(schedule, values);
-            drop(old);
+    }
+}
+
+/// Writes what the zones at these places wait for.
+fn write_at(schedule: &mut Schedule, pairs: &[(usize, Values)])
+    ensures { schedule.new ≡ written_at schedule.old pairs.now }
+{
+    'pairs: for pair in pairs {
+        let (place, values) = *pair;
+        if place < schedule.len() {
+            schedule.change(place, values);
         }
     }
 }

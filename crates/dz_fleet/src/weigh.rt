@@ -13,13 +13,15 @@ ghost use Rattle.dz_history.specs.After.{step, aftermath_of};
 ghost use Rattle.dz_job.specs.Job.{JobOf, transfer_for};
 ghost use Rattle.dz_job.specs.Job.{serial_in};
 ghost use Rattle.dz_fleet.specs.Core.{Core, state_of, ended_of, entry_for, is_accepted, tsig_of, verdict_of};
-ghost use Rattle.dz_fleet.specs.Weighing.{Fits, is_taken, renewal_for, renewed_for, values_for};
+ghost use Rattle.dz_fleet.specs.Values.{values_after};
+ghost use Rattle.dz_fleet.specs.Weighing.{Fits, is_taken, written};
 ghost use Rattle.dz_fleet.specs.Sound.{IsFlying};
 ghost use Rattle.dz_fleet.specs.inner.Judging.{Stands};
-ghost use Rattle.dz_fleet.specs.inner.Renewing.{renewed_by};
+ghost use Rattle.dz_fleet.specs.inner.Relisting.{IsListed};
+ghost use Rattle.dz_fleet.specs.inner.Renewing.{renewed_by, written_by, IsMade, IsMadeBy};
 
 use crate::fleet::Fleet;
-use crate::relisted::relisted;
+use crate::waiting::waiting_after;
 use crate::weighed::{Renewal, Weighed};
 use dz_history::{Aftermath, Entry, Holdings, Taken};
 use dz_job::{Job, Verdict};
@@ -69,8 +71,8 @@ impl Fleet {
         requires flying { IsFlying self.now job.now }
         requires transfer { finished.now.transfer ≡ transfer_for job.now }
         ensures verdict { IfOk result (λ r. r.0 ≡ verdict_of self.now job.now finished.now.octets) }
-        ensures renewed { IfOk result
-            (λ r. renewed_by r.1 ≡ renewed_for self.now job.now finished.now.octets r.0) }
+        ensures made { IfOk result
+            (λ r. IsMadeBy self.now job.now finished.now.octets r.0 r.1) }
     {
         match self.ended_of(job) {
             Some(position) => Ok((Verdict::Stale(position), Renewal::Same)),
@@ -90,8 +92,8 @@ impl Fleet {
         requires standing { ended_of self.now job.now ≡ None }
         requires transfer { finished.now.transfer ≡ transfer_for job.now }
         ensures verdict { IfOk result (λ r. r.0 ≡ verdict_of self.now job.now finished.now.octets) }
-        ensures renewed { IfOk result
-            (λ r. renewed_by r.1 ≡ renewed_for self.now job.now finished.now.octets r.0) }
+        ensures made { IfOk result
+            (λ r. IsMadeBy self.now job.now finished.now.octets r.0 r.1) }
     {
         match finished.outcome() {
             Outcome::Refused(fault) => Ok((Verdict::Refused(*fault), Renewal::Same)),
@@ -112,8 +114,8 @@ impl Fleet {
         requires transfer { finished.now.transfer ≡ transfer_for job.now }
         requires comes { Stands (outcome finished.now.transfer finished.now.octets) }
         ensures verdict { IfOk result (λ r. r.0 ≡ verdict_of self.now job.now finished.now.octets) }
-        ensures renewed { IfOk result
-            (λ r. renewed_by r.1 ≡ renewed_for self.now job.now finished.now.octets r.0) }
+        ensures made { IfOk result
+            (λ r. IsMadeBy self.now job.now finished.now.octets r.0 r.1) }
     {
         match self.tsig_fault(alloc, job, finished)? {
             Some(fault) => Ok((Verdict::Refused(TakeFault::Tsig(fault)), Renewal::Same)),
@@ -134,8 +136,8 @@ impl Fleet {
         requires comes { Stands (outcome finished.now.transfer finished.now.octets) }
         requires signed { tsig_of self.now job.now finished.now.octets ≡ None }
         ensures verdict { IfOk result (λ r. r.0 ≡ verdict_of self.now job.now finished.now.octets) }
-        ensures renewed { IfOk result
-            (λ r. renewed_by r.1 ≡ renewed_for self.now job.now finished.now.octets r.0) }
+        ensures made { IfOk result
+            (λ r. IsMadeBy self.now job.now finished.now.octets r.0 r.1) }
     {
         match finished.outcome() {
             Outcome::Refused(_) => unreachable!(),
@@ -182,8 +184,8 @@ impl Fleet {
         requires same { outcome finished.now.transfer finished.now.octets ≡ up_to_date }
         requires signed { tsig_of self.now job.now finished.now.octets ≡ None }
         ensures verdict { IfOk result (λ r. r.0 ≡ verdict_of self.now job.now finished.now.octets) }
-        ensures renewed { IfOk result
-            (λ r. renewed_by r.1 ≡ renewed_for self.now job.now finished.now.octets r.0) }
+        ensures made { IfOk result
+            (λ r. IsMadeBy self.now job.now finished.now.octets r.0 r.1) }
     {
         let (_, renewal) = self.take(alloc, job, finished)?;
         let verdict = Verdict::Confirmed {
@@ -207,8 +209,8 @@ impl Fleet {
         requires new { outcome finished.now.transfer finished.now.octets ≡ new version.now }
         requires signed { tsig_of self.now job.now finished.now.octets ≡ None }
         ensures verdict { IfOk result (λ r. r.0 ≡ verdict_of self.now job.now finished.now.octets) }
-        ensures renewed { IfOk result
-            (λ r. renewed_by r.1 ≡ renewed_for self.now job.now finished.now.octets r.0) }
+        ensures made { IfOk result
+            (λ r. IsMadeBy self.now job.now finished.now.octets r.0 r.1) }
     {
         if !self.approves(job.zone(), finished, version) {
             let standing = standing_of(finished, version);
@@ -250,8 +252,7 @@ impl Fleet {
         ensures aftermath { IfOk result
             (λ r. r.0 ≡ aftermath_of (state_of self.now) job.now.flight.zone
             (outcome finished.now.transfer finished.now.octets)) }
-        ensures renewed { IfOk result
-            (λ r. renewed_by r.1 ≡ renewal_for self.now job.now finished.now.octets r.0) }
+        ensures made { IfOk result (λ r. IsMade self.now job.now finished.now.octets r.0 r.1) }
     {
         let (holdings, aftermath) = self.holdings.take(alloc, finished, job.moment())?;
         let renewal = self.renewal(alloc, holdings, &aftermath)?;
@@ -265,19 +266,19 @@ impl Fleet {
         holdings: Holdings,
         aftermath: &Aftermath,
     ) -> Result<Renewal, AllocError>
-        requires config { holdings.fold.config ≡ (state_of self.now).fold.config }
-        ensures { IfOk result (λ r. renewed_by r
-            ≡ Some record {
-              state = holdings;
-              values = values_for (state_of self.now) self.now.values holdings aftermath.now;
-            }) }
+        requires { IsListed (state_of self.now) holdings aftermath.now }
+        ensures renewed { IfOk result (λ r. renewed_by r ≡ Some record { state = holdings }) }
+        ensures values { IfOk result (λ r. written self.now.values (written_by r)
+            ≡ values_after (state_of self.now) self.now.values aftermath.now
+            holdings.fold.members) }
     {
         match aftermath {
             Aftermath::Member => Ok(Renewal::Taken(holdings)),
             Aftermath::Broken(_) => Ok(Renewal::Taken(holdings)),
-            Aftermath::Changes(_) => {
-                let schedule = relisted(alloc, &self.holdings, &self.schedule, &holdings)?;
-                Ok(Renewal::Relisted(holdings, schedule))
+            Aftermath::Changes(changes) => {
+                let (before, schedule) = (&self.holdings, &self.schedule);
+                let waiting = waiting_after(alloc, before, schedule, &holdings, changes)?;
+                Ok(Renewal::Relisted(holdings, waiting))
             }
         }
     }

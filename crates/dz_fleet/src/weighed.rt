@@ -3,24 +3,24 @@
 ghost use Rattle.std.specs.Prelude.{◌≡◌, Some, false, is_some, IfSome, IfOk, option_map};
 ghost use Rattle.std.specs.Arc.{arc_value};
 ghost use Rattle.dz_fleet.specs.Weighing.{Weighing};
-ghost use Rattle.dz_fleet.specs.inner.Renewing.{renewed_by, IsStep};
+ghost use Rattle.dz_fleet.specs.inner.Renewing.{renewed_by, written_by, IsStep};
 
+use crate::waiting::Waiting;
 use dz_history::{Entry, Holdings, Step};
 use dz_job::Verdict;
 use dz_table::Table;
-use dz_timer::Schedule;
 use std::alloc::AllocError;
 use std::marker::Model;
 use std::snapshot::Snapshot;
 use std::sync::Arc;
 
 /// What holds afterwards, completed when the transfer was weighed: the same; other holdings; or other holdings and what
-/// each of their zones waits for.
+/// their zones wait for.
 #[derive(Drop)]
 pub(crate) enum Renewal {
     Same,
     Taken(Holdings),
-    Relisted(Holdings, Schedule),
+    Relisted(Holdings, Waiting),
 }
 
 /// A transfer that was weighed: its verdict, and all the memory that its taking needs.
@@ -36,7 +36,7 @@ pub struct Weighed {
 impl Model for Weighed {
     ghost use Rattle.std.specs.Prelude.{is_some};
     ghost use Rattle.dz_fleet.specs.Weighing.{Weighing};
-    ghost use Rattle.dz_fleet.specs.inner.Renewing.{renewed_by, IsStep};
+    ghost use Rattle.dz_fleet.specs.inner.Renewing.{renewed_by, written_by, IsStep};
 
     ghost Value = { Weighing };
 
@@ -45,6 +45,7 @@ impl Model for Weighed {
       moment = w.moment;
       verdict = w.verdict;
       renewed = renewed_by w.renewal;
+      values = written_by w.renewal;
       is_there = is_some w.step;
     } };
 
@@ -64,6 +65,7 @@ impl Weighed {
           moment = moment;
           verdict = verdict;
           renewed = renewed_by renewal;
+          values = written_by renewal;
           is_there = is_some (renewed_by renewal);
         }) }
     {
@@ -106,6 +108,7 @@ impl Weighed {
         ensures moment { result.1 ≡ self.moment }
         ensures verdict { result.2 ≡ self.verdict }
         ensures renewed { renewed_by result.3 ≡ self.renewed }
+        ensures values { written_by result.3 ≡ self.values }
     {
         (self.entry, self.moment, self.verdict, self.renewal)
     }

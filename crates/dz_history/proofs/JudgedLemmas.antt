@@ -13,7 +13,7 @@ use Rattle.dz_member.specs.Fold.{FoldOf, member_of}
 use Rattle.dz_member.specs.Process.{Judgement, choice_in, consents, is_catalog, entered, judged, node_of, judged_at}
 use Rattle.dz_member.specs.Process.{zones_of, process}
 
-by_test : (P : Judgement → Type 0) (b : Bool) (x y : Judgement) → (b ≡ true → P x) → (b ≡ false → P y)
+pub by_test : (P : Judgement → Type 0) (b : Bool) (x y : Judgement) → (b ≡ true → P x) → (b ≡ false → P y)
     → P (if b then x else y)
 by_test P true x y f g = f refl
 by_test P false x y f g = g refl

@@ -1,5 +1,6 @@
 pub mod ApartLemmas
 pub mod BegunLemmas
+pub mod ChangeLemmas
 pub mod EndedLemmas
 pub mod FindLemmas
 pub mod JudgedLemmas
@@ -11,6 +12,7 @@ pub mod OwnLemmas
 pub mod PlaceLemmas
 pub mod PrimaryLemmas
 pub mod SlotLemmas
+pub mod SourceLemmas
 pub mod StandsLemmas
 pub mod StateLemmas
 pub mod StepLemmas

@@ -135,7 +135,7 @@ pub none_own : (s : State) (zone : List (List ℕ)) → None ≡ catalog_at s zo
 none_own s zone e found = rw (held_member s zone e, ← found) tt
 
 -- a member has a slot
-same_found : (zone : List (List ℕ)) (ms : List MemberOf) (slots : List SlotOf)
+pub same_found : (zone : List (List ℕ)) (ms : List MemberOf) (slots : List SlotOf)
     → map (λ slot. slot.zone) slots ≡ map (λ m. m.zone) ms
     → IsSome (find (λ m. same_name m.zone zone) ms) → IsSome (slot_of zone slots)
 same_found zone [] slots e h = absurd (cc)

@@ -1,2 +1,4 @@
--- Inner: how the code keeps the list.
+-- Inner: how the code keeps the list, and what it makes of a table.
+pub mod Changed
 pub mod Entries
+pub mod Processed

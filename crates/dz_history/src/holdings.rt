@@ -27,12 +27,15 @@ use std::sync::Arc;
 pub struct Holdings {
     pub(crate) fold: Arc<Fold>,
     pub(crate) versions: Vec<Held>,
+    /// For each catalog the version that its last unbroken listing was read from.
+    pub(crate) sources: Vec<Held>,
     pub(crate) table: Arc<Table>,
     pub(crate) count: u64,
 }
 
 impl Model for Holdings {
-    ghost use Rattle.dz_history.specs.State.{State, IsState};
+    ghost use Rattle.dz_history.specs.State.{State};
+    ghost use Rattle.dz_history.specs.inner.Processed.{AreHoldings};
 
     ghost Value = { State };
 
@@ -43,13 +46,13 @@ impl Model for Holdings {
       count = h.count;
     } };
 
-    ghost invariant = { λ h. IsState
+    ghost invariant = { λ h. AreHoldings
         record {
           fold = h.fold.value;
           versions = h.versions.items;
           table = h.table.value;
           count = h.count;
-        } };
+        } h.sources.items };
 }
 
 impl Holdings {
@@ -59,11 +62,14 @@ impl Holdings {
         ensures opened { IfOk result (λ h. h ≡ opened config) }
         ensures state { IfOk result IsState }
     {
-        let versions = nothing_held(alloc, config.catalogs().len())?;
+        let count = config.catalogs().len();
+        let versions = nothing_held(alloc, count)?;
+        let sources = nothing_held(alloc, count)?;
         let fold = Fold::start(alloc, config)?;
         Ok(Holdings {
             fold: Arc::new(alloc, fold)?,
             versions,
+            sources,
             table: Arc::new(alloc, Table::empty(alloc))?,
             count: 1,
         })
@@ -76,6 +82,7 @@ impl Holdings {
         Ok(Holdings {
             fold: Arc::try_clone(&self.fold)?,
             versions: share_all(alloc, self.versions.as_slice())?,
+            sources: share_all(alloc, self.sources.as_slice())?,
             table: Arc::try_clone(&self.table)?,
             count: self.count,
         })

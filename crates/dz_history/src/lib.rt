@@ -9,7 +9,9 @@ mod history;
 mod holdings;
 mod laws;
 mod past;
+mod processed;
 mod table_after;
+mod table_changed;
 mod take;
 
 pub use aftermath::Aftermath;

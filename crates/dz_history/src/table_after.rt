@@ -5,41 +5,55 @@ ghost use Rattle.dz_member.specs.Membership.{shown};
 ghost use Rattle.dz_member.specs.Fold.{IsFold};
 ghost use Rattle.std.specs.Option.{unwrap_or};
 ghost use Rattle.dz_table.specs.Table.{slot_of};
+ghost use Rattle.dz_history.specs.State.{IsState};
 ghost use Rattle.dz_history.specs.After.{slot_after, fresh};
+ghost use Rattle.dz_history.specs.inner.Changed.{AreListed};
 
 use crate::holdings::Holdings;
-use dz_member::{Fold, Membership};
+use crate::table_changed::table_changed;
+use dz_member::{Changes, Fold, Membership, Memberships};
 use dz_name::Name;
 use dz_steps::Steps;
 use dz_table::{Ahead, SharedSlot, Slot, Table};
 use std::alloc::{AllocError, Global};
 use std::marker::Brand;
+use std::sync::Arc;
 use std::sync::ledger::{Blank, Ledger};
 
-/// The slots of the members of a fold: those of zones whose incarnation is unchanged stay, and others are fresh.
-/// `AllocError` where memory runs out.
+/// The most changes that are made one by one, so that a listing that changes little costs little.
+const FEW: usize = 64;
+
+/// The table after a listing: the slots of zones whose incarnation is unchanged stay, and others are fresh. Few changes
+/// are made to the table before; after many the slots of all members are gathered. `AllocError` where memory runs out.
 pub(crate) fn table_after(
     alloc: Global,
     before: &Holdings,
     fold: &Fold,
-) -> Result<Table, AllocError>
-    ensures table { IfOk result (λ t. t ≡ map (slot_after before.now) fold.now.members) }
+    changes: &Changes,
+) -> Result<Arc<Table>, AllocError>
+    requires state { IsState before.now }
+    requires listed { AreListed before.now fold.now changes.now }
+    ensures table { IfOk result (λ t. t.value ≡ map (slot_after before.now) fold.now.members) }
     ensures fold { IsFold fold.now }
 {
-    let slots = slots_after(alloc, before, fold.memberships())?;
-    Table::from_shared(alloc, slots)
+    let memberships = fold.memberships();
+    if changes.len() <= FEW {
+        return table_changed(alloc, before.table(), changes);
+    }
+    let slots = slots_after(alloc, before, memberships)?;
+    Ok(Arc::new(alloc, Table::from_shared(alloc, slots)?)?)
 }
 
 /// The slots of these members, in their order. `AllocError` where memory runs out.
 fn slots_after(
     alloc: Global,
     before: &Holdings,
-    memberships: &[Membership],
+    memberships: Memberships,
 ) -> Result<Vec<SharedSlot>, AllocError>
     ensures { IfOk result (λ slots. slots.items
-        ≡ map (λ m. slot_after before.now (shown before.now.fold.config m)) memberships.now) }
+        ≡ map (λ m. slot_after before.now (shown before.now.fold.config m)) memberships.entry) }
 {
-    let mut slots = Vec::with_capacity(alloc, memberships.len())?;
+    let mut slots = Vec::new(alloc);
     let mut likely = 0;
     let mut ahead = before.table().ahead();
     'members: for membership in memberships {
@@ -63,15 +77,16 @@ fn slot_after(
         ≡ slot_after before.now (shown before.now.fold.config membership.now)) }
     ensures ahead { ahead.new ≡ ahead.old }
 {
-    match before.fold().find_near(likely, &membership.zone) {
+    let zone = membership.zone.as_ref().to_name();
+    match before.fold().find_near(likely, &zone) {
         Some(member) => {
             if member.incarnation() == membership.incarnation {
-                same_slot(alloc, ahead, &membership.zone)
+                same_slot(alloc, ahead, &zone)
             } else {
-                fresh(alloc, &membership.zone)
+                fresh(alloc, &zone)
             }
         }
-        None => fresh(alloc, &membership.zone),
+        None => fresh(alloc, &zone),
     }
 }
 

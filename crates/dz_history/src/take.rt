@@ -11,14 +11,14 @@ ghost use Rattle.dz_table.specs.Table.{put, slot_of};
 ghost use Rattle.dz_history.specs.declared.aftermath.Aftermath.TheVariants.{Changes};
 ghost use Rattle.dz_history.specs.State.{catalog_at, incarnation_at, IsState};
 ghost use Rattle.dz_history.specs.After.{taken, catalog_after, member_after, aftermath_of, catalog_aftermath, counted};
-ghost use Rattle.dz_history.specs.After.{with_version, relisted};
+ghost use Rattle.dz_history.specs.After.{with_version};
+ghost use Rattle.dz_history.specs.inner.Processed.{AreProcessed};
 
 use crate::aftermath::Aftermath;
 use crate::held::{share_all, with_version};
 use crate::holdings::Holdings;
+use crate::processed::{Processed, Relisting};
 use crate::table_after::table_after;
-use dz_catalog::{CatalogError, read_listing_after};
-use dz_member::{Fold, Listing};
 use dz_name::Name;
 use dz_table::{Slot, Table};
 use dz_take::{Finished, Outcome};
@@ -100,14 +100,12 @@ impl Holdings {
         ensures aftermath { IfOk result (λ r. r.1
             ≡ catalog_aftermath self.now catalog.now (new version.value)) }
     {
-        let listing = read_listing_after(alloc, &version, self.fold.listing(number));
-        let holding = self.with_version(alloc, number, version)?;
-        match listing {
-            Ok(listing) => holding.relisted(alloc, catalog, listing),
-            Err(error) => match error {
-                CatalogError::Broken(reason) => Ok((holding.counted(), Aftermath::Broken(reason))),
-                CatalogError::OutOfMemory => Err(AllocError),
-            },
+        match self.processed(alloc, number, &version)? {
+            Processed::Broken(reason) => {
+                let holding = self.with_version(alloc, number, version)?;
+                Ok((holding.counted(), Aftermath::Broken(reason)))
+            }
+            Processed::Listed(relisting) => self.relisted(alloc, number, version, relisting),
         }
     }
 
@@ -125,43 +123,41 @@ impl Holdings {
         Ok(Holdings {
             fold: Arc::try_clone(&self.fold)?,
             versions: with_version(alloc, self.versions.as_slice(), number, version)?,
+            sources: share_all(alloc, self.sources.as_slice())?,
             table: Arc::try_clone(&self.table)?,
             count: self.count,
         })
     }
 
-    /// What is assigned and held after an unbroken listing of a configured catalog. `AllocError` where memory runs out.
+    /// What is assigned and held after a new version of a catalog, of which this came. `AllocError` where memory runs
+    /// out.
     fn relisted(
-        self,
+        &self,
         alloc: Global,
-        catalog: &Name,
-        listing: Listing,
+        number: usize,
+        version: Arc<Version>,
+        relisting: Relisting,
     ) -> Result<(Holdings, Aftermath), AllocError>
-        requires catalog { IsSome (catalog_at self catalog.now) }
-        requires room { self.count + 1 < 2 ^ 64 }
-        ensures state { IfOk result (λ r. r.0 ≡ counted (relisted self catalog.now listing)) }
+        requires number { catalog_at self.now version.value.apex ≡ Some number }
+        requires processed { AreProcessed self.now version.value relisting }
+        requires room { self.now.count + 1 < 2 ^ 64 }
+        ensures state { IfOk result (λ r. r.0
+            ≡ counted (catalog_after self.now number version.value.apex (new version.value))) }
         ensures aftermath { IfOk result (λ r. r.1
-            ≡ Changes (changes self.fold catalog.now listing self.count)) }
+            ≡ catalog_aftermath self.now version.value.apex (new version.value)) }
     {
-        let (fold, changes) = self.fold.process(alloc, catalog, listing, self.count)?;
-        let table = table_after(alloc, &self, &fold)?;
-        let after = self.with_members(alloc, fold, table)?;
-        Ok((after, Aftermath::Changes(changes)))
-    }
-
-    /// The same with other members and their table, one entry later. `AllocError` where memory runs out.
-    fn with_members(self, alloc: Global, fold: Fold, table: Table) -> Result<Holdings, AllocError>
-        requires state { IsState (record self
-            { fold = fold; table = table; count = self.count + 1 }) }
-        requires room { self.count + 1 < 2 ^ 64 }
-        ensures { IfOk result (λ h. h ≡ counted (record self { fold = fold; table = table })) }
-    {
-        Ok(Holdings {
+        let Relisting { fold, changes } = relisting;
+        let _ = &self.table;
+        let table = table_after(alloc, self, &fold, &changes)?;
+        let source = Arc::try_clone(&version)?;
+        let holdings = Holdings {
             fold: Arc::new(alloc, fold)?,
-            versions: self.versions,
-            table: Arc::new(alloc, table)?,
+            versions: with_version(alloc, self.versions.as_slice(), number, version)?,
+            sources: with_version(alloc, self.sources.as_slice(), number, source)?,
+            table,
             count: self.count + 1,
-        })
+        };
+        Ok((holdings, Aftermath::Changes(changes)))
     }
 
     /// What is assigned and held after a transfer that found the version that is held. `AllocError` where memory runs
@@ -209,6 +205,7 @@ impl Holdings {
         Ok(Holdings {
             fold: Arc::try_clone(&self.fold)?,
             versions: share_all(alloc, self.versions.as_slice())?,
+            sources: share_all(alloc, self.sources.as_slice())?,
             table: Arc::new(alloc, table)?,
             count: self.count,
         })

@@ -1,19 +1,16 @@
 -- A listing that is processed twice.
-use Rattle.std.proofs.Common.{◌≡◌, ◌≢◌, ℕ, true, false, List, [], ◌∷◌, map, refl, sym, ◌∙◌, ap, subst, inl, inr, Less}
+use Rattle.std.proofs.Common.{◌≡◌, ◌≢◌, ℕ, true, false, List, map, refl, sym, ◌∙◌, ap, subst, inl, inr}
 use Rattle.std.proofs.Common.{get_or}
 use Rattle.std.specs.Prelude.{Option, Some, None, IsSome, slice_set, if◌then◌else◌}
 use Rattle.std.specs.Option.{option_map_or, option_eq}
 use Rattle.std.specs.Str.{bytes_eq}
-use Rattle.std.specs.Ordering.{ordering_reverse}
-use Rattle.std.specs.List.{AllByRecursion}
 use Rattle.std.specs.List.Sorted.{IsStrictlySortedBy}
 use Rattle.std.proofs.lemmas.Bool.{cases_Bool}
 use Rattle.std.proofs.lemmas.List.{get_or-set_other, set-set}
-use Rattle.std.proofs.lemmas.Map.Keys.{sorted_head, sorted_tail}
 use Rattle.std.proofs.lemmas.Slice.Eq.{bytes_eq-Decides}
 use Rattle.dz_name.specs.Words.{Name, Octets}
 use Rattle.dz_name.specs.Name.{canonical_order, same_name, same_label}
-use Rattle.dz_name.specs.Order.{canonical_total, canonical_same, same_decides, same_label_decides}
+use Rattle.dz_name.specs.Order.{same_decides, same_label_decides}
 use Rattle.dz_member.specs.declared.listing.Node.{Node}
 use Rattle.dz_member.specs.declared.change.What.TheVariants.{Clash}
 use Rattle.dz_member.specs.Listing.{IsListing}
@@ -23,73 +20,10 @@ use Rattle.dz_member.specs.Process.{Judgement, judged, judged_at, choice_in, con
 use Rattle.dz_member.specs.Process.{held_elsewhere, unlisted, listed, is_catalog, node_of, process, entered}
 use Rattle.dz_member.specs.Process.{in_zone_order}
 use Rattle.dz_member.specs.Laws.{ChangesOnce, Again, told_again}
-use Rattle.dz_member.proofs.WalkLemmas.{here, nothing, below_all}
-use Rattle.dz_member.proofs.EachLemmas.{by_order}
+use Rattle.dz_member.proofs.SameLemmas.{members_by_zone}
 use Rattle.dz_member.proofs.NumberLemmas.{number_names}
 use Rattle.dz_member.proofs.ZoneLemmas.{order_after, each_zone}
 use Rattle.dz_member.proofs.OrderLemmas.{sorted_rise}
-
--- ---- lists that rise, and have at each zone the same, are one
-abbrev zone_of : MemberOf → Name
-zone_of m = m.zone
-
-abbrev Rise : List MemberOf → Type 0
-Rise ms = IsStrictlySortedBy canonical_order (map zone_of ms)
-
-some_none : (m : MemberOf) → Some m ≡ None → ⊥
-some_none m e = cc
-
-absent : (z : Name) (ms : List MemberOf) → AllByRecursion (λ k. canonical_order z k ≡ Less) (map zone_of ms)
-    → member_of z ms ≡ None
-absent z ms a = nothing canonical_order canonical_total same_name same_decides zone_of z ms a
-
-present : (m : MemberOf) (ms : List MemberOf) → member_of m.zone (m ∷ ms) ≡ Some m
-present m ms = here canonical_order canonical_total same_name same_decides zone_of m ms
-
-above : (z : Name) (m : MemberOf) (ms : List MemberOf) → Rise (m ∷ ms) → canonical_order z m.zone ≡ Less
-    → AllByRecursion (λ k. canonical_order z k ≡ Less) (map zone_of (m ∷ ms))
-above z m ms up l =
-    below_all canonical_order canonical_total same_name same_decides zone_of zone_of (λ z m n. z) zone_of z m ms up l
-
-rest_same : (a b : MemberOf) (front back : List MemberOf) → Rise (a ∷ front) → Rise (b ∷ back)
-    → a.zone ≡ b.zone → ((z : Name) → member_of z (a ∷ front) ≡ member_of z (b ∷ back)) → (z : Name)
-    → member_of z front ≡ member_of z back
-rest_same a b front back up rise one h z =
-    elim (cases_Bool (same_name a.zone z)) [
-      | inl t ↦
-          let is : a.zone ≡ z = (same_decides a.zone z).0 t in
-          let p : member_of a.zone front ≡ None =
-          absent a.zone front (sorted_head canonical_order a.zone (map zone_of front) up) in
-          let q : member_of b.zone back ≡ None =
-          absent b.zone back (sorted_head canonical_order b.zone (map zone_of back) rise) in
-          subst (λ (y : Name). member_of y front ≡ member_of y back) is
-          (p ∙ sym (subst (λ (y : Name). member_of y back ≡ None) (sym one) q))
-      | inr f ↦
-          let g : same_name b.zone z ≡ false = subst (λ (y : Name). same_name y z ≡ false) one f in
-          (rw (f, g) at (h z))
-    ]
-
-pub same_members : (front back : List MemberOf) → Rise front → Rise back
-    → ((z : Name) → member_of z front ≡ member_of z back) → front ≡ back
-same_members [] [] up rise h = refl
-same_members [] (b ∷ back) up rise h = absurd (some_none b (sym (present b back) ∙ sym (h b.zone)))
-same_members (a ∷ front) [] up rise h = absurd (some_none a (sym (present a front) ∙ h a.zone))
-same_members (a ∷ front) (b ∷ back) up rise h =
-    by_order (canonical_order a.zone b.zone)
-    (λ l. absurd
-    (some_none a (sym (present a front) ∙ h a.zone ∙ absent a.zone (b ∷ back) (above a.zone b back rise l))))
-    (λ e.
-    let one = canonical_same a.zone b.zone e in
-    let first : Some a ≡ Some b = sym (present a front) ∙ h a.zone
-    ∙ subst (λ (y : Name). member_of y (b ∷ back) ≡ Some b) (sym one) (present b back) in
-    let heads : a ≡ b = cc in
-    let tails = same_members front back (sorted_tail canonical_order a.zone (map zone_of front) up)
-    (sorted_tail canonical_order b.zone (map zone_of back) rise) (rest_same a b front back up rise one h) in
-    λ i. heads i ∷ tails i)
-    (λ g.
-    let l : canonical_order b.zone a.zone ≡ Less = canonical_total.antisymm b.zone a.zone ∙ ap ordering_reverse g in
-    absurd
-    (some_none b (sym (present b back) ∙ sym (h b.zone) ∙ absent b.zone (a ∷ front) (above b.zone a front up l))))
 
 -- ---- one zone, judged again
 itself : (name : Name) → same_name name name ≡ true
@@ -274,7 +208,7 @@ module _ (fold : FoldOf) (catalog : Name) (nodes : List Node) (p q : ℕ) (h : I
       ≡ (process fold catalog nodes p).members
   members_again =
       let up = order_after fold catalog nodes p h.rises rise in
-      same_members (process (process fold catalog nodes p) catalog nodes q).members
+      members_by_zone (process (process fold catalog nodes p) catalog nodes q).members
       (process fold catalog nodes p).members
       (order_after (process fold catalog nodes p) catalog nodes q up rise) up
       (λ z.

@@ -1,11 +1,11 @@
 -- Memberships with numbers, and with names.
-use Rattle.std.proofs.Common.{get_or, refl, sym, ◌<◌, ◌≡◌, ℕ, List, [], map, replicate, length, ap, subst, ◌∙◌, arith}
+use Rattle.std.proofs.Common.{get_or, refl, sym, Bool, false, ◌<◌, ◌≡◌, ℕ, List, [], map, replicate, length, ap, subst, ◌∙◌, arith}
 use Rattle.std.specs.Prelude.{Option, Some, None, position, slice_get}
 use Rattle.std.specs.List.{All}
 use Rattle.std.specs.List.Sorted.{IsStrictlySortedBy}
 use Rattle.std.proofs.lemmas.Simd.{map-map}
-use Rattle.std.proofs.lemmas.List.{length-replicate, length-map}
-use Rattle.std.proofs.lemmas.Option.{slice_get_read}
+use Rattle.std.proofs.lemmas.List.{length-replicate, length-map, get_or-replicate}
+use Rattle.std.proofs.lemmas.Option.{slice_get_read, slice_get_within, get_or_from_slice_get}
 use Rattle.dz_name.specs.Words.{Name}
 use Rattle.dz_name.specs.Name.{canonical_order, same_name}
 use Rattle.dz_settings.specs.declared.config.CatalogSettings.{CatalogSettings}
@@ -35,12 +35,25 @@ place_shown catalogs ms zone = position_map (λ (m : MemberOf). same_name m.zone
 none_numbered : (catalogs : List CatalogSettings) → All (IsNumbered catalogs) []
 none_numbered catalogs k d inside = absurd (omega arith)
 
-pub kept_start : (catalogs : List CatalogSettings) (listings : List (Option (List Node))) (count : ℕ)
-    → IsAllowed catalogs → listings ≡ replicate count None → count ≡ length catalogs → IsKept catalogs [] listings
+none_known : {X : Type 0} (count : ℕ) (n : ℕ) (x : X) → slice_get (replicate count None) n ≡ Some (Some x) → ⊥
+none_known {X} count n x e =
+    let within = slice_get_within (replicate count None) n (Some x) e in
+    let at : get_or (replicate count None) n None ≡ Some x =
+    get_or_from_slice_get (replicate count None) n (Some x) None e in
+    let none = get_or-replicate count n None None (omega (arith, within, length-replicate {A = Option X} count None)) in
+    let bad : None ≡ Some x = sym none ∙ at in cc
+
+pub kept_start : (catalogs : List CatalogSettings) (listings : List (Option (List Node))) (settled : List Bool)
+    (count : ℕ) → IsAllowed catalogs → listings ≡ replicate count None → settled ≡ replicate count false
+    → count ≡ length catalogs → IsKept catalogs [] listings settled
 unfolding IsStrictlySortedBy
-kept_start catalogs listings count allowed none is = record {
+kept_start catalogs listings settled count allowed none unsettled is = record {
   fold = record { allowed = allowed; rises = tt; each = ap length none ∙ length-replicate count None ∙ is };
   numbered = none_numbered catalogs;
+  few = omega arith;
+  known = λ n ns e. absurd (none_known count n ns (rw none at e));
+  marks = ap length unsettled ∙ length-replicate count false ∙ is;
+  marked = λ n ns t e. absurd (none_known count n ns (rw none at e));
 }
 
 -- the membership at a place

@@ -257,14 +257,14 @@ settings_back catalogs k allowed inside =
 -- what holds for a member, by its names, is what holds by its numbers
 module _ (catalogs : List CatalogSettings) (m : Membership) (allowed : IsAllowed catalogs)
     (numbered : IsNumbered catalogs m) where
-  policy_back : policy_of catalogs (shown catalogs m) ≡ Some (policy_in (settings_at catalogs m.catalog) m.group)
+  pub policy_back : policy_of catalogs (shown catalogs m) ≡ Some (policy_in (settings_at catalogs m.catalog) m.group)
   policy_back = rw (
     settings_back catalogs m.catalog allowed numbered.catalog,
     group_back (settings_at catalogs
         m.catalog) m.group (words_once catalogs m.catalog allowed numbered.catalog) numbered.group,
   ) refl
 
-  primaries_back : primaries_of catalogs (shown catalogs m)
+  pub primaries_back : primaries_of catalogs (shown catalogs m)
       ≡ Some (primaries_in (settings_at catalogs m.catalog) m.group)
   primaries_back = rw (
     settings_back catalogs m.catalog allowed numbered.catalog,
@@ -272,7 +272,7 @@ module _ (catalogs : List CatalogSettings) (m : Membership) (allowed : IsAllowed
         m.catalog) m.group (words_once catalogs m.catalog allowed numbered.catalog) numbered.group,
   ) refl
 
-  key_back : key_of catalogs (shown catalogs m) ≡ (settings_at catalogs m.catalog).key
+  pub key_back : key_of catalogs (shown catalogs m) ≡ (settings_at catalogs m.catalog).key
   key_back = rw (settings_back catalogs m.catalog allowed numbered.catalog) refl
 
   at_place : (ms : List Membership) (place : ℕ) → slice_get ms place ≡ Some m

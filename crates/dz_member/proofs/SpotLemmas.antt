@@ -54,12 +54,16 @@ spots_none judge = refl
 abbrev pub left_of : Pair → List Node → List Node
 left_of p ns = drop (if is_some p.node then 1 else 0) ns
 
+-- the memberships that are left after a pair
+abbrev pub held_of : Pair → List Membership → List Membership
+held_of p ms = drop (if is_some p.member then 1 else 0) ms
+
 -- the first pair is one spot, and what follows gives the others
 pub record Goes (judge : Judge) (ms : List Membership) (ns : List Node) (p : Pair) : Type 0 where
-  pub held : IsStrictlySortedBy canonical_order (map (λ m. m.zone) p.held)
+  pub held : IsStrictlySortedBy canonical_order (map (λ m. m.zone) (held_of p ms))
   pub listed : IsStrictlySortedBy canonical_order (map (λ n. n.zone) (left_of p ns))
-  pub less : length p.held + length (left_of p ns) < length ms + length ns
-  pub spots : spots judge ms ns ≡ spot judge p.zone p.member p.node ∷ spots judge p.held (left_of p ns)
+  pub less : length (held_of p ms) + length (left_of p ns) < length ms + length ns
+  pub spots : spots judge ms ns ≡ spot judge p.zone p.member p.node ∷ spots judge (held_of p ms) (left_of p ns)
 
 rest_m : (m : Membership) (ms : List Membership) → IsStrictlySortedBy canonical_order (map (λ m. m.zone) (m ∷ ms))
     → IsStrictlySortedBy canonical_order (map (λ m. m.zone) ms)
@@ -70,7 +74,7 @@ rest_n : (n : Node) (ns : List Node) → IsStrictlySortedBy canonical_order (map
 rest_n n ns up = sorted_tail canonical_order n.zone (map (λ n. n.zone) ns) up
 
 goes_by : (judge : Judge) (m : Membership) (n : Node) (ms : List Membership) (ns : List Node) (k : Ordering)
-    → Rise (m ∷ ms) (n ∷ ns) → canonical_order m.zone n.zone ≡ k → Goes judge (m ∷ ms) (n ∷ ns) (pair_by k m ms n)
+    → Rise (m ∷ ms) (n ∷ ns) → canonical_order m.zone n.zone ≡ k → Goes judge (m ∷ ms) (n ∷ ns) (pair_by k m n)
 goes_by judge m n ms ns Less up e = record {
   held = rest_m m ms up.0;
   listed = up.1;
@@ -95,24 +99,24 @@ goes_by judge m n ms ns Greater up e = record {
 }
 
 goes_on : (judge : Judge) (ms : List Membership) (ns : List Node) (p : Pair) → Rise ms ns
-    → first_pair ms (slice_get ns 0) ≡ Some p → Goes judge ms ns p
+    → first_pair (slice_get ms 0) (slice_get ns 0) ≡ Some p → Goes judge ms ns p
 unfolding IsStrictlySortedBy
 goes_on judge [] [] p up e = absurd (cc)
 goes_on judge [] (n ∷ ns) p up e =
-    let q : Pair = record { zone = n.zone; member = None; node = Some n; held = [] } in
+    let q : Pair = record { zone = n.zone; member = None; node = Some n } in
     let same : q ≡ p = cc in
     subst (Goes judge [] (n ∷ ns)) same
     (record { held = tt; listed = rest_n n ns up.1; less = omega arith; spots = spots_right judge n [] ns up tt })
 goes_on judge (m ∷ ms) [] p up e =
-    let q : Pair = record { zone = m.zone; member = Some m; node = None; held = ms } in
+    let q : Pair = record { zone = m.zone; member = Some m; node = None } in
     let same : q ≡ p = cc in
     subst (Goes judge (m ∷ ms) []) same
     (record { held = rest_m m ms up.0; listed = tt; less = omega arith; spots = spots_left judge m ms [] up tt })
 goes_on judge (m ∷ ms) (n ∷ ns) p up e =
-    let same : pair_by (canonical_order m.zone n.zone) m ms n ≡ p = cc in
+    let same : pair_by (canonical_order m.zone n.zone) m n ≡ p = cc in
     subst (Goes judge (m ∷ ms) (n ∷ ns)) same (goes_by judge m n ms ns (canonical_order m.zone n.zone) up refl)
 
-pub spots_end : (judge : Judge) (ms : List Membership) (ns : List Node) → first_pair ms (slice_get ns 0) ≡ None
+pub spots_end : (judge : Judge) (ms : List Membership) (ns : List Node) → first_pair (slice_get ms 0) (slice_get ns 0) ≡ None
     → spots judge ms ns ≡ []
 spots_end judge [] [] e = spots_none judge
 spots_end judge [] (n ∷ ns) e = absurd (cc)
@@ -128,23 +132,23 @@ pub record Step (judge : Judge) (ms : List Membership) (ns : List Node) (p : Pai
     (changes : List Change) (all_members : List MemberOf) (all_changes : List Change) : Type 0 where
   pub goes : Goes judge ms ns p
   pub members_on : (members ++ option_to_list (judge p.member p.node).stands)
-      ++ members_in (spots judge p.held (left_of p ns)) ≡ all_members
+      ++ members_in (spots judge (held_of p ms) (left_of p ns)) ≡ all_members
   pub changes_on : (changes ++ option_to_list (option_map (λ what. record { zone = p.zone; what = what })
-      (judge p.member p.node).change)) ++ changes_in (spots judge p.held (left_of p ns)) ≡ all_changes
+      (judge p.member p.node).change)) ++ changes_in (spots judge (held_of p ms) (left_of p ns)) ≡ all_changes
 
 pub steps : (judge : Judge) (ms : List Membership) (ns : List Node) (p : Pair) (members : List MemberOf)
     (changes : List Change) (all_members : List MemberOf) (all_changes : List Change)
-    → Rise ms ns → first_pair ms (slice_get ns 0) ≡ Some p → members ++ members_in (spots judge ms ns) ≡ all_members
+    → Rise ms ns → first_pair (slice_get ms 0) (slice_get ns 0) ≡ Some p → members ++ members_in (spots judge ms ns) ≡ all_members
     → changes ++ changes_in (spots judge ms ns) ≡ all_changes
     → Step judge ms ns p members changes all_members all_changes
 steps judge ms ns p members changes all_members all_changes up e f g =
     let go = goes_on judge ms ns p up e in
     record {
       goes = go;
-      members_on = consed (judge p.member p.node).stands members (members_in (spots judge p.held (left_of p ns)))
+      members_on = consed (judge p.member p.node).stands members (members_in (spots judge (held_of p ms) (left_of p ns)))
           ∙ (rw go.spots at f);
       changes_on = consed (option_map (λ what. record { zone = p.zone; what = what }) (judge p.member p.node).change)
-          changes (changes_in (spots judge p.held (left_of p ns))) ∙ (rw go.spots at g);
+          changes (changes_in (spots judge (held_of p ms) (left_of p ns))) ∙ (rw go.spots at g);
     }
 
 -- the first node from a place on

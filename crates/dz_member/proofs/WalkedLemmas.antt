@@ -1,7 +1,8 @@
 -- The walk from its beginning to its end.
 use Rattle.std.proofs.Common.{◌≡◌, ℕ, Bool, true, subst, List, [], ◌∷◌, ◌++◌, map, refl, sym, ◌∙◌, ap, append-nil, inl}
 use Rattle.std.proofs.Common.{inr}
-use Rattle.std.specs.Prelude.{Option, Some, None, IfSome, is_some}
+use Rattle.std.specs.Prelude.{Option, Some, None, IfSome, is_some, slice_get}
+use Rattle.dz_member.proofs.SpotLemmas.{held_of}
 use Rattle.std.specs.Option.{option_map, option_to_list, ForSome}
 use Rattle.std.specs.List.{find, filter_map, cons_option, AllByRecursion}
 use Rattle.std.specs.Set.{sorted_merge}
@@ -37,27 +38,47 @@ all_more P xs None a p = rw (append-nil xs) a
 all_more P xs (Some x) a p = all_push P xs x a p
 
 -- what holds of each membership holds of the first and of those after it
-abbrev pub Parts : (Membership → Type 0) → Pair → Type 0
-Parts P p = IfSome p.member P × AllByRecursion P p.held
+abbrev pub Parts : (Membership → Type 0) → List Membership → Pair → Type 0
+Parts P ms p = IfSome p.member P × AllByRecursion P (held_of p ms)
 
 parts_by : (P : Membership → Type 0) (k : Ordering) (m : Membership) (ms : List Membership) (n : Node)
-    → AllByRecursion P (m ∷ ms) → Parts P (pair_by k m ms n)
+    → AllByRecursion P (m ∷ ms) → Parts P (m ∷ ms) (pair_by k m n)
 parts_by P Less m ms n a = (a.0, a.1)
 parts_by P Equal m ms n a = (a.0, a.1)
 parts_by P Greater m ms n a = (tt, a)
 
-pub parts_of : (P : Membership → Type 0) (ms : List Membership) (o : Option Node) (p : Pair) → first_pair ms o ≡ Some p
-    → AllByRecursion P ms → Parts P p
+pub parts_of : (P : Membership → Type 0) (ms : List Membership) (o : Option Node) (p : Pair)
+    → first_pair (slice_get ms 0) o ≡ Some p → AllByRecursion P ms → Parts P ms p
 parts_of P [] None p e a = absurd (cc)
 parts_of P [] (Some n) p e a =
-    let q : Pair = record { zone = n.zone; member = None; node = Some n; held = [] } in
-    let same : q ≡ p = cc in subst (Parts P) same (tt, tt)
+    let q : Pair = record { zone = n.zone; member = None; node = Some n } in
+    let same : q ≡ p = cc in subst (Parts P []) same (tt, tt)
 parts_of P (m ∷ ms) None p e a =
-    let q : Pair = record { zone = m.zone; member = Some m; node = None; held = ms } in
-    let same : q ≡ p = cc in subst (Parts P) same (a.0, a.1)
+    let q : Pair = record { zone = m.zone; member = Some m; node = None } in
+    let same : q ≡ p = cc in subst (Parts P (m ∷ ms)) same (a.0, a.1)
 parts_of P (m ∷ ms) (Some n) p e a =
-    let same : pair_by (canonical_order m.zone n.zone) m ms n ≡ p = cc in
-    subst (Parts P) same (parts_by P (canonical_order m.zone n.zone) m ms n a)
+    let same : pair_by (canonical_order m.zone n.zone) m n ≡ p = cc in
+    subst (Parts P (m ∷ ms)) same (parts_by P (canonical_order m.zone n.zone) m ms n a)
+
+-- the member of a first pair is the first
+pub first_held : (ms : List Membership) (o : Option Node) (p : Pair) → first_pair (slice_get ms 0) o ≡ Some p
+    → IfSome p.member (λ m. slice_get ms 0 ≡ Some m)
+first_held [] None p e = absurd (cc)
+first_held [] (Some n) p e =
+    let q : Pair = record { zone = n.zone; member = None; node = Some n } in
+    let same : q ≡ p = cc in
+    let ms : List Membership = [] in subst (λ (r : Pair). IfSome r.member (λ m. slice_get ms 0 ≡ Some m)) same tt
+first_held (m ∷ ms) None p e =
+    let q : Pair = record { zone = m.zone; member = Some m; node = None } in
+    let same : q ≡ p = cc in subst (λ (r : Pair). IfSome r.member (λ x. Some m ≡ Some x)) same refl
+first_held (m ∷ ms) (Some n) p e =
+    let same : pair_by (canonical_order m.zone n.zone) m n ≡ p = cc in
+    subst (λ (r : Pair). IfSome r.member (λ x. Some m ≡ Some x)) same (held_by (canonical_order m.zone n.zone))
+  where
+    held_by : (k : Ordering) → IfSome (pair_by k m n).member (λ x. Some m ≡ Some x)
+    held_by Less = refl
+    held_by Equal = refl
+    held_by Greater = tt
 
 pub for_some : {X Y : Type 0} (f : X → Y) (P : Y → Type 0) (o : Option X) → IfSome (option_map f o) P
     → ForSome o (λ x. P (f x))
@@ -74,7 +95,7 @@ pub kept_map : {X Y Z : Type 0} (g : Y → Option Z) (f : X → Y) (xs : List X)
 kept_map g f [] = refl
 kept_map g f (x ∷ xs) = ap (λ ys. cons_option (g (f x)) ys) (kept_map g f xs)
 
-found_map : {X Y : Type 0} (p : Y → Bool) (f : X → Y) (xs : List X)
+pub found_map : {X Y : Type 0} (p : Y → Bool) (f : X → Y) (xs : List X)
     → option_map f (find (λ x. p (f x)) xs) ≡ find p (map f xs)
 found_map p f [] = refl
 found_map p f (x ∷ xs) = elim (cases_Bool (p (f x))) [ inl t ↦ rw t refl | inr g ↦ rw g (found_map p f xs) ]

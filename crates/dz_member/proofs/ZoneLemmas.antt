@@ -107,7 +107,7 @@ ordered_node zone nodes =
     ∙ ap (λ ns. find (λ _. true) ns) (ties_sorted_by node_before (before_is (λ (n : Node). n)) (at_zone zone) nodes)
     ∙ sym (find_first (λ n. same_name n.zone zone) (ties node_before (at_zone zone)) (ties_is zone) nodes)
 
-abbrev change_at : Name → What → Change
+abbrev pub change_at : Name → What → Change
 change_at zone what = record { zone = zone; what = what }
 
 -- what the nodes leave in zone order is what the definitions say
@@ -129,7 +129,7 @@ what_of : (zone : Name) (r : Option What) → option_map (λ (c : Change). c.wha
 what_of zone None = refl
 what_of zone (Some what) = refl
 
-change_own : (zone : Name) (r : Option What) → IfSome (option_map (change_at zone) r) (λ (c : Change). c.zone ≡ zone)
+pub change_own : (zone : Name) (r : Option What) → IfSome (option_map (change_at zone) r) (λ (c : Change). c.zone ≡ zone)
 change_own zone None = tt
 change_own zone (Some what) = refl
 
@@ -137,7 +137,7 @@ change_own zone (Some what) = refl
 module _ (fold : FoldOf) (catalog : Name) (nodes : List Node) (position : ℕ)
     (up : IsStrictlySortedBy canonical_order (map (λ m. m.zone) fold.members))
     (rise : IsStrictlySortedBy canonical_order (map (λ n. n.zone) (in_zone_order nodes))) where
-  zones_rise : IsStrictlySortedBy canonical_order (zones_of fold.members nodes)
+  pub zones_rise : IsStrictlySortedBy canonical_order (zones_of fold.members nodes)
   zones_rise = merged canonical_order canonical_total same_name same_decides canonical_same
       (map (λ m. m.zone) fold.members) (map (λ n. n.zone) (in_zone_order nodes)) up rise
 
@@ -145,7 +145,7 @@ module _ (fold : FoldOf) (catalog : Name) (nodes : List Node) (position : ℕ)
   own_at z =
       own fold catalog position z _ _ (found_zone (λ m. m.zone) z fold.members) (found_zone (λ n. n.zone) z nodes)
 
-  empty_at : (z : Name)
+  pub empty_at : (z : Name)
       → has canonical_order canonical_total same_name same_decides canonical_same z (zones_of fold.members nodes)
       ≡ false → judged_at fold catalog nodes position z ≡ record { stands = None; change = None }
   empty_at z e =

@@ -6,6 +6,7 @@ use Rattle.dz_settings.specs.declared.config.Policy.TheVariants.{Off, Present}
 use Rattle.dz_settings.specs.declared.config.GroupSettings.{GroupSettings}
 use Rattle.dz_settings.specs.declared.config.CatalogSettings.{CatalogSettings}
 use Rattle.dz_member.specs.declared.listing.Node.{Node}
+use Rattle.dz_member.specs.declared.edit.Edit.{Edit}
 use Rattle.dz_member.specs.declared.change.What.{What}
 use Rattle.dz_member.specs.declared.change.What.TheVariants.{Added, Removed, Reset, Moved, MovedReset, Clash}
 use Rattle.dz_member.specs.declared.change.What.TheVariants.{Regrouped}
@@ -14,7 +15,9 @@ use Rattle.dz_settings.specs.declared.limits.TheConstants.{SECRET_OCTETS}
 use Rattle.dz_settings.specs.Config.{is_allowed, is_word}
 use Rattle.dz_member.specs.Membership.{choice_of}
 use Rattle.dz_member.specs.Fold.{FoldOf, started}
-use Rattle.dz_member.specs.Process.{judged, process, changes}
+use Rattle.dz_member.specs.Process.{judged, judged_at, process, changes}
+use Rattle.dz_member.specs.Settled.{IsSettled, moves_from}
+use Rattle.dz_member.specs.Edit.{edited, nodes_put, nodes_replaced, is_touched}
 use Rattle.std.specs.declared.cmp.Ordering.TheVariants.{Less, Equal, Greater}
 use Rattle.dz_name.specs.Name.{label_order}
 use Rattle.dz_settings.specs.Twice.{has_twice}
@@ -212,3 +215,57 @@ one_label_twice = refl
 -- ---- the limit of listings, so that it can't change
 pub nodes_is_65536 : NODES ≡ 65536
 nodes_is_65536 = refl
+
+-- ---- settled catalogs: one that lists what it holds, and not one that clashes
+pub nothing_settled : IsSettled (started both) one []
+unfolding judged
+nothing_settled = λ position zone. refl
+
+pub settled_zone : (judged_at after1 one (node m1 None ∷ []) 9 zone).change ≡ None
+unfolding judged choice_of
+settled_zone = refl
+
+pub unsettled_zone : (judged_at after1 two (node m1 None ∷ []) 9 zone).change ≡ Some (Clash (Some one))
+unfolding judged
+unsettled_zone = refl
+
+pub leaves_one : moves_from one (Moved one two) ≡ true
+leaves_one = refl
+
+pub stays_with_two : moves_from two (Moved one two) ≡ false
+stays_with_two = refl
+
+-- ---- edits: the node of a label is put in, taken out or replaced
+abbrev edit : Octets → Option Node → Edit
+edit label node = record { label = label; node = node }
+
+-- nodes `a` and `c` of zones of the same names
+abbrev listed : List Node
+listed = member (codes "a") (codes "a") ∷ member (codes "c") (codes "c") ∷ []
+
+-- `a` now has the zone `z`, `b` is put in, and `c` is taken out
+abbrev edits : List Edit
+edits = edit (codes "a") (Some (member (codes "a") (codes "z"))) ∷ edit (codes "b")
+    (Some (member (codes "b") (codes "b"))) ∷ edit (codes "c") None ∷ []
+
+pub edited_listed : edited listed edits
+    ≡ member (codes "a") (codes "z") ∷ member (codes "b") (codes "b") ∷ []
+edited_listed = refl
+
+pub not_there : edited listed (edit (codes "b") None ∷ []) ≡ listed
+not_there = refl
+
+pub put_by_edits : nodes_put edits ≡ member (codes "a") (codes "z") ∷ member (codes "b") (codes "b") ∷ []
+put_by_edits = refl
+
+pub replaced_by_edits : nodes_replaced listed edits ≡ listed
+replaced_by_edits = refl
+
+pub touched_new : is_touched listed edits (codes "z" ∷ []) ≡ true
+touched_new = refl
+
+pub touched_old : is_touched listed edits (codes "c" ∷ []) ≡ true
+touched_old = refl
+
+pub not_touched : is_touched listed edits (codes "y" ∷ []) ≡ false
+not_touched = refl

@@ -1,8 +1,10 @@
+pub mod Edit
 pub mod Examples
 pub mod Fold
 pub mod Laws
 pub mod Listing
 pub mod Membership
 pub mod Process
+pub mod Settled
 pub mod Sorting
 pub mod inner

@@ -10,9 +10,10 @@ ghost use Rattle.dz_settings.specs.Key.{IsKey};
 ghost use Rattle.dz_member.specs.Membership.{settings_at, shown, key_of, policy_of, primaries_of, IsNumbered};
 ghost use Rattle.dz_member.specs.Fold.{IsFold, number_of, member_of, started};
 
-use crate::known::{Known, nothing_known};
-use crate::listing::Listing;
+use crate::known::{Known, nothing_known, share_all};
+use crate::members::{Held, Members, Memberships};
 use crate::membership::{Member, Membership, key_of, policy_of, primaries_of};
+use crate::nodes::Nodes;
 use dz_name::Name;
 use dz_settings::{CatalogSettings, Config, Key, Peers, Policy};
 use std::alloc::{AllocError, Global};
@@ -22,11 +23,14 @@ use std::sync::Arc;
 /// The configuration, the members of its catalogs in the canonical order of their zones, and each catalog's last
 /// unbroken listing. A fold never changes: a listing makes a new one, which shares the configuration and the other
 /// listings.
-#[derive(Debug, Drop)]
+#[derive(Drop)]
 pub struct Fold {
     pub(crate) config: Arc<Config>,
-    pub(crate) members: Vec<Membership>,
+    pub(crate) members: Arc<Members>,
     pub(crate) listings: Vec<Known>,
+    /// Whether a catalog is settled: its last unbroken listing, processed again, would tell nothing. What isn't marked so
+    /// may be settled too.
+    pub(crate) settled: Vec<bool>,
 }
 
 impl Model for Fold {
@@ -35,10 +39,13 @@ impl Model for Fold {
 
     ghost Value = { FoldOf };
 
-    ghost view = { λ f. fold_in f.config.value f.members.items f.listings.items };
+    ghost view = { λ f. fold_in f.config.value f.members.value f.listings.items };
 
-    ghost invariant = { λ f. IsKept f.config.value f.members.items f.listings.items };
+    ghost invariant = { λ f. IsKept f.config.value f.members.value f.listings.items f.settled.items };
 }
+
+/// The most members of a fold.
+pub(crate) const MOST: usize = 9_223_372_036_854_775_807;
 
 impl Fold {
     /// The fold of a configuration: no zone is a member yet. The error is out of memory.
@@ -46,11 +53,16 @@ impl Fold {
         requires { IsAllowed config }
         ensures { IfOk result (λ f. f ≡ started config) }
     {
-        let listings = nothing_known(alloc, config.catalogs().len())?;
+        let count = config.catalogs().len();
+        let listings = nothing_known(alloc, count)?;
+        let settled = vec![in alloc; false; count]?;
+        let members = Arc::new(alloc, Members::empty(alloc))?;
+        let config = Arc::new(alloc, config)?;
         Ok(Fold {
-            config: Arc::new(alloc, config)?,
-            members: Vec::new(alloc),
+            config,
+            members,
             listings,
+            settled,
         })
     }
 
@@ -90,12 +102,24 @@ impl Fold {
         &self.catalogs()[number]
     }
 
-    /// The last unbroken listing of a catalog.
-    pub fn listing(&self, number: usize) -> Option<&Listing>
+    /// The nodes of the last unbroken listing of a catalog.
+    pub(crate) fn listing(&self, number: usize) -> Option<&Nodes>
         requires { number < length self.now.config }
         ensures { option_map (λ r. r.now) result ≡ slice_index_or self.now.listings number None }
     {
-        self.listings[number].listing()
+        match self.listings[number].nodes() {
+            None => None,
+            Some(nodes) => Some(&**nodes),
+        }
+    }
+
+    /// The same nodes, as another fold can share them.
+    pub(crate) fn shared_nodes(&self, number: usize) -> Option<&Arc<Nodes>>
+        requires { number < length self.now.config }
+        ensures { option_map (λ r. r.now.value) result
+            ≡ slice_index_or self.now.listings number None }
+    {
+        self.listings[number].nodes()
     }
 
     /// How many members there are.
@@ -106,13 +130,36 @@ impl Fold {
     }
 
     /// The members, in the canonical order of their zones, with numbers of catalogs and groups.
-    pub fn memberships(&self) -> &[Membership]
-        ensures members { map (shown self.now.config) result.now ≡ self.now.members }
-        ensures order { IsStrictlySortedBy canonical_order (map (λ m. m.zone) result.now) }
-        ensures numbered { All (IsNumbered self.now.config) result.now }
+    pub fn memberships(&self) -> Memberships<'_>
+        ensures members { map (shown self.now.config) result ≡ self.now.members }
+        ensures order { IsStrictlySortedBy canonical_order (map (λ m. m.zone) result) }
+        ensures numbered { All (IsNumbered self.now.config) result }
         ensures fold { IsFold self.now }
     {
-        self.members.as_slice()
+        self.members.walk()
+    }
+
+    /// The memberships, as another fold can share them.
+    pub(crate) fn held(&self) -> Held<'_>
+        ensures members { map (shown self.now.config) result ≡ self.now.members }
+        ensures order { IsStrictlySortedBy canonical_order (map (λ m. m.zone) result) }
+        ensures numbered { All (IsNumbered self.now.config) result }
+    {
+        let _ = &self.config;
+        self.members.held()
+    }
+
+    /// The membership at a place, from 0.
+    fn membership(&self, place: usize) -> &Membership
+        requires { place < length self.now.members }
+        ensures numbered { IsNumbered self.now.config result.now }
+        ensures is { slice_get self.now.members place ≡ Some (shown self.now.config result.now) }
+    {
+        let _ = &self.config;
+        match self.members.at(place) {
+            Some(membership) => membership,
+            None => unreachable!(),
+        }
     }
 
     /// The member at a place, from 0.
@@ -120,30 +167,77 @@ impl Fold {
         requires { place < length self.now.members }
         ensures { slice_get self.now.members place ≡ Some result }
     {
-        Member::new(self.catalogs(), &self.members[place])
+        Member::new(self.catalogs(), self.membership(place))
+    }
+
+    /// The members, as another fold can share them.
+    pub(crate) fn shared_members(&self) -> &Arc<Members>
+        ensures members { map (shown self.now.config) result.now.value ≡ self.now.members }
+        ensures order { IsStrictlySortedBy canonical_order (map (λ m. m.zone) result.now.value) }
+        ensures numbered { All (IsNumbered self.now.config) result.now.value }
+    {
+        let _ = &self.config;
+        &self.members
+    }
+
+    /// The members, with numbers of catalogs and groups.
+    pub(crate) fn members(&self) -> &Members
+        ensures members { map (shown self.now.config) result.now ≡ self.now.members }
+        ensures order { IsStrictlySortedBy canonical_order (map (λ m. m.zone) result.now) }
+        ensures numbered { All (IsNumbered self.now.config) result.now }
+    {
+        let _ = &self.config;
+        &*self.members
+    }
+
+    /// The membership of a zone.
+    pub(crate) fn membership_of(&self, zone: &Name) -> Option<&Membership>
+        ensures is { option_map (λ r. shown self.now.config r.now) result
+            ≡ member_of zone.now self.now.members }
+        ensures numbered { IfSome result (λ r. IsNumbered self.now.config r.now) }
+    {
+        match self.place_of(zone) {
+            None => None,
+            Some(place) => Some(self.membership(place)),
+        }
+    }
+
+    /// The same fold with these members alone. The error is out of memory.
+    pub(crate) fn narrowed(&self, alloc: Global, members: Members) -> Result<Fold, AllocError>
+        requires order { IsStrictlySortedBy canonical_order (map (λ m. m.zone) members) }
+        requires numbered { All (IsNumbered self.now.config) members }
+        ensures { IfOk result (λ f. f
+            ≡ record self.now { members = map (shown self.now.config) members }) }
+    {
+        if members.len() > MOST {
+            return Err(AllocError);
+        }
+        let settled = vec![in alloc; false; self.catalogs().len()]?;
+        let listings = share_all(alloc, &self.listings)?;
+        let members = Arc::new(alloc, members)?;
+        let config = self.shared_config()?;
+        Ok(Fold {
+            config,
+            members,
+            listings,
+            settled,
+        })
     }
 
     /// The place of the member of a zone.
     pub fn place_of(&self, zone: &Name) -> Option<usize>
         ensures { result ≡ position (λ m. same_name m.zone zone.now) self.now.members }
     {
-        match self
-            .members
-            .binary_search_by(|m| m.zone.canonical_cmp(zone))
-        {
-            Ok(place) => Some(place),
-            Err(_) => None,
-        }
+        self.members().place_of(zone)
     }
 
     /// The place of the member of a zone. It is looked for first at a place where it is likely.
     pub fn place_near(&self, likely: usize, zone: &Name) -> Option<usize>
         ensures { result ≡ position (λ m. same_name m.zone zone.now) self.now.members }
     {
-        if likely < self.members.len() && self.members[likely].zone.same(zone) {
-            Some(likely)
-        } else {
-            self.place_of(zone)
+        match self.members().at(likely) {
+            Some(m) if m.zone.as_ref().same(&zone.as_ref()) => Some(likely),
+            _ => self.place_of(zone),
         }
     }
 
@@ -182,7 +276,7 @@ impl Fold {
         ensures { IfSome (slice_get self.now.members place)
             (λ m. policy_of self.now.config m ≡ Some result) }
     {
-        policy_of(self.catalogs(), &self.members[place])
+        policy_of(self.catalogs(), self.membership(place))
     }
 
     /// The primaries of a member: those of its group, or else its catalog's own.
@@ -191,7 +285,7 @@ impl Fold {
         ensures { IfSome (slice_get self.now.members place)
             (λ m. primaries_of self.now.config m ≡ Some result.now) }
     {
-        primaries_of(self.catalogs(), &self.members[place])
+        primaries_of(self.catalogs(), self.membership(place))
     }
 
     /// The key of a member's catalog.
@@ -201,6 +295,6 @@ impl Fold {
             (λ m. key_of self.now.config m ≡ option_map (λ r. r.now) result) }
         ensures usable { ForSome (option_map (λ r. r.now) result) IsKey }
     {
-        key_of(self.catalogs(), &self.members[place])
+        key_of(self.catalogs(), self.membership(place))
     }
 }

@@ -1,30 +1,60 @@
 //! What a listing changes at one zone (RFC 9432 sections 4.3.1, 5.2 and 5.4).
 
-ghost use Rattle.std.specs.Prelude.{◌≡◌, ℕ, ◌<◌, length, true, false, Some, None, IfSome, option_map};
+ghost use Rattle.std.specs.Prelude.{◌≡◌, ℕ, ◌<◌, length, true, false, Some, None, IfOk, option_map};
 ghost use Rattle.std.specs.Option.{option_map_or, option_eq, ForSome};
 ghost use Rattle.std.specs.Bool.{OnTrue};
 ghost use Rattle.std.specs.Str.{bytes_eq};
-ghost use Rattle.std.specs.List.{find, list_any};
-ghost use Rattle.dz_name.specs.Name.{same_name, same_label};
-ghost use Rattle.dz_member.specs.Listing.{IsListing};
+ghost use Rattle.std.specs.List.{list_any};
+ghost use Rattle.dz_name.specs.Name.{same_name};
 ghost use Rattle.dz_member.specs.Membership.{settings_at, group_at, shown, IsNumbered};
 ghost use Rattle.dz_member.specs.Process.{choice_in, entered, coo_names, consents, is_catalog};
 ghost use Rattle.dz_member.specs.Process.{held_here, held_elsewhere, unlisted, listed, judged};
 ghost use Rattle.dz_member.specs.Fold.{IsFold, listing_of};
-ghost use Rattle.dz_member.specs.inner.Kept.{catalog_at, shown_in, held_in, judgement_of};
+ghost use Rattle.dz_member.specs.declared.judge.Stands.TheVariants.{Same, Now};
+ghost use Rattle.dz_member.specs.inner.Kept.{catalog_at, shown_in, held_in, judgement_of, IsJudged};
 
-use crate::change::What;
+use crate::change::Happened;
 use crate::fold::Fold;
 use crate::groups::group_of;
-use crate::listing::{Listing, Node};
+use crate::listing::Node;
 use crate::membership::Membership;
-use dz_name::{Label, Name, NameRef};
+use crate::nodes::Nodes;
+use dz_name::{KeptName, Label, Name, NameRef};
+use std::alloc::{AllocError, Global};
+
+/// The member at a zone afterwards: the same as before or none as before, no member any more, or this one.
+#[derive(Drop)]
+pub(crate) enum Stands {
+    Same,
+    Gone,
+    Now(Membership),
+}
 
 /// The member at a zone afterwards, and what happened to it.
-#[derive(Clone, Copy)]
+#[derive(Drop)]
 pub(crate) struct Judged {
-    pub(crate) stands: Option<Membership>,
-    pub(crate) change: Option<What>,
+    pub(crate) stands: Stands,
+    pub(crate) change: Option<Happened>,
+}
+
+/// The zone stays as it is, and this happened.
+fn same(change: Option<Happened>) -> Judged
+    ensures { result ≡ record { stands = Same; change = change } }
+{
+    Judged {
+        stands: Stands::Same,
+        change,
+    }
+}
+
+/// The zone has this member now, and this happened.
+fn now(membership: Membership, change: Happened) -> Judged
+    ensures { result ≡ record { stands = Now membership; change = Some change } }
+{
+    Judged {
+        stands: Stands::Now(membership),
+        change: Some(change),
+    }
 }
 
 /// The group that a node of this catalog belongs to.
@@ -40,21 +70,21 @@ fn choice(fold: &Fold, number: u8, node: &Node) -> Option<u8>
     group_of(settings.groups.as_slice(), node.groups.as_slice())
 }
 
-/// The membership of a node whose zone begins as a member.
-fn enter(fold: &Fold, number: u8, position: u64, node: &Node) -> Membership
+/// The membership of a node whose zone begins as a member. The error is out of memory.
+fn enter(fold: &Fold, number: u8, position: u64, node: &Node) -> Result<Membership, AllocError>
     requires fold { IsFold fold.now }
     requires number { number < length fold.now.config }
-    ensures shown { shown_in fold.now result
-        ≡ entered fold.now (catalog_at fold.now number) position node.now }
-    ensures numbered { IsNumbered fold.now.config result }
+    ensures shown { IfOk result (λ m. shown_in fold.now m
+        ≡ entered fold.now (catalog_at fold.now number) position node.now) }
+    ensures numbered { IfOk result (IsNumbered fold.now.config) }
 {
-    Membership {
-        zone: node.zone.as_ref().to_name(),
+    Ok(Membership {
+        zone: node.zone.try_clone()?,
         label: node.label,
         incarnation: position,
         catalog: number,
         group: choice(fold, number, node),
-    }
+    })
 }
 
 /// The name of the catalog of a number.
@@ -64,18 +94,6 @@ fn name_of(fold: &Fold, number: u8) -> Name
     ensures { result ≡ catalog_at fold.now number }
 {
     fold.settings(number as usize).name
-}
-
-/// The node of a label. Labels rise, so it is found by binary search.
-fn node_at<'a>(listing: &'a Listing, label: &Label) -> Option<&'a Node>
-    ensures { option_map (λ r. r.now) result
-        ≡ find (λ n. same_label n.label label.now) listing.now }
-{
-    let nodes = listing.nodes();
-    match nodes.binary_search_by(|node| node.label.cmp(label)) {
-        Ok(at) => Some(&nodes[at]),
-        Err(_) => None,
-    }
 }
 
 /// Whether a node has a `coo`, and it names this catalog.
@@ -89,17 +107,17 @@ fn names(node: &Node, catalog: &Name) -> bool
 }
 
 /// Whether the node of a label has a `coo`, and it names this catalog.
-fn coo_names(listing: &Listing, label: &Label, catalog: &Name) -> bool
-    ensures { result ≡ coo_names listing.now label.now catalog.now }
+fn coo_names(nodes: &Nodes, label: &Label, catalog: &Name) -> bool
+    ensures { result ≡ coo_names nodes.now label.now catalog.now }
 {
-    match node_at(listing, label) {
+    match nodes.find(label) {
         None => false,
         Some(node) => names(node, catalog),
     }
 }
 
 /// The last unbroken listing of the catalog that holds a member.
-fn listing_of<'a>(fold: &'a Fold, member: &Membership) -> Option<&'a Listing>
+fn listing_of<'a>(fold: &'a Fold, member: &Membership) -> Option<&'a Nodes>
     requires fold { IsFold fold.now }
     requires held { IsNumbered fold.now.config member.now }
     ensures { option_map (λ r. r.now) result
@@ -116,44 +134,48 @@ fn consents(fold: &Fold, catalog: &Name, member: &Membership) -> bool
 {
     match listing_of(fold, member) {
         None => false,
-        Some(listing) => coo_names(listing, &member.label, catalog),
+        Some(nodes) => coo_names(nodes, &member.label, catalog),
     }
 }
 
-/// The member as this catalog holds it, with the group of its node there.
-fn taken(fold: &Fold, number: u8, member: &Membership, node: &Node) -> Membership
+/// The member as this catalog holds it, with the group of its node there. The error is out of memory.
+fn taken(
+    fold: &Fold,
+    number: u8,
+    member: &Membership,
+    node: &Node,
+) -> Result<Membership, AllocError>
     requires fold { IsFold fold.now }
     requires number { number < length fold.now.config }
-    ensures shown { shown_in fold.now result ≡ record (shown_in fold.now member.now) {
+    ensures shown { IfOk result (λ m. shown_in fold.now m ≡ record (shown_in fold.now member.now) {
       catalog = catalog_at fold.now number;
       choice = choice_in fold.now.config (catalog_at fold.now number) node.now;
-    } }
-    ensures numbered { IsNumbered fold.now.config result }
-    ensures number { result.catalog ≡ number }
+    }) }
+    ensures numbered { IfOk result (IsNumbered fold.now.config) }
 {
-    Membership {
-        zone: member.zone,
+    Ok(Membership {
+        zone: member.zone.try_clone()?,
         label: member.label,
         incarnation: member.incarnation,
         catalog: number,
         group: choice(fold, number, node),
-    }
+    })
 }
 
-/// Whether two memberships of one catalog belong to one group.
-fn choose_alike(fold: &Fold, a: &Membership, b: &Membership) -> bool
+/// Whether a member of this catalog belongs to the group of its node.
+fn chooses_alike(fold: &Fold, number: u8, member: &Membership, node: &Node) -> bool
     requires fold { IsFold fold.now }
-    requires a { IsNumbered fold.now.config a.now }
-    requires b { IsNumbered fold.now.config b.now }
-    requires catalog { a.now.catalog ≡ b.now.catalog }
-    ensures { result ≡ option_eq bytes_eq
-        (shown_in fold.now a.now).choice (shown_in fold.now b.now).choice }
+    requires number { number < length fold.now.config }
+    requires held { IsNumbered fold.now.config member.now }
+    requires here { member.now.catalog ≡ number }
+    ensures { result ≡ option_eq bytes_eq (shown_in fold.now member.now).choice
+        (choice_in fold.now.config (catalog_at fold.now number) node.now) }
 {
-    a.group == b.group
+    member.group == choice(fold, number, node)
 }
 
 /// Whether a catalog holds a member.
-fn holds(fold: &Fold, number: u8, member: &Membership) -> bool
+pub(crate) fn holds(fold: &Fold, number: u8, member: &Membership) -> bool
     requires fold { IsFold fold.now }
     requires number { number < length fold.now.config }
     requires held { IsNumbered fold.now.config member.now }
@@ -164,86 +186,82 @@ fn holds(fold: &Fold, number: u8, member: &Membership) -> bool
     member.catalog == number
 }
 
-/// A zone that its own catalog lists.
-fn held_here(fold: &Fold, number: u8, position: u64, member: &Membership, node: &Node) -> Judged
+/// A zone that its own catalog lists. The error is out of memory.
+fn held_here(
+    fold: &Fold,
+    number: u8,
+    position: u64,
+    member: &Membership,
+    node: &Node,
+) -> Result<Judged, AllocError>
     requires fold { IsFold fold.now }
     requires number { number < length fold.now.config }
     requires held { IsNumbered fold.now.config member.now }
     requires here { member.now.catalog ≡ number }
-    ensures is { judgement_of fold.now.config result
+    ensures is { IfOk result (λ j. judgement_of fold.now.config (Some (shown_in fold.now member.now)) j
         ≡ held_here fold.now (catalog_at fold.now number) position
-        (shown_in fold.now member.now) node.now }
-    ensures numbered { IfSome result.stands (IsNumbered fold.now.config) }
+        (shown_in fold.now member.now) node.now) }
+    ensures numbered { IfOk result (IsJudged fold.now.config) }
 {
     if member.label != node.label {
-        return Judged {
-            stands: Some(enter(fold, number, position, node)),
-            change: Some(What::Reset(name_of(fold, number))),
-        };
+        let reset = enter(fold, number, position, node)?;
+        return Ok(now(reset, Happened::Reset(number)));
     }
-    let regrouped = taken(fold, number, member, node);
-    if choose_alike(fold, member, &regrouped) {
-        return Judged {
-            stands: Some(*member),
-            change: None,
-        };
+    if chooses_alike(fold, number, member, node) {
+        return Ok(same(None));
     }
-    Judged {
-        stands: Some(regrouped),
-        change: Some(What::Regrouped(name_of(fold, number))),
-    }
+    let regrouped = taken(fold, number, member, node)?;
+    Ok(now(regrouped, Happened::Regrouped(number)))
 }
 
-/// A zone that another catalog holds, and lets this one take over.
-fn taken_over(fold: &Fold, number: u8, position: u64, member: &Membership, node: &Node) -> Judged
+/// A zone that another catalog holds, and lets this one take over. The error is out of memory.
+fn taken_over(
+    fold: &Fold,
+    number: u8,
+    position: u64,
+    member: &Membership,
+    node: &Node,
+) -> Result<Judged, AllocError>
     requires fold { IsFold fold.now }
     requires number { number < length fold.now.config }
     requires held { IsNumbered fold.now.config member.now }
     requires consent { consents fold.now (catalog_at fold.now number) (shown_in fold.now member.now)
         ≡ true }
-    ensures is { judgement_of fold.now.config result
+    ensures is { IfOk result (λ j. judgement_of fold.now.config (Some (shown_in fold.now member.now)) j
         ≡ held_elsewhere fold.now (catalog_at fold.now number) position
-        (shown_in fold.now member.now) node.now }
-    ensures numbered { IfSome result.stands (IsNumbered fold.now.config) }
+        (shown_in fold.now member.now) node.now) }
+    ensures numbered { IfOk result (IsJudged fold.now.config) }
 {
-    let from = name_of(fold, member.catalog);
-    let to = name_of(fold, number);
+    let from = member.catalog;
     if member.label == node.label {
-        Judged {
-            stands: Some(taken(fold, number, member, node)),
-            change: Some(What::Moved(from, to)),
-        }
+        let moved = taken(fold, number, member, node)?;
+        Ok(now(moved, Happened::Moved(from, number)))
     } else {
-        Judged {
-            stands: Some(enter(fold, number, position, node)),
-            change: Some(What::MovedReset(from, to)),
-        }
+        let reset = enter(fold, number, position, node)?;
+        Ok(now(reset, Happened::MovedReset(from, number)))
     }
 }
 
-/// A zone that another catalog holds.
+/// A zone that another catalog holds. The error is out of memory.
 fn held_elsewhere(
     fold: &Fold,
     number: u8,
     position: u64,
     member: &Membership,
     node: &Node,
-) -> Judged
+) -> Result<Judged, AllocError>
     requires fold { IsFold fold.now }
     requires number { number < length fold.now.config }
     requires held { IsNumbered fold.now.config member.now }
-    ensures is { judgement_of fold.now.config result
+    ensures is { IfOk result (λ j. judgement_of fold.now.config (Some (shown_in fold.now member.now)) j
         ≡ held_elsewhere fold.now (catalog_at fold.now number) position
-        (shown_in fold.now member.now) node.now }
-    ensures numbered { IfSome result.stands (IsNumbered fold.now.config) }
+        (shown_in fold.now member.now) node.now) }
+    ensures numbered { IfOk result (IsJudged fold.now.config) }
 {
     if consents(fold, &name_of(fold, number), member) {
         taken_over(fold, number, position, member, node)
     } else {
-        Judged {
-            stands: Some(*member),
-            change: Some(What::Clash(Some(name_of(fold, member.catalog)))),
-        }
+        Ok(same(Some(Happened::Clash(Some(member.catalog)))))
     }
 }
 
@@ -252,38 +270,41 @@ fn unlisted(fold: &Fold, number: u8, member: &Membership) -> Judged
     requires fold { IsFold fold.now }
     requires number { number < length fold.now.config }
     requires held { IsNumbered fold.now.config member.now }
-    ensures is { judgement_of fold.now.config result
+    ensures is { judgement_of fold.now.config (Some (shown_in fold.now member.now)) result
         ≡ unlisted (catalog_at fold.now number) (shown_in fold.now member.now) }
-    ensures numbered { IfSome result.stands (IsNumbered fold.now.config) }
+    ensures numbered { IsJudged fold.now.config result }
 {
     if holds(fold, number, member) {
         Judged {
-            stands: None,
-            change: Some(What::Removed(name_of(fold, number))),
+            stands: Stands::Gone,
+            change: Some(Happened::Removed(number)),
         }
     } else {
-        Judged {
-            stands: Some(*member),
-            change: None,
-        }
+        same(None)
     }
 }
 
-/// A zone that is listed, and is no configured catalog.
-fn listed(fold: &Fold, number: u8, position: u64, held: Option<&Membership>, node: &Node) -> Judged
+/// A zone that is listed, and is no configured catalog. The error is out of memory.
+fn listed(
+    fold: &Fold,
+    number: u8,
+    position: u64,
+    held: Option<&Membership>,
+    node: &Node,
+) -> Result<Judged, AllocError>
     requires fold { IsFold fold.now }
     requires number { number < length fold.now.config }
     requires held { ForSome held (λ r. IsNumbered fold.now.config r.now) }
-    ensures is { judgement_of fold.now.config result
+    ensures is { IfOk result (λ j. judgement_of fold.now.config (held_in fold.now held.entry) j
         ≡ listed fold.now (catalog_at fold.now number) position
-        (held_in fold.now held.entry) node.now }
-    ensures numbered { IfSome result.stands (IsNumbered fold.now.config) }
+        (held_in fold.now held.entry) node.now) }
+    ensures numbered { IfOk result (IsJudged fold.now.config) }
 {
     match held {
-        None => Judged {
-            stands: Some(enter(fold, number, position, node)),
-            change: Some(What::Added(name_of(fold, number))),
-        },
+        None => {
+            let added = enter(fold, number, position, node)?;
+            Ok(now(added, Happened::Added(number)))
+        }
         Some(member) => {
             if holds(fold, number, member) {
                 held_here(fold, number, position, member, node)
@@ -337,36 +358,30 @@ pub(crate) fn stays(fold: &Fold, number: u8, held: Option<&Membership>, node: Op
     }
 }
 
-/// What a listing changes at one zone: the first case that fits.
+/// What a listing changes at one zone: the first case that fits. The error is out of memory.
 pub(crate) fn judge(
     fold: &Fold,
     number: u8,
     position: u64,
     held: Option<&Membership>,
     node: Option<&Node>,
-) -> Judged
+) -> Result<Judged, AllocError>
     requires fold { IsFold fold.now }
     requires number { number < length fold.now.config }
     requires held { ForSome held (λ r. IsNumbered fold.now.config r.now) }
-    ensures is { judgement_of fold.now.config result
+    ensures is { IfOk result (λ j. judgement_of fold.now.config (held_in fold.now held.entry) j
         ≡ judged fold.now (catalog_at fold.now number) position (held_in fold.now held.entry)
-        (option_map (λ r. r.now) node.entry) }
-    ensures numbered { IfSome result.stands (IsNumbered fold.now.config) }
+        (option_map (λ r. r.now) node.entry)) }
+    ensures numbered { IfOk result (IsJudged fold.now.config) }
 {
     match node {
         None => match held {
-            None => Judged {
-                stands: None,
-                change: None,
-            },
-            Some(member) => unlisted(fold, number, member),
+            None => Ok(same(None)),
+            Some(member) => Ok(unlisted(fold, number, member)),
         },
         Some(node) => {
             if is_catalog(fold, &node.zone.as_ref()) {
-                Judged {
-                    stands: held.copied(),
-                    change: Some(What::Clash(None)),
-                }
+                Ok(same(Some(Happened::Clash(None))))
             } else {
                 listed(fold, number, position, held, node)
             }

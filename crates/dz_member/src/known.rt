@@ -2,16 +2,16 @@
 
 ghost use Rattle.std.specs.Prelude.{◌≡◌, ◌<◌, length, replicate, slice_set, Some, None, IfOk, option_map};
 
-use crate::listing::Listing;
+use crate::nodes::Nodes;
 use std::alloc::{AllocError, Global};
 use std::marker::Model;
 use std::mem;
 use std::sync::Arc;
 
 /// The last unbroken listing of a catalog, if it had one.
-#[derive(Debug, Drop)]
+#[derive(Drop)]
 pub(crate) struct Known {
-    listing: Option<Arc<Listing>>,
+    nodes: Option<Arc<Nodes>>,
 }
 
 impl Model for Known {
@@ -21,7 +21,7 @@ impl Model for Known {
 
     ghost Value = { Option (List Node) };
 
-    ghost view = { λ k. option_map arc_value k.listing };
+    ghost view = { λ k. option_map arc_value k.nodes };
 }
 
 impl Known {
@@ -29,26 +29,23 @@ impl Known {
     pub(crate) fn nothing() -> Known
         ensures { result ≡ None }
     {
-        Known { listing: None }
+        Known { nodes: None }
     }
 
-    /// A listing as folds share it. The error is out of memory.
-    pub(crate) fn of(alloc: Global, listing: Listing) -> Result<Known, AllocError>
-        ensures { IfOk result (λ k. k ≡ Some listing) }
+    /// A listing as folds share it.
+    pub(crate) fn of(nodes: Arc<Nodes>) -> Known
+        ensures { result ≡ Some nodes.value }
     {
-        let shared = Arc::new(alloc, listing)?;
-        Ok(Known {
-            listing: Some(shared),
-        })
+        Known { nodes: Some(nodes) }
     }
 
-    /// The listing, if there is one.
-    pub(crate) fn listing(&self) -> Option<&Listing>
-        ensures { option_map (λ r. r.now) result ≡ self.now }
+    /// The nodes of the listing, if there is one.
+    pub(crate) fn nodes(&self) -> Option<&Arc<Nodes>>
+        ensures { option_map (λ r. r.now.value) result ≡ self.now }
     {
-        match &self.listing {
+        match &self.nodes {
             None => None,
-            Some(listing) => Some(&**listing),
+            Some(nodes) => Some(nodes),
         }
     }
 
@@ -56,11 +53,11 @@ impl Known {
     pub(crate) fn share(&self) -> Result<Known, AllocError>
         ensures { IfOk result (λ k. k ≡ self.now) }
     {
-        let listing = match &self.listing {
+        let nodes = match &self.nodes {
             None => None,
-            Some(listing) => Some(Arc::try_clone(listing)?),
+            Some(nodes) => Some(Arc::try_clone(nodes)?),
         };
-        Ok(Known { listing })
+        Ok(Known { nodes })
     }
 }
 
@@ -80,19 +77,18 @@ pub(crate) fn with_listing(
     alloc: Global,
     known: &[Known],
     number: usize,
-    listing: Listing,
+    nodes: Arc<Nodes>,
 ) -> Result<Vec<Known>, AllocError>
     requires { number < length known.now }
-    ensures { IfOk result (λ ks. ks.items ≡ slice_set known.now number (Some listing)) }
+    ensures { IfOk result (λ ks. ks.items ≡ slice_set known.now number (Some nodes.value)) }
 {
     let mut copies = share_all(alloc, known)?;
-    let last = Known::of(alloc, listing)?;
-    put(&mut copies, number, last);
+    put(&mut copies, number, Known::of(nodes));
     Ok(copies)
 }
 
 /// One more reference to each of the listings. The error is out of memory.
-fn share_all(alloc: Global, known: &[Known]) -> Result<Vec<Known>, AllocError>
+pub(crate) fn share_all(alloc: Global, known: &[Known]) -> Result<Vec<Known>, AllocError>
     ensures { IfOk result (λ ks. ks.items ≡ known.now) }
 {
     let mut copies = Vec::with_capacity(alloc, known.len())?;

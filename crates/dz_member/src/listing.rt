@@ -1,14 +1,19 @@
 //! What a catalog lists (RFC 9432 section 4).
 
-ghost use Rattle.std.specs.Prelude.{◌≡◌, [], length, slice_get};
+ghost use Rattle.std.specs.Prelude.{◌≡◌, ◌+◌, [], length, slice_get, IfOk};
 ghost use Rattle.std.specs.Option.{option_map};
 ghost use Rattle.dz_member.specs.Listing.{IsListing};
 ghost use Rattle.dz_member.specs.Process.{in_zone_order};
 ghost use Rattle.dz_member.specs.inner.Places.{ArePlaces};
 
+use dz_chunks::Keyed;
+use dz_keys::LabelKey;
 use dz_name::{KeptName, Label, Octets};
-use std::alloc::Global;
+use dz_steps::Steps;
+use std::alloc::{AllocError, Global};
+use std::cmp::Ordering;
 use std::marker::Model;
+use std::sync::ledger::Ledger;
 
 /// The RDATA of TXT records, in the order of their octets.
 #[derive(Debug, Drop)]
@@ -31,6 +36,17 @@ impl Texts {
         ensures { result ≡ items.items }
     {
         Texts { items }
+    }
+
+    /// The same once more. The error is out of memory.
+    pub(crate) fn try_clone(&self, alloc: Global) -> Result<Texts, AllocError>
+        ensures { IfOk result (λ copy. copy ≡ self.now) }
+    {
+        let mut items = Vec::with_capacity(alloc, self.items.len())?;
+        'items: for text in &self.items {
+            items.push(text.try_clone(alloc)?)?;
+        }
+        Ok(Texts { items })
     }
 
     /// Gives the vector back.
@@ -61,6 +77,39 @@ pub struct Node {
 }
 
 const _: () = prove!(size_of::<Node>() == 192);
+
+impl Node {
+    /// The same node once more. The error is out of memory.
+    pub(crate) fn try_clone(&self, alloc: Global) -> Result<Node, AllocError>
+        ensures { IfOk result (λ copy. copy ≡ self.now) }
+    {
+        let coo = match &self.coo {
+            None => None,
+            Some(name) => Some(name.try_clone()?),
+        };
+        Ok(Node {
+            label: self.label,
+            zone: self.zone.try_clone()?,
+            coo,
+            groups: self.groups.try_clone(alloc)?,
+        })
+    }
+}
+
+impl Keyed<LabelKey> for Node {
+    ghost key = { λ n. n.label };
+
+    /// The key of the label.
+    fn key(&self) -> LabelKey {
+        LabelKey::of(&self.label)
+    }
+
+    /// How the label compares with the one that is asked for. It is one step.
+    fn compare<L: Ledger>(&self, asked: &LabelKey, steps: &mut Steps<L>) -> Ordering {
+        steps.tick();
+        self.label.cmp(asked.label())
+    }
+}
 
 /// The member nodes of a catalog: at most 65,536, in the order of their labels, no label and no zone twice. For each it
 /// keeps four more octets, which give the order of the zones.
@@ -114,11 +163,12 @@ impl Listing {
         self.nodes.as_slice()
     }
 
-    /// The places of the nodes, in the order of their zones.
-    pub(crate) fn places(&self) -> &[u32]
-        ensures { ArePlaces self.now result.now }
+    /// The nodes themselves, in the order of their labels.
+    pub(crate) fn into_nodes(self) -> Vec<Node>
+        ensures nodes { result.items ≡ self }
+        ensures listing { IsListing self }
     {
-        self.places.as_slice()
+        self.nodes
     }
 
     /// The node of the zone that is the one of this number in canonical order, from 0; none after the last.

@@ -1,17 +1,23 @@
 //! Members of catalogs.
 
-ghost use Rattle.std.specs.Prelude.{◌≡◌, option_map};
+ghost use Rattle.std.specs.Prelude.{◌≡◌, ◌+◌, IfOk, option_map};
 ghost use Rattle.dz_member.specs.Membership.{settings_at, shown, policy_in, primaries_in, IsNumbered};
 
-use dz_name::{Label, Name, Octets};
+use dz_chunks::Keyed;
+use dz_keys::ZoneKey;
+use dz_name::{KeptName, Label, Name, NameRef, Octets};
 use dz_settings::{CatalogSettings, Key, Peers, Policy};
+use dz_steps::Steps;
+use std::alloc::AllocError;
+use std::cmp::Ordering;
 use std::marker::Model;
+use std::sync::ledger::Ledger;
 
 /// A zone that a catalog assigns, with the numbers of the catalog in the configuration and of the group in the catalog.
 /// What they represent is read from the [`crate::Fold`] that has it, by a [`Member`].
-#[derive(Clone, Copy, Debug, PartialEq, Eq)]
+#[derive(Debug, Drop)]
 pub struct Membership {
-    pub zone: Name,
+    pub zone: KeptName,
     /// The label of the zone's node in the catalog.
     pub label: Label,
     /// The position of the listing that the zone entered by.
@@ -22,7 +28,37 @@ pub struct Membership {
     pub group: Option<u8>,
 }
 
-const _: () = prove!(size_of::<Membership>() == 336);
+const _: () = prove!(size_of::<Membership>() == 128);
+
+impl Membership {
+    /// The same membership once more. The error is out of memory.
+    pub(crate) fn try_clone(&self) -> Result<Membership, AllocError>
+        ensures { IfOk result (λ copy. copy ≡ self.now) }
+    {
+        Ok(Membership {
+            zone: self.zone.try_clone()?,
+            label: self.label,
+            incarnation: self.incarnation,
+            catalog: self.catalog,
+            group: self.group,
+        })
+    }
+}
+
+impl Keyed<ZoneKey> for Membership {
+    ghost key = { λ m. m.zone };
+
+    /// The key of the zone.
+    fn key(&self) -> ZoneKey {
+        ZoneKey::of(&self.zone.as_ref().to_name())
+    }
+
+    /// How the zone compares in canonical order with the one that is asked for. It is one step.
+    fn compare<L: Ledger>(&self, asked: &ZoneKey, steps: &mut Steps<L>) -> Ordering {
+        steps.tick();
+        self.zone.as_ref().canonical_cmp(&asked.zone().as_ref())
+    }
+}
 
 /// A membership with the names and settings that its numbers represent.
 #[derive(Debug, Drop)]
@@ -54,10 +90,10 @@ impl<'a> Member<'a> {
     }
 
     /// The zone.
-    pub fn zone(&self) -> &'a Name
-        ensures { result.now ≡ self.now.zone }
+    pub fn zone(&self) -> NameRef<'a>
+        ensures { result ≡ self.now.zone }
     {
-        &self.membership.zone
+        self.membership.zone.as_ref()
     }
 
     /// The name of the catalog that holds the zone.

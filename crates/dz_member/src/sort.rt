@@ -9,7 +9,6 @@ ghost use Rattle.dz_settings.specs.Twice.{has_twice};
 ghost use Rattle.dz_member.specs.Process.{in_zone_order};
 ghost use Rattle.dz_member.specs.inner.Places.{ArePlaces, IsAt, nodes_in, zones_in};
 
-use crate::again::places_again;
 use crate::keyed::Keyed;
 use crate::listing::{Listing, Node};
 use std::alloc::{AllocError, Global};
@@ -47,23 +46,7 @@ impl Listing {
         ensures { IfOk result (λ o. MatchOption o (¬ IsListing nodes.items)
             (λ l. (l ≡ nodes.items) × IsListing nodes.items)) }
     {
-        Listing::try_from_vec_after(alloc, nodes, None)
-    }
-
-    /// The same, in less time where most of the nodes are at their labels in an earlier listing.
-    ///
-    /// # Errors
-    ///
-    /// As of [`Listing::try_from_vec`].
-    pub fn try_from_vec_after(
-        alloc: Global,
-        nodes: Vec<Node>,
-        before: Option<&Listing>,
-    ) -> Result<Option<Listing>, AllocError>
-        ensures { IfOk result (λ o. MatchOption o (¬ IsListing nodes.items)
-            (λ l. (l ≡ nodes.items) × IsListing nodes.items)) }
-    {
-        match places_of_listing(alloc, nodes.as_slice(), before)? {
+        match places_of_listing(alloc, nodes.as_slice())? {
             None => Ok(None),
             Some(places) => Ok(Some(Listing::placed(nodes, places))),
         }
@@ -72,21 +55,14 @@ impl Listing {
 
 /// The places of the nodes of a listing in the order of their zones; none where the nodes make no listing. The error is
 /// out of memory.
-fn places_of_listing(
-    alloc: Global,
-    nodes: &[Node],
-    before: Option<&Listing>,
-) -> Result<Option<Vec<u32>>, AllocError>
+fn places_of_listing(alloc: Global, nodes: &[Node]) -> Result<Option<Vec<u32>>, AllocError>
     ensures { IfOk result (λ o. MatchOption o (¬ IsListing nodes.now)
         (λ places. IsListing nodes.now × ArePlaces nodes.now places.items)) }
 {
     if nodes.len() > Listing::NODES || !labels_rise(nodes) {
         return Ok(None);
     }
-    match places_again(alloc, nodes, before)? {
-        None => sorted_places(alloc, nodes),
-        Some(places) => Ok(Some(places)),
-    }
+    sorted_places(alloc, nodes)
 }
 
 /// The same of nodes that aren't too many and whose labels rise. The error is out of memory.

@@ -23,7 +23,7 @@ use crate::unkept::Unkept;
 use dz_disk::Disk;
 use dz_fleet::{Aftermath, Fleet, Last, Verdict};
 use dz_io::Sink;
-use dz_member::{Change, Fold, What};
+use dz_member::{Changes, Fold, What};
 use dz_name::{Label, Name};
 use dz_store::{Kept, Store, StoreFault};
 use dz_zone::Version;
@@ -86,28 +86,37 @@ fn do_tasks<D: Disk + Drop>(
         (tasks fleet.now.list verdict.now) }
 {
     let last = fleet.last();
-    forget_gone(alloc, store, changes_of(verdict))?;
+    forget_gone(alloc, store, verdict)?;
     save_last(alloc, store, fleet, last)
 }
 
-/// The changes by a verdict.
-fn changes_of(verdict: &Verdict) -> &[Change]
-    ensures { result.now ≡ changes_of verdict.now }
+/// Forgets the zones whose state goes by a verdict.
+fn forget_gone<D: Disk + Drop>(
+    alloc: Global,
+    store: &mut Store<D>,
+    verdict: &Verdict,
+) -> Result<(), Unkept>
+    ensures passed { OnOk result (ArePassed D.file D.faults D.clock D.left_from store.old store.new
+        (map forget (gone (changes_of verdict.now)))) }
+    ensures stopped { IfErr result (λ u. IsStopped D.file D.faults store.old store.new
+        (map forget (gone (changes_of verdict.now))) u.zone u.fault) }
+    ensures crash { IsErr result → LeavesTasks D.file D.clock D.left_from store.old store.new
+        (map forget (gone (changes_of verdict.now))) }
 {
     match verdict {
         Verdict::Published {
             aftermath: Aftermath::Changes(changes),
             ..
-        } => changes.as_slice(),
-        _ => &[],
+        } => forget_all(alloc, store, changes),
+        _ => Ok(()),
     }
 }
 
-/// Forgets the zones whose state goes.
-fn forget_gone<D: Disk + Drop>(
+/// Forgets the zones whose state goes by changes.
+fn forget_all<D: Disk + Drop>(
     alloc: Global,
     store: &mut Store<D>,
-    changes: &[Change],
+    changes: &Changes,
 ) -> Result<(), Unkept>
     ensures passed { OnOk result (ArePassed D.file D.faults D.clock D.left_from store.old store.new
         (map forget (gone changes.now))) }
@@ -116,7 +125,8 @@ fn forget_gone<D: Disk + Drop>(
     ensures crash { IsErr result → LeavesTasks D.file D.clock D.left_from store.old store.new
         (map forget (gone changes.now)) }
 {
-    'changes: for change in changes {
+    'changes: for place in 0..changes.len() {
+        let change = changes.at(place);
         if goes(&change.what) {
             forget_one(alloc, store, &change.zone)?;
         }

@@ -21,7 +21,7 @@ use crate::naming::Naming;
 use crate::provisioner::{Provisioner, Unmade};
 use dz_desk::Reading;
 use dz_disk::Disk;
-use dz_fleet::{Due, Job, Verdict};
+use dz_fleet::{Due, Fleet, Job, Verdict};
 use dz_io::Sink;
 use dz_name::Name;
 use dz_restore::{finished_of, may_return, zone_at};
@@ -107,9 +107,19 @@ fn restore_all<K: Sink, J: Naming, D: Disk + Drop, R: Wait>(
     }
     let members = Places {
         first: count,
-        count: provisioner.fleet.fold().memberships().len(),
+        count: member_count(&provisioner.fleet),
     };
     restore_places(rt, alloc, provisioner, store, members)
+}
+
+/// How many members there are, far fewer than a counter holds.
+fn member_count(fleet: &Fleet) -> usize
+    ensures count { result ≡ length (state_of fleet.now).fold.members }
+    ensures few { result < 2 ^ 63 }
+{
+    let fold = fleet.fold();
+    let _ = fold.catalogs();
+    fold.count()
 }
 
 /// The zones at some places have their turns.

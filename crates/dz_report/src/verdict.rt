@@ -9,7 +9,7 @@ ghost use Rattle.dz_report.specs.Lines.{aftermath_lines, verdict_lines};
 use crate::reason::reason_of;
 use dz_history::Aftermath;
 use dz_job::Verdict;
-use dz_member::{Broken, Change, What};
+use dz_member::{Broken, Change, Changes, What};
 use dz_name::Name;
 use dz_take::Standing;
 use itoa::Buffer;
@@ -44,80 +44,108 @@ pub fn verdict_lines(
 fn verdict_text(alloc: Global, zone: &Name, verdict: &Verdict) -> Result<Vec<u8>, AllocError>
     ensures { IfOk result (λ text. text.items ≡ verdict_lines zone.now verdict.now) }
 {
+    let mut text = Vec::new(alloc);
+    put_verdict(alloc, zone, verdict, &mut text)?;
+    Ok(text)
+}
+
+/// Puts the lines of a verdict. `AllocError` where memory runs out.
+fn put_verdict(
+    alloc: Global,
+    zone: &Name,
+    verdict: &Verdict,
+    text: &mut Vec<u8>,
+) -> Result<(), AllocError>
+    ensures { OnOk result (text.new.items ≡ text.old.items ++ verdict_lines zone.now verdict.now) }
+{
     match verdict {
         Verdict::Published {
             position,
             serial,
             aftermath,
         } => {
-            let mut text = taken_line(alloc, b"published", *position, zone, *serial)?;
-            text.extend_from_slice(aftermath_lines(alloc, zone, aftermath)?.as_slice())?;
-            Ok(text)
+            put_taken(text, b"published", *position, zone, *serial)?;
+            put_aftermath(text, zone, aftermath)?;
+            Ok(())
         }
         Verdict::Confirmed { position, serial } => {
-            taken_line(alloc, b"confirmed", *position, zone, *serial)
+            put_taken(text, b"confirmed", *position, zone, *serial)
         }
         Verdict::Refused(fault) => {
-            zone_line(alloc, b"refused", zone, reason_of(alloc, fault)?.as_slice())
+            put_zone_line(text, b"refused", zone, reason_of(alloc, fault)?.as_slice())
         }
         Verdict::PolicyRefused(standing) => {
-            zone_line(alloc, b"policy", zone, standing_word(*standing))
+            put_zone_line(text, b"policy", zone, standing_word(*standing))
         }
-        Verdict::Stale(position) => stale_line(alloc, zone, *position),
-        Verdict::OutOfMemory => memory_line(alloc, zone),
+        Verdict::Stale(position) => put_stale(text, zone, *position),
+        Verdict::OutOfMemory => put_memory(text, zone),
     }
 }
 
-/// `<word> <position> <zone> <serial>`. `AllocError` where memory runs out.
-fn taken_line(
-    alloc: Global,
+/// Puts `<word> <position> <zone> <serial>`. `AllocError` where memory runs out.
+fn put_taken(
+    text: &mut Vec<u8>,
     word: &[u8],
     position: u64,
     zone: &Name,
     serial: u32,
-) -> Result<Vec<u8>, AllocError>
-    ensures { IfOk result (λ text. text.items
-        ≡ end (also (also (also word.now (decimal position)) (text_of zone.now))
+) -> Result<(), AllocError>
+    ensures { OnOk result (text.new.items
+        ≡ text.old.items ++ end (also (also (also word.now (decimal position)) (text_of zone.now))
         (decimal serial))) }
 {
     let mut digits = Buffer::new();
-    let mut text = Vec::from_slice(alloc, word)?;
-    put(&mut text, digits.format(position).as_bytes())?;
-    put(&mut text, zone.print().as_bytes())?;
-    put(&mut text, digits.format(serial).as_bytes())?;
+    text.extend_from_slice(word)?;
+    put(text, digits.format(position).as_bytes())?;
+    put(text, zone.print().as_bytes())?;
+    put(text, digits.format(serial).as_bytes())?;
     text.push(b'\n')?;
-    Ok(text)
+    Ok(())
 }
 
-/// `<word> <zone> <text>`. `AllocError` where memory runs out.
-fn zone_line(alloc: Global, word: &[u8], zone: &Name, behind: &[u8]) -> Result<Vec<u8>, AllocError>
-    ensures { IfOk result (λ text. text.items
-        ≡ end (also (also word.now (text_of zone.now)) behind.now)) }
+/// Puts `<word> <zone> <behind>` as a line. `AllocError` where memory runs out.
+fn put_zone_line(
+    text: &mut Vec<u8>,
+    word: &[u8],
+    zone: &Name,
+    behind: &[u8],
+) -> Result<(), AllocError>
+    ensures { OnOk result (text.new.items
+        ≡ text.old.items ++ end (also (also word.now (text_of zone.now)) behind.now)) }
 {
-    let mut text = Vec::from_slice(alloc, word)?;
-    put(&mut text, zone.print().as_bytes())?;
-    put(&mut text, behind)?;
+    put_words(text, word, zone, behind)?;
     text.push(b'\n')?;
-    Ok(text)
+    Ok(())
 }
 
-/// `stale <zone> <position>`. `AllocError` where memory runs out.
-fn stale_line(alloc: Global, zone: &Name, position: u64) -> Result<Vec<u8>, AllocError>
-    ensures { IfOk result (λ text. text.items
-        ≡ end (also (also (codes "stale") (text_of zone.now)) (decimal position))) }
+/// Puts `stale <zone> <position>`. `AllocError` where memory runs out.
+fn put_stale(text: &mut Vec<u8>, zone: &Name, position: u64) -> Result<(), AllocError>
+    ensures { OnOk result (text.new.items ≡ text.old.items
+        ++ end (also (also (codes "stale") (text_of zone.now)) (decimal position))) }
 {
     let mut digits = Buffer::new();
-    zone_line(alloc, b"stale", zone, digits.format(position).as_bytes())
+    put_zone_line(text, b"stale", zone, digits.format(position).as_bytes())
 }
 
-/// `nomemory <zone>`. `AllocError` where memory runs out.
-fn memory_line(alloc: Global, zone: &Name) -> Result<Vec<u8>, AllocError>
-    ensures { IfOk result (λ text. text.items ≡ end (also (codes "nomemory") (text_of zone.now))) }
+/// Puts `nomemory <zone>`. `AllocError` where memory runs out.
+fn put_memory(text: &mut Vec<u8>, zone: &Name) -> Result<(), AllocError>
+    ensures { OnOk result (text.new.items
+        ≡ text.old.items ++ end (also (codes "nomemory") (text_of zone.now))) }
 {
-    let mut text = Vec::from_slice(alloc, b"nomemory")?;
-    put(&mut text, zone.print().as_bytes())?;
+    text.extend_from_slice(b"nomemory")?;
+    put(text, zone.print().as_bytes())?;
     text.push(b'\n')?;
-    Ok(text)
+    Ok(())
+}
+
+/// Puts `<word> <zone> <behind>`, no end of a line. `AllocError` where memory runs out.
+fn put_words(text: &mut Vec<u8>, word: &[u8], zone: &Name, behind: &[u8]) -> Result<(), AllocError>
+    ensures { OnOk result (text.new.items
+        ≡ text.old.items ++ also (also word.now (text_of zone.now)) behind.now) }
+{
+    text.extend_from_slice(word)?;
+    put(text, zone.print().as_bytes())?;
+    put(text, behind)
 }
 
 /// Puts a space and a further word. `AllocError` where memory runs out.
@@ -128,92 +156,83 @@ fn put(text: &mut Vec<u8>, word: &[u8]) -> Result<(), AllocError>
     text.extend_from_slice(word)
 }
 
-/// The lines of what a new version changes beyond its own zone. `AllocError` where memory runs out.
-fn aftermath_lines(alloc: Global, zone: &Name, aftermath: &Aftermath) -> Result<Vec<u8>, AllocError>
-    ensures { IfOk result (λ text. text.items ≡ aftermath_lines zone.now aftermath.now) }
+/// Puts the lines of what a new version changes besides its zone. `AllocError` where memory runs out.
+fn put_aftermath(text: &mut Vec<u8>, zone: &Name, aftermath: &Aftermath) -> Result<(), AllocError>
+    ensures { OnOk result (text.new.items
+        ≡ text.old.items ++ aftermath_lines zone.now aftermath.now) }
 {
     match aftermath {
-        Aftermath::Member => Ok(Vec::new(alloc)),
-        Aftermath::Broken(reason) => zone_line(alloc, b"broken", zone, broken_word(reason)),
-        Aftermath::Changes(changes) => change_lines(alloc, changes.as_slice()),
+        Aftermath::Member => Ok(()),
+        Aftermath::Broken(reason) => put_zone_line(text, b"broken", zone, broken_word(reason)),
+        Aftermath::Changes(changes) => put_changes(text, changes),
     }
 }
 
-/// The lines of changes, one after the other. `AllocError` where memory runs out.
-fn change_lines(alloc: Global, changes: &[Change]) -> Result<Vec<u8>, AllocError>
-    ensures { IfOk result (λ text. text.items ≡ flat_map change_line changes.now) }
+/// Puts the lines of changes, one after the other. `AllocError` where memory runs out.
+fn put_changes(text: &mut Vec<u8>, changes: &Changes) -> Result<(), AllocError>
+    ensures { OnOk result (text.new.items ≡ text.old.items ++ flat_map change_line changes.now) }
 {
-    let mut text = Vec::new(alloc);
-    'changes: for change in changes {
-        put_change(alloc, change, &mut text)?;
+    'changes: for place in 0..changes.len() {
+        put_change(text, &changes.at(place))?;
     }
-    Ok(text)
+    Ok(())
 }
 
-/// Appends the line of a change. `AllocError` where memory runs out.
-fn put_change(alloc: Global, change: &Change, text: &mut Vec<u8>) -> Result<(), AllocError>
+/// Puts the line of a change. `AllocError` where memory runs out.
+fn put_change(text: &mut Vec<u8>, change: &Change) -> Result<(), AllocError>
     ensures { OnOk result (text.new.items ≡ text.old.items ++ change_line change.now) }
 {
-    text.extend_from_slice(change_text(alloc, &change.zone, &change.what)?.as_slice())?;
+    put_what(text, &change.zone, &change.what)?;
     text.push(b'\n')?;
     Ok(())
 }
 
-/// A change, without the end of its line. `AllocError` where memory runs out.
-fn change_text(alloc: Global, zone: &Name, what: &What) -> Result<Vec<u8>, AllocError>
-    ensures { IfOk result (λ text. text.items ≡ change_text zone.now what.now) }
+/// Puts a change, without the end of its line. `AllocError` where memory runs out.
+fn put_what(text: &mut Vec<u8>, zone: &Name, what: &What) -> Result<(), AllocError>
+    ensures { OnOk result (text.new.items ≡ text.old.items ++ change_text zone.now what.now) }
 {
     match what {
-        What::Added(catalog) => named(alloc, b"added", zone, catalog),
-        What::Removed(catalog) => named(alloc, b"removed", zone, catalog),
-        What::Reset(catalog) => named(alloc, b"reset", zone, catalog),
-        What::Moved(old, new) => moved(alloc, b"moved", zone, old, new),
-        What::MovedReset(old, new) => moved(alloc, b"moved-reset", zone, old, new),
-        What::Clash(holder) => clash(alloc, zone, holder),
-        What::Regrouped(catalog) => named(alloc, b"regrouped", zone, catalog),
+        What::Added(catalog) => put_named(text, b"added", zone, catalog),
+        What::Removed(catalog) => put_named(text, b"removed", zone, catalog),
+        What::Reset(catalog) => put_named(text, b"reset", zone, catalog),
+        What::Moved(old, new) => put_moved(text, b"moved", zone, old, new),
+        What::MovedReset(old, new) => put_moved(text, b"moved-reset", zone, old, new),
+        What::Clash(holder) => put_clash(text, zone, holder),
+        What::Regrouped(catalog) => put_named(text, b"regrouped", zone, catalog),
     }
 }
 
-/// `<word> <zone> <catalog>`. `AllocError` where memory runs out.
-fn named(alloc: Global, word: &[u8], zone: &Name, catalog: &Name) -> Result<Vec<u8>, AllocError>
-    ensures { IfOk result (λ text. text.items
-        ≡ also (also word.now (text_of zone.now)) (text_of catalog.now)) }
+/// Puts `<word> <zone> <catalog>`. `AllocError` where memory runs out.
+fn put_named(text: &mut Vec<u8>, word: &[u8], zone: &Name, catalog: &Name) -> Result<(), AllocError>
+    ensures { OnOk result (text.new.items
+        ≡ text.old.items ++ also (also word.now (text_of zone.now)) (text_of catalog.now)) }
 {
-    let mut text = Vec::from_slice(alloc, word)?;
-    put(&mut text, zone.print().as_bytes())?;
-    put(&mut text, catalog.print().as_bytes())?;
-    Ok(text)
+    put_words(text, word, zone, catalog.print().as_bytes())
 }
 
-/// `<word> <zone> <old> <new>`. `AllocError` where memory runs out.
-fn moved(
-    alloc: Global,
+/// Puts `<word> <zone> <old> <new>`. `AllocError` where memory runs out.
+fn put_moved(
+    text: &mut Vec<u8>,
     word: &[u8],
     zone: &Name,
     old: &Name,
     new: &Name,
-) -> Result<Vec<u8>, AllocError>
-    ensures { IfOk result (λ text. text.items
-        ≡ also (also (also word.now (text_of zone.now)) (text_of old.now)) (text_of new.now)) }
+) -> Result<(), AllocError>
+    ensures { OnOk result (text.new.items ≡ text.old.items
+        ++ also (also (also word.now (text_of zone.now)) (text_of old.now)) (text_of new.now)) }
 {
-    let mut text = named(alloc, word, zone, old)?;
-    put(&mut text, new.print().as_bytes())?;
-    Ok(text)
+    put_named(text, word, zone, old)?;
+    put(text, new.print().as_bytes())
 }
 
-/// `clash <zone>`, and the holder or `configured`. `AllocError` where memory runs out.
-fn clash(alloc: Global, zone: &Name, holder: &Option<Name>) -> Result<Vec<u8>, AllocError>
-    ensures { IfOk result (λ text. text.items
-        ≡ also (also (codes "clash") (text_of zone.now)) (holder_text holder.now)) }
+/// Puts `clash <zone>`, and the holder or `configured`. `AllocError` where memory runs out.
+fn put_clash(text: &mut Vec<u8>, zone: &Name, holder: &Option<Name>) -> Result<(), AllocError>
+    ensures { OnOk result (text.new.items ≡ text.old.items
+        ++ also (also (codes "clash") (text_of zone.now)) (holder_text holder.now)) }
 {
     match holder {
-        Some(holder) => named(alloc, b"clash", zone, holder),
-        None => {
-            let mut text = Vec::from_slice(alloc, b"clash")?;
-            put(&mut text, zone.print().as_bytes())?;
-            put(&mut text, b"configured")?;
-            Ok(text)
-        }
+        Some(holder) => put_named(text, b"clash", zone, holder),
+        None => put_words(text, b"clash", zone, b"configured"),
     }
 }
 

@@ -36,7 +36,7 @@ pub fn zone_at(fleet: &Fleet, place: usize) -> Option<Name>
         return Some(fold.settings(place).name);
     }
     if place - catalogs < fold.count() {
-        Some(*fold.member(place - catalogs).zone())
+        Some(fold.member(place - catalogs).zone().to_name())
     } else {
         None
     }

@@ -21,7 +21,9 @@ use Rattle.dz_fleet.specs.contracts.fleet.Last as Last
 use Rattle.dz_fleet.specs.contracts.fleet.Fleet as Fleet
 use Rattle.dz_member.specs.contracts.membership.Membership as Membership
 use Rattle.dz_member.specs.contracts.known.Known as Known
-use Rattle.dz_member.specs.contracts.listing.Listing as Listing
+use Rattle.dz_member.specs.contracts.listing.Node as Node
+use Rattle.dz_member.specs.contracts.nodes.Nodes as Nodes
+use Rattle.dz_member.specs.contracts.members.Members as Members
 use Rattle.dz_desk.specs.contracts.publisher.Publisher as Publisher
 use Rattle.dz_io.specs.declared.device.Sink as sink
 use Rattle.dz_disk.specs.declared.disk.Disk as disk
@@ -75,17 +77,29 @@ member_send = search (sendable, crosses, maps.crosses) depth 40 fits 5000
 member_sync : IsSync Membership.the_row
 member_sync = search (sendable, crosses, maps.crosses) depth 40 fits 5000
 
-listing_send : IsSend Listing.the_row
-listing_send = search (sendable, crosses, maps.crosses) depth 40 fits 5000
+members_send : IsSend Members.the_row
+members_send = search (sendable, crosses, maps.crosses, member_send, member_sync) depth 40 fits 5000
 
-listing_sync : IsSync Listing.the_row
-listing_sync = search (sendable, crosses, maps.crosses) depth 40 fits 5000
+members_sync : IsSync Members.the_row
+members_sync = search (sendable, crosses, maps.crosses, member_send, member_sync) depth 40 fits 5000
+
+node_send : IsSend Node.the_row
+node_send = search (sendable, crosses, maps.crosses, name_send, name_sync) depth 40 fits 5000
+
+node_sync : IsSync Node.the_row
+node_sync = search (sendable, crosses, maps.crosses, name_send, name_sync) depth 40 fits 5000
+
+nodes_send : IsSend Nodes.the_row
+nodes_send = search (sendable, crosses, maps.crosses, node_send, node_sync) depth 40 fits 5000
+
+nodes_sync : IsSync Nodes.the_row
+nodes_sync = search (sendable, crosses, maps.crosses, node_send, node_sync) depth 40 fits 5000
 
 known_send : IsSend Known.the_row
-known_send = search (sendable, crosses, maps.crosses, listing_send, listing_sync) depth 40 fits 5000
+known_send = search (sendable, crosses, maps.crosses, nodes_send, nodes_sync) depth 40 fits 5000
 
 known_sync : IsSync Known.the_row
-known_sync = search (sendable, crosses, maps.crosses, listing_send, listing_sync) depth 40 fits 5000
+known_sync = search (sendable, crosses, maps.crosses, nodes_send, nodes_sync) depth 40 fits 5000
 
 fold_send : IsSend Fold.the_row
 fold_send = search (
@@ -94,8 +108,8 @@ fold_send = search (
   maps.crosses,
   config_send,
   config_sync,
-  member_send,
-  member_sync,
+  members_send,
+  members_sync,
   known_send,
   known_sync,
 ) depth 40 fits 5000
@@ -107,8 +121,8 @@ fold_sync = search (
   maps.crosses,
   config_send,
   config_sync,
-  member_send,
-  member_sync,
+  members_send,
+  members_sync,
   known_send,
   known_sync,
 ) depth 40 fits 5000

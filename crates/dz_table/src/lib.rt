@@ -6,7 +6,6 @@ mod shared_slot;
 mod slot;
 mod slots;
 mod table;
-mod zone_key;
 
 pub use ahead::Ahead;
 pub use shared_slot::SharedSlot;

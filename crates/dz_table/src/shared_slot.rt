@@ -4,8 +4,8 @@ ghost use Rattle.std.specs.Prelude.{◌≡◌, ◌+◌, map, IfOk};
 ghost use Rattle.dz_table.specs.inner.Kept.{entries_of};
 
 use crate::slot::Slot;
-use crate::zone_key::ZoneKey;
 use dz_chunks::Entry;
+use dz_keys::ZoneKey;
 use dz_steps::Steps;
 use std::alloc::{AllocError, Global};
 use std::marker::Model;

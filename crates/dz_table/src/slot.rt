@@ -7,8 +7,8 @@ ghost use Rattle.std.specs.List.{All};
 ghost use Rattle.dz_record.specs.Record.{IsRecord};
 ghost use Rattle.dz_table.specs.Slot.{SlotOf, IsSlot, is_live};
 
-use crate::zone_key::ZoneKey;
 use dz_chunks::{Keyed, Share};
+use dz_keys::ZoneKey;
 use dz_name::{KeptName, Name, NameRef};
 use dz_steps::Steps;
 use dz_zone::Version;

@@ -6,8 +6,8 @@ ghost use Rattle.dz_table.specs.Slot.{SlotOf};
 ghost use Rattle.dz_table.specs.inner.Kept.{slots_of};
 
 use crate::slot::Slot;
-use crate::zone_key::ZoneKey;
 use dz_chunks::Walk;
+use dz_keys::ZoneKey;
 use std::iter::Iterator;
 use std::marker::Model;
 

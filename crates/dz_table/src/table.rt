@@ -11,9 +11,9 @@ use crate::ahead::Ahead;
 use crate::shared_slot::{SharedSlot, entries_of};
 use crate::slot::Slot;
 use crate::slots::Slots;
-use crate::zone_key::ZoneKey;
 use dz_chunks::{Chunks, Copies};
 use dz_index::labels_apart;
+use dz_keys::ZoneKey;
 use dz_name::Name;
 use dz_name::dns::TYPE_DS;
 use dz_steps::Steps;
@@ -45,6 +45,30 @@ struct Blanks {
     entries: Blank,
     references: Blank,
     comparisons: Blank,
+}
+
+/// Counters of a change, in ledgers that are still blank.
+fn copies_in<E: Ledger, R: Ledger, C: Ledger>(blanks: Blanks) -> Copies<E, R, C>
+    requires entries_name { blanks.entries.name ≡ E.name }
+    requires entries_parts { blanks.entries.parts ≡ E.parts }
+    requires entries_whole { blanks.entries.parts ≡ 1 }
+    requires references_name { blanks.references.name ≡ R.name }
+    requires references_parts { blanks.references.parts ≡ R.parts }
+    requires references_whole { blanks.references.parts ≡ 1 }
+    requires comparisons_name { blanks.comparisons.name ≡ C.name }
+    requires comparisons_parts { blanks.comparisons.parts ≡ C.parts }
+    requires comparisons_whole { blanks.comparisons.parts ≡ 1 }
+{
+    let Blanks {
+        entries,
+        references,
+        comparisons,
+    } = blanks;
+    Copies {
+        entries: Steps::<E>::new(entries),
+        references: Steps::<R>::new(references),
+        comparisons: Steps::<C>::new(comparisons),
+    }
 }
 
 impl Table {
@@ -135,16 +159,7 @@ impl Table {
         requires comparisons_whole { blanks.comparisons.parts ≡ 1 }
         ensures { IfOk result (λ t. t ≡ put self.now slot) }
     {
-        let Blanks {
-            entries,
-            references,
-            comparisons,
-        } = blanks;
-        let mut copies = Copies {
-            entries: Steps::<E>::new(entries),
-            references: Steps::<R>::new(references),
-            comparisons: Steps::<C>::new(comparisons),
-        };
+        let mut copies = copies_in::<E, R, C>(blanks);
         self.with(alloc, slot, &mut copies)
     }
 
@@ -168,6 +183,40 @@ impl Table {
     {
         let slots = self.slots.without(alloc, &ZoneKey::of(zone), copies)?;
         Ok(Table { slots })
+    }
+
+    /// The same as [`Table::without`], for a caller that counts nothing.
+    pub fn without_slot(&self, alloc: Global, zone: &Name) -> Result<Table, AllocError>
+        ensures { IfOk result (λ t. t ≡ without self.now zone.now) }
+    {
+        let blanks = Blanks {
+            entries: Blank::new(1),
+            references: Blank::new(1),
+            comparisons: Blank::new(1),
+        };
+        self.counted_without::<Brand, Brand, Brand>(blanks, alloc, zone)
+    }
+
+    /// The same, counted in ledgers that are still blank.
+    fn counted_without<E: Ledger, R: Ledger, C: Ledger>(
+        &self,
+        blanks: Blanks,
+        alloc: Global,
+        zone: &Name,
+    ) -> Result<Table, AllocError>
+        requires entries_name { blanks.entries.name ≡ E.name }
+        requires entries_parts { blanks.entries.parts ≡ E.parts }
+        requires entries_whole { blanks.entries.parts ≡ 1 }
+        requires references_name { blanks.references.name ≡ R.name }
+        requires references_parts { blanks.references.parts ≡ R.parts }
+        requires references_whole { blanks.references.parts ≡ 1 }
+        requires comparisons_name { blanks.comparisons.name ≡ C.name }
+        requires comparisons_parts { blanks.comparisons.parts ≡ C.parts }
+        requires comparisons_whole { blanks.comparisons.parts ≡ 1 }
+        ensures { IfOk result (λ t. t ≡ without self.now zone.now) }
+    {
+        let mut copies = copies_in::<E, R, C>(blanks);
+        self.without(alloc, zone, &mut copies)
     }
 
     /// The slot of exactly this zone; none where it has none. For a caller that counts nothing.

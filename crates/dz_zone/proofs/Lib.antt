@@ -18,3 +18,5 @@ pub mod OverlayLemmas
 pub mod RevisionLemmas
 pub mod Searched
 pub mod Ties
+pub mod ApartLemmas
+pub mod MissingLemmas

@@ -5,6 +5,7 @@ use Rattle.dz_name.specs.declared.dns.TheConstants.{TYPE_A, TYPE_CNAME, TYPE_DNA
 use Rattle.dz_name.specs.declared.dns.TheConstants.{TYPE_SOA}
 use Rattle.dz_record.specs.Record.{Record}
 use Rattle.dz_record.specs.Records.{distinct, insertion, in_order}
+use Rattle.dz_zone.specs.Apart.{missing_in}
 use Rattle.dz_zone.specs.Valid.{some_two, clash, both_are, fault_of}
 use Rattle.dz_zone.specs.Version.{zone_of}
 use Rattle.dz_zone.specs.declared.fault.ZoneFault.TheVariants.{NoSoa, SoaTwice, SoaBelow, NoNs, OutOfZone, CnameBeside}
@@ -152,3 +153,14 @@ pub a_cname_and_a_dname_elsewhere : fault_of apex (soa ∷ ns ∷ of_c TYPE_CNAM
     ≡ None
 unfolding fault_of some_two clash both_are
 a_cname_and_a_dname_elsewhere = refl
+
+-- ---- what another version hasn't: the order is free, and a record under another TTL is another one
+abbrev with_ttl : Record → Record
+with_ttl r = record { owner = r.owner; kind = r.kind; ttl = 60; rdata = r.rdata }
+
+pub all_there : missing_in (of_c TYPE_A [] ∷ soa ∷ ns ∷ []) (ns ∷ soa ∷ []) ≡ []
+all_there = refl
+
+pub one_more_and_a_ttl : missing_in (with_ttl ns ∷ soa ∷ []) (ns ∷ soa ∷ of_c TYPE_A [] ∷ [])
+    ≡ ns ∷ of_c TYPE_A [] ∷ []
+one_more_and_a_ttl = refl

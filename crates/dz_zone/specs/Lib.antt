@@ -1,4 +1,5 @@
 pub mod Answers
+pub mod Apart
 pub mod Examples
 pub mod Revision
 pub mod Valid

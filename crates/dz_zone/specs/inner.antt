@@ -5,3 +5,4 @@ pub mod Neighbours
 pub mod Singletons
 pub mod Overlay
 pub mod Revising
+pub mod Step

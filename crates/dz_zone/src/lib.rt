@@ -2,6 +2,7 @@
 //! RFC 2181, RFC 4034 section 6).
 #![tactic(auto)]
 
+mod apart;
 mod fault;
 mod index;
 mod kinds;
@@ -11,6 +12,7 @@ mod revision;
 mod valid;
 mod version;
 
+pub use apart::{Apart, MOST_APART, records_apart};
 pub use fault::{ZoneError, ZoneFault};
 pub use revision::{Removed, Revision};
 pub use version::{Version, check};

@@ -1,5 +1,5 @@
 -- Inner: the walk over memberships and nodes that are both in the order of their zones.
-use Rattle.std.specs.Prelude.{ℕ, true, List, [], ◌∷◌, map, Option, Some, None}
+use Rattle.std.specs.Prelude.{ℕ, true, List, map, Option, Some, None}
 use Rattle.std.specs.declared.cmp.Ordering.{Ordering}
 use Rattle.std.specs.declared.cmp.Ordering.TheVariants.{Less, Equal, Greater}
 use Rattle.std.specs.Option.{option_map}
@@ -43,25 +43,24 @@ members_in ss = filter_map (λ s. s.judged.stands) ss
 abbrev pub changes_in : List Spot → List Change
 changes_in ss = filter_map (λ s. option_map (λ what. record { zone = s.zone; what = what }) s.judged.change) ss
 
--- the first zone of memberships and nodes in zone order, its membership, its node, and the memberships after it
+-- the first zone of memberships and nodes in zone order, its membership, and its node
 pub record Pair : Type 0 where
   pub zone : Name
   pub member : Option Membership
   pub node : Option Node
-  pub held : List Membership
 
--- the first pair, by how the zone of the first membership compares with that of the node
-abbrev pub pair_by : Ordering → Membership → List Membership → Node → Pair
-pair_by Less m ms n = record { zone = m.zone; member = Some m; node = None; held = ms }
-pair_by Equal m ms n = record { zone = m.zone; member = Some m; node = Some n; held = ms }
-pair_by Greater m ms n = record { zone = n.zone; member = None; node = Some n; held = m ∷ ms }
+-- the first pair, by how the zone of the first membership compares with that of the first node
+abbrev pub pair_by : Ordering → Membership → Node → Pair
+pair_by Less m n = record { zone = m.zone; member = Some m; node = None }
+pair_by Equal m n = record { zone = m.zone; member = Some m; node = Some n }
+pair_by Greater m n = record { zone = n.zone; member = None; node = Some n }
 
--- the first pair of memberships and of nodes, of which the first is given
-abbrev pub first_pair : List Membership → Option Node → Option Pair
-first_pair [] None = None
-first_pair [] (Some n) = Some record { zone = n.zone; member = None; node = Some n; held = [] }
-first_pair (m ∷ ms) None = Some record { zone = m.zone; member = Some m; node = None; held = ms }
-first_pair (m ∷ ms) (Some n) = Some (pair_by (canonical_order m.zone n.zone) m ms n)
+-- the first pair of the first membership and the first node
+abbrev pub first_pair : Option Membership → Option Node → Option Pair
+first_pair None None = None
+first_pair None (Some n) = Some record { zone = n.zone; member = None; node = Some n }
+first_pair (Some m) None = Some record { zone = m.zone; member = Some m; node = None }
+first_pair (Some m) (Some n) = Some (pair_by (canonical_order m.zone n.zone) m n)
 
 -- a pair with the membership and the node that it refers to
 abbrev pub pair_of : Lent → Pair
@@ -69,5 +68,4 @@ pair_of p = record {
   zone = p.zone;
   member = option_map (λ r. r.now) p.member;
   node = option_map (λ r. r.now) p.node;
-  held = p.held.now;
 }

@@ -11,7 +11,7 @@ pub returns-in-None : goal.returns-in-None
 returns-in-None c =
     let none = unbroken c.args.apex.now c.args.records.now c.in_ok-nodes.nodes.items c.in_ok-nodes.ensures
     c.requires.unbroken (omega (arith, rw c.len.ensures at c.if-len-gt-NODES.false)) in
-    let broken = rw c.in-None.is at c.in_ok-try_from_vec_after.ensures in
+    let broken = rw c.in-None.is at c.in_ok-try_from_vec.ensures in
     reads_none c.args.apex.now c.args.records.now c.in_ok-nodes.nodes.items c.requires.sorted none
     c.in_ok-nodes.ensures broken
 
@@ -19,6 +19,6 @@ pub returns-in-Some : goal.returns-in-Some
 returns-in-Some c =
     let none = unbroken c.args.apex.now c.args.records.now c.in_ok-nodes.nodes.items c.in_ok-nodes.ensures
     c.requires.unbroken (omega (arith, rw c.len.ensures at c.if-len-gt-NODES.false)) in
-    let made = rw c.in-Some.is at c.in_ok-try_from_vec_after.ensures in
+    let made = rw c.in-Some.is at c.in_ok-try_from_vec.ensures in
     reads_nodes c.args.apex.now c.args.records.now c.in_ok-nodes.nodes.items c.in-Some.listing c.requires.sorted none
     c.in_ok-nodes.ensures made.1.zones made.0

@@ -6,6 +6,6 @@ use Rattle.dz_fleet.proofs.relisted.relisted.Goals as goal
 pub returns : goal.returns
 returns c =
     IfOk-weaker c.over.result _ _
-    (λ s e. e ∙ (rw (c.in_ok-carry.ensures, c.in_ok-values.ensures, c.fold-2.ensures.fold)
+    (λ s e. e ∙ (rw (c.in_ok-carry.ensures, c.in_ok-values.ensures, c.fold-after.ensures.fold)
     (relisted_is c.args.before.now c.args.schedule.now c.args.after.now.fold.members)))
     c.over.ensures

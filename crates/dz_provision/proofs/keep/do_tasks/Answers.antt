@@ -18,14 +18,14 @@ returns-in_err-forget_gone-clause-stopped g c =
     rw (p.1, p.2)
     (stopped_more g.D.Disk.file g.D.Disk.faults c.args.store.now c.forget_gone.new.store
     (map forget (gone (changes_of c.args.verdict.now))) saves u.zone u.fault
-    (rw c.changes_of.ensures at c.in_err-forget_gone.ensures.stopped))
+    c.in_err-forget_gone.ensures.stopped)
 
 pub returns-in_err-forget_gone-clause-crash : goal.returns-in_err-forget_gone-clause-crash
 returns-in_err-forget_gone-clause-crash g c =
     left_more g.D.Disk.file g.D.Disk.faults g.D.Disk.may_leave g.D.Disk.clock g.D.Disk.left_from
     c.args.store.now c.forget_gone.new.store (map forget (gone (changes_of c.args.verdict.now)))
     (map save (option_to_list (last_kept c.args.fleet.now.list)))
-    ((rw c.changes_of.ensures at c.in_err-forget_gone.ensures.crash) refl)
+    (c.in_err-forget_gone.ensures.crash refl)
 
 pub returns-clause-saved : goal.returns-clause-saved
 returns-clause-saved g c =
@@ -36,7 +36,7 @@ returns-clause-done g c =
     if_ok c.save_last.result (λ later. done_both g.D.Disk.file g.D.Disk.faults c.args.store.now c.forget_gone.new.store
     c.save_last.new.store (map forget (gone (changes_of c.args.verdict.now)))
     (map save (option_to_list (last_kept c.args.fleet.now.list)))
-    (rw c.changes_of.ensures at c.in_ok-forget_gone.ensures.passed).done later)
+    c.in_ok-forget_gone.ensures.passed.done later)
     c.save_last.ensures.done
 
 pub returns-clause-stopped : goal.returns-clause-stopped
@@ -44,12 +44,12 @@ returns-clause-stopped g c =
     if_err c.save_last.result (λ u later. stopped_later g.D.Disk.file g.D.Disk.faults c.args.store.now
     c.forget_gone.new.store c.save_last.new.store (map forget (gone (changes_of c.args.verdict.now)))
     (map save (option_to_list (last_kept c.args.fleet.now.list))) u.zone u.fault
-    (rw c.changes_of.ensures at c.in_ok-forget_gone.ensures.passed).done later)
+    c.in_ok-forget_gone.ensures.passed.done later)
     c.save_last.ensures.stopped
 
 pub returns-clause-crash : goal.returns-clause-crash
 returns-clause-crash g c =
-    (rw c.changes_of.ensures at c.in_ok-forget_gone.ensures.passed).left c.save_last.new.store
+    c.in_ok-forget_gone.ensures.passed.left c.save_last.new.store
     (map save (option_to_list (last_kept c.args.fleet.now.list))) c.save_last.ensures.crash
 
 pub save_last-requires-clause-saved : goal.save_last-requires-clause-saved

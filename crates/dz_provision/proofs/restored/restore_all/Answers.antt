@@ -1,8 +1,6 @@
-use Rattle.std.proofs.Common.{◌≡◌, ◌+◌, length, sym, ◌∙◌, ap, subst, arith}
-use Rattle.std.proofs.lemmas.List.{length-map}
+use Rattle.std.proofs.Common.{◌≡◌, ◌+◌, length, ◌∙◌, ap, subst, arith}
 use Rattle.dz_disk.specs.RecordLog.{records}
 use Rattle.dz_store.specs.Payload.{reads}
-use Rattle.dz_member.specs.Membership.{shown}
 use Rattle.dz_member.specs.Fold.{FoldOf}
 use Rattle.dz_fleet.specs.Core.{state_of}
 use Rattle.dz_provision.specs.Held.{Held}
@@ -14,7 +12,7 @@ pub returns-clause-restored : goal.returns-clause-restored
 returns-clause-restored g c = λ is f told.
     let one = c.restore_places-ended in
     let n = length c.catalogs-count.result.now in
-    let m = length c.memberships.result.now in
+    let m = c.member_count.result in
     let before = begin c.args.store.now.has_failed in
     let done = c.is_done.ensures.0 c.if-not-is_done.false in
     let first = one.ensures.turns done f told before.0 before.1 in
@@ -24,9 +22,8 @@ returns-clause-restored g c = λ is f told.
     ap (λ l. length l) (c.catalogs-count.ensures.catalogs ∙ ap (λ (x : FoldOf). x.config) c.fold.ensures.fold
     ∙ ap (λ (h : Held). (state_of h.core).fold.config) c.provisioner.view_is) in
     let members : m ≡ length (state_of one.new.provisioner.core).fold.members =
-    sym (length-map c.memberships.result.now (shown c.fold-2.result.now.config))
-    ∙ ap (λ l. length l) (c.memberships.ensures.members ∙ ap (λ (x : FoldOf). x.members) c.fold-2.ensures.fold
-    ∙ ap (λ (h : Held). (state_of h.core).fold.members) c.provisioner-2.view_is) in
+    c.member_count.ensures.count
+    ∙ ap (λ (h : Held). length (state_of h.core).fold.members) c.provisioner-2.view_is in
     had_all (records reads f) one.new.store.has_failed c.restore_places.new.store.has_failed before.0 n m
     c.args.provisioner.now.core one.new.provisioner.core c.restore_places.new.provisioner.core first config
     members second

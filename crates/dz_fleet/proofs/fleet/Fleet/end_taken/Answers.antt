@@ -22,9 +22,9 @@ own_place-place-requires c =
     let j = c.args.job.now in
     let f = rw (← c.self.view_is) at c.requires.flying in
     let none = rw (← c.self.view_is) at c.requires.standing in
-    let r = rw (← c.self.view_is) at c.requires.renewed in
+    let made = rw (← c.self.view_is) at c.requires.made in
     let are = are_taken c.renew.new.holdings i.history i.tickets i.flying.items i.schedule c.renew.new.schedule j o _ _
-    r c.renew.ensures.state c.renew.ensures.values in
+    made c.renew.ensures.state c.renew.ensures.values in
     rw c.zone-2.ensures (some_place c.renew.new.holdings j.flight.zone j.flight.incarnation
     (taken_seated i.holdings c.renew.new.holdings i.history i.tickets i.flying.items i.schedule
     c.renew.new.schedule c.self.invariant.0 j o f.there none c.held.ensures.state are))
@@ -36,9 +36,9 @@ at-requires c =
     let j = c.args.job.now in
     let f = rw (← c.self.view_is) at c.requires.flying in
     let none = rw (← c.self.view_is) at c.requires.standing in
-    let r = rw (← c.self.view_is) at c.requires.renewed in
+    let made = rw (← c.self.view_is) at c.requires.made in
     let are = are_taken c.renew.new.holdings i.history i.tickets i.flying.items i.schedule c.renew.new.schedule j o _ _
-    r c.renew.ensures.state c.renew.ensures.values in
+    made c.renew.ensures.state c.renew.ensures.values in
     let at = rw c.zone-2.ensures at c.own_place-place.ensures in
     taken_fits i.holdings c.renew.new.holdings i.history i.tickets i.flying.items i.schedule c.renew.new.schedule
     c.self.invariant.0 j o f.there none c.held.ensures.state are c.own_place-place.result at
@@ -50,9 +50,9 @@ succeeded-values-requires-clause-busy c =
     let j = c.args.job.now in
     let f = rw (← c.self.view_is) at c.requires.flying in
     let none = rw (← c.self.view_is) at c.requires.standing in
-    let r = rw (← c.self.view_is) at c.requires.renewed in
+    let made = rw (← c.self.view_is) at c.requires.made in
     let are = are_taken c.renew.new.holdings i.history i.tickets i.flying.items i.schedule c.renew.new.schedule j o _ _
-    r c.renew.ensures.state c.renew.ensures.values in
+    made c.renew.ensures.state c.renew.ensures.values in
     let at = rw c.zone-2.ensures at c.own_place-place.ensures in
     taken_busy i.holdings c.renew.new.holdings i.history i.tickets i.flying.items i.schedule c.renew.new.schedule
     c.self.invariant.0 j o f.there none c.held.ensures.state are c.own_place-place.result c.at.result at c.at.ensures
@@ -64,9 +64,9 @@ change-requires c =
     let j = c.args.job.now in
     let f = rw (← c.self.view_is) at c.requires.flying in
     let none = rw (← c.self.view_is) at c.requires.standing in
-    let r = rw (← c.self.view_is) at c.requires.renewed in
+    let made = rw (← c.self.view_is) at c.requires.made in
     let are = are_taken c.renew.new.holdings i.history i.tickets i.flying.items i.schedule c.renew.new.schedule j o _ _
-    r c.renew.ensures.state c.renew.ensures.values in
+    made c.renew.ensures.state c.renew.ensures.values in
     let at = rw c.zone-2.ensures at c.own_place-place.ensures in
     taken_fits i.holdings c.renew.new.holdings i.history i.tickets i.flying.items i.schedule c.renew.new.schedule
     c.self.invariant.0 j o f.there none c.held.ensures.state are c.own_place-place.result at
@@ -78,9 +78,9 @@ invariant_of-self c =
     let j = c.args.job.now in
     let f = rw (← c.self.view_is) at c.requires.flying in
     let none = rw (← c.self.view_is) at c.requires.standing in
-    let r = rw (← c.self.view_is) at c.requires.renewed in
+    let made = rw (← c.self.view_is) at c.requires.made in
     let are = are_taken c.renew.new.holdings i.history i.tickets i.flying.items i.schedule c.renew.new.schedule j o _ _
-    r c.renew.ensures.state c.renew.ensures.values in
+    made c.renew.ensures.state c.renew.ensures.values in
     let at = rw c.zone-2.ensures at c.own_place-place.ensures in
     let told = c.requires.follows c.moment.ensures.valid in
     let follows = subst (λ e. CanFollow (after i.history) e) c.requires.entry (rw (← c.self.view_is) at told) in (
@@ -114,9 +114,9 @@ returns c =
     let j = c.args.job.now in
     let f = rw (← c.self.view_is) at c.requires.flying in
     let none = rw (← c.self.view_is) at c.requires.standing in
-    let r = rw (← c.self.view_is) at c.requires.renewed in
+    let made = rw (← c.self.view_is) at c.requires.made in
     let are = are_taken c.renew.new.holdings i.history i.tickets i.flying.items i.schedule c.renew.new.schedule j o _ _
-    r c.renew.ensures.state c.renew.ensures.values in
+    made c.renew.ensures.state c.renew.ensures.values in
     let at = rw c.zone-2.ensures at c.own_place-place.ensures in
     let refresh = rw (c.held.ensures.held, c.zone.ensures) at c.refresh_of-refresh.ensures in
     rw (

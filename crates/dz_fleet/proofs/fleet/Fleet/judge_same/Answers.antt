@@ -21,9 +21,10 @@ returns-clause-verdict c =
     rw (← c.self.view_is, count, serial) (sym (verdict_is (core_in i.history i.tickets i.flying.items i.schedule)
     c.args.job.now c.args.finished.now.octets None up_to_date None signed same none))
 
-pub returns-clause-renewed : goal.returns-clause-renewed
-returns-clause-renewed c =
+pub returns-clause-made : goal.returns-clause-made
+returns-clause-made c =
     let zone = c.args.job.now.flight.zone in
     let a = c.in_ok-renewal.ensures.aftermath ∙ (ap (aftermath_of (state_of c.args.self.now) zone) c.requires.same
     ∙ same_alone (state_of c.args.self.now) zone) in
-    rw a at c.in_ok-renewal.ensures.renewed
+    let made = rw a at c.in_ok-renewal.ensures.made in
+    record { renewed = made.renewed; values = made.values }

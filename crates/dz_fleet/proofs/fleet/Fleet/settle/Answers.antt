@@ -1,5 +1,5 @@
-use Rattle.std.proofs.Common.{sym, ◌∙◌, refl}
-use Rattle.dz_fleet.specs.Weighing.{octets_in}
+use Rattle.std.proofs.Common.{sym, ◌∙◌, ap, refl}
+use Rattle.dz_fleet.specs.Weighing.{octets_in, written}
 use Rattle.dz_fleet.proofs.SoundLemmas.{among_stands}
 use Rattle.dz_fleet.proofs.TakeLemmas.{follows, tells}
 use Rattle.dz_fleet.proofs.SettleLemmas.{standing_by, published_aftermath, confirmed_aftermath, settled_published}
@@ -25,8 +25,8 @@ end_taken-requires-clause-follows c =
     (follows c.args.self.now c.args.job o (rw c.self.view_is at c.self.invariant.0.sound) c.requires.flying valid none
     fits.used ((tells c.args.self.now c.args.job o).approved (rw v refl)))
 
-pub end_taken-requires-clause-renewed : goal.end_taken-requires-clause-renewed
-end_taken-requires-clause-renewed c =
+pub end_taken-requires-clause-made : goal.end_taken-requires-clause-made
+end_taken-requires-clause-made c =
     let o = octets_in c.args.weighed.entry in
     let fits = c.requires.fits in
     let v = sym fits.verdict ∙ (sym c.into_parts-entry.ensures.verdict ∙ c.in-Published.is) in
@@ -35,8 +35,12 @@ end_taken-requires-clause-renewed c =
     (rw c.self.view_is at c.self.invariant.0.sound) c.requires.flying.there none) in
     let a = published_aftermath c.args.self.now c.args.job o fits.used _ _ _ v held in
     let w = sym c.into_parts-entry.ensures.verdict ∙ c.in-Published.is in
-    let r = rw (w, a) at fits.renewed in
-    rw (c.into_parts-entry.ensures.renewed, c.into_parts-entry.ensures.entry) r
+    let r = rw w at fits.renewed in
+    let values = rw (w, a) at fits.values in
+    rw c.into_parts-entry.ensures.entry record {
+      renewed = c.into_parts-entry.ensures.renewed ∙ r;
+      values = ap (written c.args.self.now.values) c.into_parts-entry.ensures.values ∙ values;
+    }
 
 pub end_taken-requires-in-Confirmed-clause-standing : goal.end_taken-requires-in-Confirmed-clause-standing
 end_taken-requires-in-Confirmed-clause-standing c =
@@ -54,8 +58,8 @@ end_taken-requires-in-Confirmed-clause-follows c =
     (follows c.args.self.now c.args.job o (rw c.self.view_is at c.self.invariant.0.sound) c.requires.flying valid none
     fits.used ((tells c.args.self.now c.args.job o).approved (rw v refl)))
 
-pub end_taken-requires-in-Confirmed-clause-renewed : goal.end_taken-requires-in-Confirmed-clause-renewed
-end_taken-requires-in-Confirmed-clause-renewed c =
+pub end_taken-requires-in-Confirmed-clause-made : goal.end_taken-requires-in-Confirmed-clause-made
+end_taken-requires-in-Confirmed-clause-made c =
     let o = octets_in c.args.weighed.entry in
     let fits = c.requires.fits in
     let v = sym fits.verdict ∙ (sym c.into_parts-entry.ensures.verdict ∙ c.in-Confirmed.is) in
@@ -65,7 +69,11 @@ end_taken-requires-in-Confirmed-clause-renewed c =
     let a = confirmed_aftermath c.args.self.now c.args.job o fits.used _ _ v held in
     let w = sym c.into_parts-entry.ensures.verdict ∙ c.in-Confirmed.is in
     let r = rw w at fits.renewed in
-    rw (c.into_parts-entry.ensures.renewed, c.into_parts-entry.ensures.entry, ← a) r
+    let values = rw w at fits.values in
+    rw (c.into_parts-entry.ensures.entry, ← a) record {
+      renewed = c.into_parts-entry.ensures.renewed ∙ r;
+      values = ap (written c.args.self.now.values) c.into_parts-entry.ensures.values ∙ values;
+    }
 
 pub end_unchanged-requires-clause-standing : goal.end_unchanged-requires-clause-standing
 end_unchanged-requires-clause-standing c =

@@ -3,9 +3,9 @@ use Rattle.std.specs.Prelude.{IsSome}
 use Rattle.dz_history.specs.State.{State, incarnation_at}
 use Rattle.dz_history.specs.After.{after}
 use Rattle.dz_history.proofs.ListLemmas.{count_is}
-use Rattle.dz_history.proofs.StepLemmas.{config_step}
-use Rattle.dz_job.specs.Job.{taken_for}
+use Rattle.dz_take.specs.Outcome.{outcome}
 use Rattle.dz_fleet.specs.inner.Kept.{core_in}
+use Rattle.dz_fleet.proofs.ListedLemmas.{listed_taken}
 use Rattle.dz_fleet.proofs.SoundLemmas.{among_stands}
 use Rattle.dz_fleet.proofs.TakeLemmas.{stands_some, room_more, taken_step}
 use Rattle.dz_fleet.proofs.fleet.Fleet.take.Goals as goal
@@ -39,17 +39,10 @@ take-requires-clause-room c =
 pub renewal-requires : goal.renewal-requires
 renewal-requires c =
     let k = c.self.invariant.0 in
-    let i = c.self.inside in
-    let j = c.args.job.now in
-    let f = rw (← c.self.view_is) at c.requires.flying in
-    let none = rw (← c.self.view_is) at c.requires.standing in
-    let stood = among_stands (core_in i.history i.tickets i.flying.items i.schedule) j k.sound f.there none in
-    let state = rw (c.requires.transfer, c.moment.ensures.moment) at c.in_ok-holdings.ensures.state in
-    let is = state ∙ taken_step i.holdings (after i.history) j c.args.finished.now.octets k.after (f.held stood) in
-    rw (← c.self.view_is) record {
-      config = ap (λ (s : State). s.fold.config) is
-          ∙ config_step (after i.history) (taken_for j c.args.finished.now.octets);
-    }
+    let t = c.args.finished.now.transfer in
+    let made = c.in_ok-holdings.ensures in
+    rw (← c.self.view_is, ← k.after, made.state, made.aftermath)
+    (listed_taken c.self.inside.holdings t.apex c.moment.result (outcome t c.args.finished.now.octets) k.state)
 
 pub returns-clause-aftermath : goal.returns-clause-aftermath
 returns-clause-aftermath c =
@@ -57,8 +50,8 @@ returns-clause-aftermath c =
     let a = rw (c.requires.transfer, k.after) at c.in_ok-holdings.ensures.aftermath in
     rw (← c.self.view_is, c.requires.transfer) a
 
-pub returns-clause-renewed : goal.returns-clause-renewed
-returns-clause-renewed c =
+pub returns-clause-made : goal.returns-clause-made
+returns-clause-made c =
     let k = c.self.invariant.0 in
     let i = c.self.inside in
     let j = c.args.job.now in
@@ -67,5 +60,6 @@ returns-clause-renewed c =
     let stood = among_stands (core_in i.history i.tickets i.flying.items i.schedule) j k.sound f.there none in
     let state = rw (c.requires.transfer, c.moment.ensures.moment) at c.in_ok-holdings.ensures.state in
     let is = state ∙ taken_step i.holdings (after i.history) j c.args.finished.now.octets k.after (f.held stood) in
-    let r = rw (← c.self.view_is, is) at c.in_ok-renewal.ensures in
-    rw (← c.self.view_is) r
+    let r = rw is at c.in_ok-renewal.ensures.renewed in
+    let v = rw (← c.self.view_is, is) at c.in_ok-renewal.ensures.values in
+    rw (← c.self.view_is) record { renewed = r; values = v }

@@ -6,11 +6,11 @@ use Rattle.dz_history.proofs.holdings.Holdings.held.Goals as goal
 pub returns-in-Some-clause-held : goal.returns-in-Some-clause-held
 returns-in-Some-clause-held c =
     rw (← c.self.view_is) (c.version.ensures ∙ (c.index.ensures ∙ version_there _ c.args.zone.now c.in-Some.number
-    c.index.result.now c.self.invariant (rw c.deref.ensures at c.in-Some.ensures)))
+    c.index.result.now c.self.invariant.state (rw c.deref.ensures at c.in-Some.ensures)))
 
 pub returns-in-Some-clause-own : goal.returns-in-Some-clause-own
 returns-in-Some-clause-own c = rw (← c.self.view_is)
-    (held_is_own _ c.args.zone.now c.in-Some.number c.self.invariant (rw c.deref.ensures at c.in-Some.ensures))
+    (held_is_own _ c.args.zone.now c.in-Some.number c.self.invariant.state (rw c.deref.ensures at c.in-Some.ensures))
 
 pub returns-in-Some-get-clause-held : goal.returns-in-Some-get-clause-held
 returns-in-Some-get-clause-held c =

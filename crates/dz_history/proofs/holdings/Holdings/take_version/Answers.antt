@@ -10,7 +10,7 @@ pub with_slot-requires : goal.with_slot-requires
 with_slot-requires c =
     let none = rw c.deref.ensures at c.in-None.ensures in
     rw c.in_ok-slot-in-None.ensures (rw (← c.self.view_is)
-    (slot_there _ c.args.zone.now c.self.invariant none (rw (← c.self.view_is) at c.requires.assigned)))
+    (slot_there _ c.args.zone.now c.self.invariant.state none (rw (← c.self.view_is) at c.requires.assigned)))
 
 pub returns-in-Some-clause-state : goal.returns-in-Some-clause-state
 returns-in-Some-clause-state c =

@@ -21,5 +21,5 @@ overflow_add-next c =
     let within : c.in-Some.place < length c.args.self.now.members =
     slice_get_within c.args.self.now.members c.in-Some.place _ c.member-member.ensures in
     let same = sym (ap (λ (f : FoldOf). length f.members) c.self.view_is)
-    ∙ length-map c.self.inside.members.items (shown c.self.inside.config.value) in
+    ∙ length-map c.self.inside.members.value (shown c.self.inside.config.value) in
     omega (arith, within, same, c.len-count.ensures, c.len-count.type_inv)

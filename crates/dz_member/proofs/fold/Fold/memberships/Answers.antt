@@ -1,5 +1,0 @@
-use Rattle.dz_member.proofs.KeptLemmas.{zones_rise}
-use Rattle.dz_member.proofs.fold.Fold.memberships.Goals as goal
-
-pub returns-clause-order : goal.returns-clause-order
-returns-clause-order c = rw c.as_slice.ensures.value (zones_rise _ _ c.self.invariant.fold.rises)
