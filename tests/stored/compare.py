@@ -6,8 +6,8 @@ import sys
 
 CRATES = pathlib.Path(__file__).resolve().parents[2] / "crates"
 # what it shows, its name, moment and transport, the request and its reply
-THEOREM = re.compile(r'^-- (.+)\npub (\w+) : (?:Replied|Silent) (\d+) (udp|tcp) "(\w+)"(?:\n +"(\w+)")?$', re.M)
-CLAIM = re.compile(r"^pub \w+ : (?:Replied|Silent) ", re.M)
+THEOREM = re.compile(r'^-- (.+)\npub (\w+) : (?:Replied|Silent) (\d+) (udp|tcp)\s+"(\w+)"(?:\n +"(\w+)")?$', re.M)
+CLAIM = re.compile(r"^pub \w+ : (?:Replied|Silent)\s", re.M)
 REQUEST = re.compile(r"^(?:# (\w+): (.+)\n)?(\d+) (udp|tcp) \S+ (\w+)$", re.M)
 REPLY = re.compile(r"^(?:reply (\w+)|none)$", re.M)
 

@@ -19,10 +19,10 @@ use Rattle.dz_name.specs.Order.{canonical_total, canonical_same, same_decides}
 use Rattle.dz_name.proofs.PartLemmas.{within_suffix}
 use Rattle.dz_record.specs.Record.{Record, record_order, target_of}
 use Rattle.dz_zone.proofs.Ordered.{each_more}
-use Rattle.dz_lookup.specs.Runs.{of_type, records_of}
-use Rattle.dz_lookup.proofs.InOrder.{key_filter, key_test}
+use Rattle.dz_runs.specs.Runs.{of_type, records_of}
+use Rattle.dz_runs.proofs.InOrder.{key_filter, key_test}
 use Rattle.dz_zone.proofs.CanonicalLemmas.{within_not_less, between_within}
-use Rattle.dz_lookup.specs.inner.Places.{from_key}
+use Rattle.dz_runs.specs.Node.{from_key}
 use Rattle.std.specs.Ordering.{is_eq}
 use Rattle.dz_member.specs.declared.listing.Node.{Node}
 use Rattle.dz_catalog.specs.Member.{node_of, coo_of, groups_of, is_member, coo_name}

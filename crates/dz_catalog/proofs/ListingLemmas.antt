@@ -21,7 +21,7 @@ use Rattle.dz_name.specs.Name.{canonical_order, label_order, first_label, labels
 use Rattle.dz_name.specs.Order.{same_decides}
 use Rattle.dz_record.specs.Record.{Record, record_order, target_of}
 use Rattle.dz_zone.specs.Valid.{some_two, both_are}
-use Rattle.dz_lookup.proofs.InOrder.{in_order_stays}
+use Rattle.dz_runs.proofs.InOrder.{in_order_stays}
 use Rattle.dz_member.specs.Listing.{IsListing}
 use Rattle.dz_member.specs.declared.listing.Node.{Node}
 use Rattle.dz_member.specs.declared.listing.Broken.{Broken}

@@ -13,7 +13,7 @@ use Rattle.dz_zone.proofs.RecordLemmas.{before, before_ranks, in_order_puts}
 use Rattle.dz_zone.proofs.Ordered.{puts, alike, ascends_puts, puts_keep}
 use Rattle.dz_zone.proofs.Pairs.{any_puts, sum_puts, two_puts}
 use Rattle.dz_zone.proofs.FaultLemmas.{both_back}
-use Rattle.dz_lookup.specs.Runs.{of_type, records_of}
+use Rattle.dz_runs.specs.Runs.{of_type, records_of}
 use Rattle.dz_member.specs.declared.listing.Node.{Node}
 use Rattle.dz_catalog.specs.Broken.{is_version, twins, version_2, broken_records}
 use Rattle.dz_catalog.specs.Listing.{listing_of}

@@ -18,9 +18,9 @@ use Rattle.dz_record.specs.Record.{Record, IsRecord, record_order, target_of}
 use Rattle.dz_zone.specs.Apart.{missing_in}
 use Rattle.dz_zone.specs.Valid.{some_two, both_are}
 use Rattle.dz_zone.proofs.MissingLemmas.{kept_where}
-use Rattle.dz_lookup.specs.Runs.{of_type, records_of}
-use Rattle.dz_lookup.specs.inner.Places.{from_key}
-use Rattle.dz_lookup.proofs.InOrder.{key_filter, key_test}
+use Rattle.dz_runs.specs.Runs.{of_type, records_of}
+use Rattle.dz_runs.specs.Node.{from_key}
+use Rattle.dz_runs.proofs.InOrder.{key_filter, key_test}
 use Rattle.dz_member.specs.declared.edit.Edit.{Edit}
 use Rattle.dz_member.specs.declared.listing.Node.{Node}
 use Rattle.dz_member.specs.Edit.{edited, AreEdits}

@@ -11,9 +11,9 @@ use Rattle.std.proofs.lemmas.List.Elements.{filter_agree}
 use Rattle.dz_name.specs.Name.{same_name, wire_of}
 use Rattle.dz_name.specs.Order.{same_decides}
 use Rattle.dz_record.specs.Record.{Record, IsRecord, record_order}
-use Rattle.dz_lookup.specs.Runs.{of_type, records_of}
-use Rattle.dz_lookup.specs.inner.Places.{from_key}
-use Rattle.dz_lookup.proofs.InOrder.{key_filter, key_test}
+use Rattle.dz_runs.specs.Runs.{of_type, records_of}
+use Rattle.dz_runs.specs.Node.{from_key}
+use Rattle.dz_runs.proofs.InOrder.{key_filter, key_test}
 use Rattle.dz_catalog.specs.Broken.{is_version, version_name}
 use Rattle.dz_catalog.specs.inner.Below.{is_at}
 

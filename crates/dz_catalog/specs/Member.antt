@@ -8,7 +8,7 @@ use Rattle.dz_name.specs.Words.{Name, Octets}
 use Rattle.dz_name.specs.declared.dns.TheConstants.{TYPE_PTR, TYPE_TXT}
 use Rattle.dz_record.specs.Record.{Record, target_of}
 use Rattle.dz_record.specs.Records.{in_order}
-use Rattle.dz_lookup.specs.Runs.{of_type, records_of}
+use Rattle.dz_runs.specs.Runs.{of_type, records_of}
 use Rattle.dz_member.specs.declared.listing.Node.{Node}
 
 -- the name whose children are member nodes (RFC 9432 section 4.1)

@@ -12,11 +12,11 @@ ghost use Rattle.dz_catalog.specs.Broken.{is_version, no_version, version_twice,
 ghost use Rattle.dz_catalog.specs.Broken.{version_2, twins, member_twice, coo_twice, broken_records, by_count};
 
 use crate::names::{is_coo, is_node};
-use dz_lookup::rrset_of;
 use dz_member::Broken;
 use dz_name::dns::{TYPE_PTR, TYPE_TXT};
 use dz_name::{Label, Name};
 use dz_record::Rr;
+use dz_runs::rrset_of;
 use dz_zone::Version;
 
 /// The first reason that holds of the records, whatever the number of members is.

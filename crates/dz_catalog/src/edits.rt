@@ -18,11 +18,11 @@ ghost use Rattle.dz_catalog.specs.inner.Labels.{node_name, node_with, has_twins,
 use crate::broken::is_version_bad;
 use crate::labels::labels_of;
 use crate::names::target_of;
-use dz_lookup::rrset_of;
 use dz_member::{Edit, Node, Texts};
 use dz_name::dns::{TYPE_PTR, TYPE_TXT};
 use dz_name::{KeptName, Label, Name, Octets};
 use dz_record::Rr;
+use dz_runs::rrset_of;
 use dz_zone::{Version, records_apart};
 use std::alloc::{AllocError, Global};
 use std::collections::BTreeSet;

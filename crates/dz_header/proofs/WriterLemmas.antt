@@ -3,9 +3,12 @@ use Rattle.std.proofs.Common.{◌≡◌, ℕ, ◌+◌, ◌-◌, ◌<◌, ◌≤�
 use Rattle.std.proofs.Common.{append_assoc, arith, length-append, Option, Some, None, length-take-le, length-drop}
 use Rattle.std.proofs.Common.{if◌then◌else◌, inl, inr, ◌∙◌}
 use Rattle.std.specs.Prelude.{nat_le, true, false, option_map, IsSome, IsNone}
-use Rattle.std.proofs.lemmas.List.{take_at, take_all, append-nil}
+use Rattle.std.proofs.lemmas.List.{take_at, take_all, append-nil, take-append-drop, take-append-le}
+use Rattle.std.proofs.lemmas.List.{drop-append-le}
+use Rattle.std.specs.Option.{ForSome}
 use Rattle.std.proofs.lemmas.Bool.Decides.{nat_tests, leb_tells}
-use Rattle.dz_header.specs.Writing.{Writing, octets_with, also, room_with}
+use Rattle.std.proofs.lemmas.Bool.{false_from_ne_true}
+use Rattle.dz_header.specs.Writing.{Writing, octets_with, also, room_with, left, over, changed}
 
 -- what was written is at the beginning of some octets; more is put after it where it fits
 pub joined_at : (limit n : ℕ) (before after more : List ℕ) (end : Option ℕ) → n ≤ limit → limit ≤ length before
@@ -99,3 +102,57 @@ also_nil w = rw (joined_nil w.limit w.octets) refl
 pub also_over : (w : Writing) (more : List ℕ) → w.octets ≡ None → also w more ≡ w
 unfolding also octets_with
 also_over w more h = rw h refl
+
+past : (limit : ℕ) (octets : Option (List ℕ)) (more : List ℕ)
+    → left (record { limit = limit; octets = octets }) < length more → octets_with limit octets more ≡ None
+unfolding octets_with
+past limit None more long = refl
+past limit (Some octets) more long =
+    let e : nat_le (length more) (limit - length octets) ≡ false = grind (arith, nat_tests) in
+    rw e refl
+
+-- more than may be written goes over the limit
+pub also_past : (w : Writing) (more : List ℕ) → left w < length more → also w more ≡ over w
+unfolding also
+also_past w more long = rw (past w.limit w.octets more long) refl
+
+-- octets replaced in the first of two parts
+pub changed_front : (at : ℕ) (new xs ys : List ℕ) → at + length new ≤ length xs
+    → changed at new (xs ++ ys) ≡ changed at new xs ++ ys
+unfolding changed
+changed_front at new xs ys fits =
+    let past : List ℕ = drop (at + length new) xs in
+    rw (take-append-le at xs ys (omega (arith, fits)), drop-append-le (at + length new) xs ys fits)
+    (sym (append_assoc (take at xs) (new ++ past) ys ∙ ap (λ zs. take at xs ++ zs) (append_assoc new past ys)))
+
+-- there are as many octets as before
+pub changed_length : (at : ℕ) (new xs : List ℕ) → at + length new ≤ length xs → length (changed at new xs) ≡ length xs
+unfolding changed
+changed_length at new xs fits = omega (
+  arith,
+  length-append (take at xs) (new ++ drop (at + length new) xs),
+  length-append new (drop (at + length new) xs),
+  length-drop (at + length new) xs,
+  length-take-le at xs (omega (arith, fits)),
+)
+
+changed_taken : (at n : ℕ) (new xs : List ℕ) → at + length new ≤ n → n ≤ length xs
+    → take n (changed at new xs) ≡ changed at new (take n xs)
+changed_taken at n new xs fits within =
+    let size : length (take n xs) ≡ n = length-take-le n xs within in
+    let there : at + length new ≤ length (take n xs) = omega (arith, size, fits) in
+    ap (λ zs. take n (changed at new zs)) (sym (take-append-drop n xs))
+    ∙ ap (take n) (changed_front at new (take n xs) (drop n xs) there)
+    ∙ take_at (changed at new (take n xs)) (drop n xs) n (changed_length at new (take n xs) there ∙ size)
+
+-- what was written is changed as the room is
+pub written_changed : (at : ℕ) (new before after : List ℕ) (len : Option ℕ) → after ≡ changed at new before
+    → ForSome len (λ n. n ≤ length before)
+    → ForSome (option_map (λ n. take n before) len) (λ octets. at + length new ≤ length octets)
+    → option_map (λ n. take n after) len ≡ option_map (changed at new) (option_map (λ n. take n before) len)
+written_changed at new before after None is within fits = refl
+written_changed at new before after (Some n) is within fits =
+    let low : n ≤ length before = within n refl in
+    let size : length (take n before) ≡ n = length-take-le n before low in
+    let there : at + length new ≤ n = omega (arith, size, fits (take n before) refl) in
+    ap Some (rw is (changed_taken at n new before there low))

@@ -1,5 +1,7 @@
 -- Meaning: octets that are written up to a limit, and the room that they are in.
-use Rattle.std.specs.Prelude.{ℕ, ◌-◌, nat_le, [], ◌++◌, length, take, drop, Option, Some, None, if◌then◌else◌}
+use Rattle.std.specs.Prelude.{ℕ, ◌+◌, ◌-◌, nat_le, [], ◌++◌, length, take, drop, Option, Some, None, if◌then◌else◌}
+use Rattle.std.specs.Prelude.{option_map}
+use Rattle.std.specs.Option.{option_map_or}
 use Rattle.dz_name.specs.Words.{Octets}
 
 -- a limit, and what was written; none once more was to be written than the limit allows
@@ -24,6 +26,22 @@ octets_with limit (Some octets) more =
 -- the writing after more octets are written
 unfoldable pub also : Writing → Octets → Writing
 also w more = record { limit = w.limit; octets = octets_with w.limit w.octets more }
+
+-- how many more octets may be written
+abbrev pub left : Writing → ℕ
+left w = option_map_or (λ octets. w.limit - length octets) w.octets 0
+
+-- the writing once more was to be written than the limit allows
+abbrev pub over : Writing → Writing
+over w = record { limit = w.limit; octets = None }
+
+-- octets of which those from an offset on are replaced by as many others
+unfoldable pub changed : ℕ → Octets → Octets → Octets
+changed at new old = take at old ++ (new ++ drop (at + length new) old)
+
+-- the writing with the octets from an offset on replaced
+abbrev pub with_changed : ℕ → Octets → Writing → Writing
+with_changed at new w = record { limit = w.limit; octets = option_map (changed at new) w.octets }
 
 -- a list whose first items are replaced by others; it keeps its length
 abbrev pub replacement : Octets → Octets → Octets

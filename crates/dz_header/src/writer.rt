@@ -4,7 +4,8 @@ ghost use Rattle.std.specs.Prelude.{◌≡◌, ◌+◌, ◌-◌, ◌≤◌, ◌+
 ghost use Rattle.std.specs.Prelude.{IsSome, IsNone, is_some, not, option_map, if◌then◌else◌};
 ghost use Rattle.std.specs.Borrow.{Array, Lends, sem, u8};
 ghost use Rattle.std.specs.Option.{ForSome};
-ghost use Rattle.dz_header.specs.Writing.{also, empty, octets_with, room_with, with_room};
+ghost use Rattle.dz_header.specs.Writing.{also, changed, empty, left, octets_with, over, room_with};
+ghost use Rattle.dz_header.specs.Writing.{with_changed, with_room};
 ghost use Rattle.dz_header.specs.contracts.writer.Writer.{the_row};
 ghost use Rattle.dz_name.specs.Words.{Octets};
 
@@ -89,6 +90,34 @@ impl Writer {
         self.len.is_none()
     }
 
+    /// How many more octets may be written: none once more was to be written than fits.
+    pub fn left(&self) -> usize
+        ensures { result ≡ left self.now.writing }
+    {
+        match self.len {
+            None => 0,
+            Some(len) => self.limit - len,
+        }
+    }
+
+    /// Notes that more is to be written than fits: nothing is written, then or later.
+    pub fn overflow(&mut self)
+        ensures writing { self.new.writing ≡ over self.old.writing }
+        ensures room { self.new.room ≡ self.old.room }
+    {
+        self.len = None;
+    }
+
+    /// Writes two octets in place of those at an offset.
+    pub fn replace(&mut self, at: usize, pair: &[u8; 2])
+        requires { at + 2 ≤ BUFFER_OCTETS }
+        ensures writing { ForSome self.old.writing.octets (λ octets. at + 2 ≤ length octets)
+            → self.new.writing ≡ with_changed at pair.now self.old.writing }
+        ensures room { self.new.room ≡ changed at pair.now self.old.room }
+    {
+        self.rewrite(at, pair);
+    }
+
     /// What was written.
     pub fn written(&self) -> &[u8]
         requires { IsSome self.now.writing.octets }
@@ -121,6 +150,19 @@ impl Writer {
         self.len = Some(0);
         self.limit = 0;
         self.octets.as_mut_slice()
+    }
+
+    /// Writes octets in place of those at an offset.
+    fn rewrite(&mut self, at: usize, pair: &[u8])
+        requires { at + length pair.now ≤ BUFFER_OCTETS }
+        ensures limit { self.new.writing.limit ≡ self.old.writing.limit }
+        ensures octets { ForSome self.old.writing.octets
+            (λ octets. at + length pair.now ≤ length octets)
+            → self.new.writing.octets
+            ≡ option_map (changed at pair.now) self.old.writing.octets }
+        ensures room { self.new.room ≡ changed at pair.now self.old.room }
+    {
+        change(&mut self.octets, self.len, at, pair);
     }
 
     /// Writes octets after the others, or notes that they don't fit.
@@ -172,4 +214,29 @@ fn place(octets: &mut Vec<u8>, at: usize, limit: usize, more: &[u8]) -> Option<u
     } else {
         None
     }
+}
+
+/// Writes octets in place of those at an offset, the first `len` of which were written.
+fn change(octets: &mut Vec<u8>, len: Option<usize>, at: usize, pair: &[u8])
+    requires room { at + length pair.now ≤ length octets.old.items }
+    requires within { ForSome len (λ n. n ≤ length octets.old.items) }
+    ensures same { length octets.new.items ≡ length octets.old.items }
+    ensures written { ForSome (option_map (λ n. take n octets.old.items) len)
+        (λ text. at + length pair.now ≤ length text)
+        → option_map (λ n. take n octets.new.items) len
+        ≡ option_map (changed at pair.now) (option_map (λ n. take n octets.old.items) len) }
+    ensures room { octets.new.items ≡ changed at pair.now octets.old.items }
+{
+    put_at(octets, at, pair);
+}
+
+/// Writes octets in place of those at an offset.
+fn put_at(octets: &mut Vec<u8>, at: usize, pair: &[u8])
+    requires { at + length pair.now ≤ length octets.old.items }
+    ensures same { length octets.new.items ≡ length octets.old.items }
+    ensures octets { octets.new.items
+        ≡ take at octets.old.items ++ (pair.now ++ drop (at + length pair.now) octets.old.items) }
+{
+    let end = at + pair.len();
+    octets[at..end].copy_from_slice(pair);
 }

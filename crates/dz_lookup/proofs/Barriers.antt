@@ -13,7 +13,7 @@ use Rattle.dz_name.specs.Order.{same_decides}
 use Rattle.dz_name.proofs.PartLemmas.{within_suffix}
 use Rattle.dz_record.specs.Record.{Record}
 use Rattle.dz_zone.specs.Version.{Zone, has_cuts, has_dnames}
-use Rattle.dz_lookup.specs.Runs.{exists, owns, of_type, records_of}
+use Rattle.dz_runs.specs.Runs.{exists, owns, of_type, records_of}
 use Rattle.dz_lookup.specs.Found.{topmost, is_cut, cut, cut_for, dname, barrier, renaming, referral}
 use Rattle.dz_lookup.proofs.Walk.{topmost_none, topmost_step, topmost_found, topmost_below, none_above, none_owned}
 use Rattle.dz_lookup.proofs.Walk.{no_owner_above, no_cut_below, cut_here, within_long}

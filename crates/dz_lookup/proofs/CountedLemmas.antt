@@ -6,7 +6,8 @@ use Rattle.std.proofs.Math.Pow.{pow_mono}
 use Rattle.std.proofs.lemmas.Grind.{pow_more}
 use Rattle.std.proofs.lemmas.Nat.{mul-le}
 use native.Mathlib.Nat.{add-mul}
-use Rattle.dz_lookup.specs.Counted.{TakesSearches, IsLookup}
+use Rattle.dz_runs.specs.Counted.{TakesSearches}
+use Rattle.dz_lookup.specs.Counted.{IsLookup}
 
 -- no search takes nothing
 pub searches_none : (searches records taken : ℕ) → taken ≡ 0 → TakesSearches searches records taken

@@ -6,7 +6,7 @@ use Rattle.std.proofs.lemmas.Bool.{cases_Bool, eqb-true}
 use Rattle.dz_name.specs.Words.{Name}
 use Rattle.dz_name.specs.Name.{is_within}
 use Rattle.dz_record.specs.Record.{Record, target_of}
-use Rattle.dz_lookup.specs.Runs.{of_type, records_of}
+use Rattle.dz_runs.specs.Runs.{of_type, records_of}
 use Rattle.dz_lookup.specs.Found.{Found, here, alias, no_data, no_name, referral, rename, found, leading, here_or}
 use Rattle.dz_lookup.specs.Found.{at_source, source, renaming, barrier, behind_barrier, cut_for, dname}
 use Rattle.dz_lookup.specs.Chain.{Trail, Chased, stopped, ended, too_long, next_name, was_looked_up, led_to, renamed}

@@ -17,11 +17,11 @@ use Rattle.dz_name.specs.Words.{Name}
 use Rattle.dz_name.specs.Name.{same_name, wildcard_of}
 use Rattle.dz_record.specs.Record.{Record, record_order}
 use Rattle.std.specs.Option.{option_or}
-use Rattle.dz_lookup.specs.Runs.{owns, of_type, records_of, exists}
+use Rattle.dz_runs.specs.Runs.{owns, of_type, records_of, exists}
 use Rattle.dz_lookup.specs.Found.{Found, referral, rename, found, at_node, at_source, encloser, wildcard_under}
 use Rattle.dz_lookup.specs.Found.{here_or, renaming, barrier, behind_barrier, cut, cut_for, dname, is_cut, source}
 use Rattle.dz_lookup.specs.Found.{topmost, HasRecords}
-use Rattle.dz_lookup.proofs.InOrder.{records_of_is, no_run}
+use Rattle.dz_runs.proofs.InOrder.{records_of_is, no_run}
 
 -- the NS records of a referral are some
 chosen : (b : Bool) (name above : List (List ℕ)) → (if b then Some name else None) ≡ Some above

@@ -12,7 +12,7 @@ use Rattle.dz_name.specs.Order.{same_decides}
 use Rattle.dz_name.proofs.PartLemmas.{within_suffix}
 use Rattle.dz_record.specs.Record.{Record}
 use Rattle.dz_name.specs.Name.{upward}
-use Rattle.dz_lookup.specs.Runs.{exists, owns}
+use Rattle.dz_runs.specs.Runs.{exists, owns}
 use Rattle.dz_lookup.specs.Found.{encloser, topmost, is_cut, cut}
 use Rattle.std.proofs.lemmas.Bool.{cases_Bool, false_from_ne_true}
 use Rattle.std.proofs.lemmas.List.Folds.{list_any_at, Any-from_list_any}

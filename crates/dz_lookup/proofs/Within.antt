@@ -13,22 +13,16 @@ use Rattle.std.specs.declared.cmp.Ordering.TheVariants.{Less, Equal, Greater}
 use Rattle.std.proofs.lemmas.Bool.{cases_Bool, cases_lt, false_from_ne_true}
 use Rattle.std.proofs.lemmas.List.{get_or_default, take-append-drop, drop-drop}
 use Rattle.std.proofs.lemmas.List.Folds.{list_any_at, Any-from_list_any}
-use Rattle.dz_name.specs.Name.{canonical_order, is_within, same_name, IsWithin, parent_of}
-use Rattle.std.specs.Prelude.{Some}
-use Rattle.std.specs.Cmp.{tied_itself}
-use Rattle.std.specs.Cmp.Lexicographic.{slice_cmp}
-use Rattle.std.specs.Ordering.{nat_cmp}
-use Rattle.std.proofs.lemmas.Cmp.{nat_list_cmp_total}
-use Rattle.std.proofs.lemmas.List.{reverse-append}
-use Rattle.std.proofs.Common.{reverse}
+use Rattle.dz_name.specs.Name.{canonical_order, is_within, same_name, IsWithin}
 use Rattle.dz_name.proofs.PartLemmas.{within_suffix}
 use Rattle.dz_record.specs.Record.{Record, record_order}
 use Rattle.dz_zone.proofs.CanonicalLemmas.{within_not_less, both_within}
-use Rattle.dz_lookup.specs.Runs.{exists, records_of}
-use Rattle.dz_lookup.specs.inner.Places.{from_owner, IsBegin, IsMissing}
+use Rattle.dz_runs.specs.Runs.{exists, records_of}
+use Rattle.dz_runs.specs.Node.{from_owner, IsBegin}
+use Rattle.dz_lookup.specs.inner.Places.{IsMissing}
 use Rattle.dz_name.specs.Order.{canonical_total, same_decides}
 use Rattle.std.proofs.lemmas.List.Sorted.{sorted_far, ranks_by}
-use Rattle.dz_lookup.proofs.InOrder.{owners_rise, records_of_is}
+use Rattle.dz_runs.proofs.InOrder.{owners_rise, records_of_is}
 
 not_gt : (o p : Ordering) → o ≡ ordering_reverse p → is_lt p ≡ false → is_gt o ≡ false
 not_gt o Less e h = absurd (cc)
@@ -39,18 +33,6 @@ less_not_gt : (o : Ordering) → is_lt o ≡ true → is_gt o ≡ false
 less_not_gt Less h = refl
 less_not_gt Equal h = absurd (cc)
 less_not_gt Greater h = absurd (cc)
-
--- a list comes before itself with one more label
-longer_later : (p : List (List ℕ)) (label : List ℕ) → slice_cmp (slice_cmp nat_cmp) p (p ++ label ∷ []) ≡ Less
-longer_later [] label = refl
-longer_later (y ∷ p) label = rw (tied_itself nat_list_cmp_total y) (longer_later p label)
-
--- a name comes before each name that is one label below it
-pub parent_first : (name other : List (List ℕ)) → parent_of other ≡ Some name → canonical_order name other ≡ Less
-parent_first name [] h = absurd (cc)
-parent_first name (label ∷ labels) h =
-    let e : labels ≡ name = cc in
-    rw (← e, reverse-append (label ∷ []) labels) (longer_later (reverse labels) label)
 
 -- a name is within a name that exists just where one of the two records beside the name's place is within it
 pub none_beside : (zone : List Record) (name above : List (List ℕ)) (i : ℕ) → IsStrictlySortedBy record_order zone

@@ -7,7 +7,7 @@ use Rattle.dz_name.specs.Words.{Name, Kind}
 use Rattle.dz_name.specs.Name.{same_name, upward, wildcard_of}
 use Rattle.dz_name.specs.declared.dns.TheConstants.{TYPE_ANY, TYPE_CNAME, TYPE_DNAME, TYPE_DS, TYPE_NS}
 use Rattle.dz_record.specs.Record.{Record}
-use Rattle.dz_lookup.specs.Runs.{of_type, records_of, owns, exists}
+use Rattle.dz_runs.specs.Runs.{of_type, records_of, owns, exists}
 use Rattle.dz_lookup.specs.declared.found.Found as code
 use Rattle.dz_lookup.specs.declared.found.Found.TheVariants as code_found
 

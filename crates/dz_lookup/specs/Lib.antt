@@ -3,5 +3,4 @@ pub mod Counted
 pub mod Examples
 pub mod Found
 pub mod Laws
-pub mod Runs
 pub mod inner

@@ -4,13 +4,14 @@ ghost use Rattle.std.specs.Prelude.{◌≡◌, ℕ, ◌&&◌, ◌+◌, ◌≤◌
 ghost use Rattle.std.specs.List.Sorted.{IsStrictlySortedBy};
 ghost use Rattle.dz_name.specs.Name.{is_within};
 ghost use Rattle.dz_record.specs.Record.{Record, record_order};
-ghost use Rattle.dz_lookup.specs.inner.Places.{from_owner, IsBegin, IsNodeOf, IsMissing};
+ghost use Rattle.dz_runs.specs.Node.{from_owner, IsBegin, IsNodeOf};
+ghost use Rattle.dz_lookup.specs.inner.Places.{IsMissing};
 
-use crate::runs::Node;
 use dz_index::labels_apart;
 use dz_name::NameRef;
 use dz_name::dns::NAME_OCTETS;
 use dz_record::Rr;
+use dz_runs::Node;
 use dz_steps::Steps;
 use dz_zone::Version;
 use std::marker::Brand;

@@ -6,16 +6,16 @@ ghost use Rattle.dz_name.specs.Name.{same_name, is_within};
 ghost use Rattle.dz_name.specs.Words.{Name};
 ghost use Rattle.std.specs.List.{AllByRecursion, list_any};
 ghost use Rattle.dz_record.specs.Record.{Record, same_record};
-ghost use Rattle.dz_lookup.specs.Runs.{of_type, records_of};
+ghost use Rattle.dz_runs.specs.Runs.{of_type, records_of};
 ghost use Rattle.dz_lookup.specs.Chain.{was_looked_up, led_to, renamed, next_name, is_answered, chain_of, ending_of};
 ghost use Rattle.dz_lookup.specs.inner.Links.{behind, IsNext};
 
 use crate::found::{Found, find_near};
-use crate::runs::{Addresses, addresses_near};
 use arrayvec::ArrayVec;
 use dz_name::dns::{ALIASES, TYPE_A, TYPE_AAAA, TYPE_ANY, TYPE_CNAME, TYPE_DNAME};
 use dz_name::{Name, NameRef};
 use dz_record::Rr;
+use dz_runs::{Addresses, addresses_near};
 use dz_steps::Steps;
 use dz_zone::Version;
 use std::marker::{Brand, Model};

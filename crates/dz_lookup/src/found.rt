@@ -5,19 +5,21 @@ ghost use Rattle.std.specs.List.Sorted.{IsStrictlySortedBy, IsNonDecreasingBy};
 ghost use Rattle.dz_name.specs.Name.{is_within, wildcard_of, wire_of};
 ghost use Rattle.dz_record.specs.Record.{Record, record_order};
 ghost use Rattle.dz_zone.specs.Version.{IsValid, has_cuts, has_dnames};
-ghost use Rattle.dz_lookup.specs.Counted.{TakesSearches, IsLookup};
-ghost use Rattle.dz_lookup.specs.Runs.{exists, records_of, IsPlaceOf};
+ghost use Rattle.dz_runs.specs.Counted.{TakesSearches};
+ghost use Rattle.dz_lookup.specs.Counted.{IsLookup};
+ghost use Rattle.dz_runs.specs.Runs.{exists, records_of, IsPlaceOf};
 ghost use Rattle.dz_lookup.specs.Found.{encloser, cut_for, dname, source, at_node, at_source, barrier, found, meaning};
 ghost use Rattle.dz_lookup.specs.Found.{leading, referral, rename, HasRecords};
-ghost use Rattle.dz_lookup.specs.inner.Places.{IsNodeOf, IsMissing, if_exists, renamer_at};
+ghost use Rattle.dz_runs.specs.Node.{IsNodeOf};
+ghost use Rattle.dz_lookup.specs.inner.Places.{IsMissing, if_exists, renamer_at};
 
 use crate::beside::{counted_missing, missing_labels};
-use crate::runs::{
-    APEX, NEAR, Node, node_above, node_at_or_of, node_near, node_of, node_of_wildcard, of_type,
-};
 use dz_name::dns::{NAME_OCTETS, TYPE_ANY, TYPE_CNAME, TYPE_DNAME, TYPE_DS, TYPE_NS};
 use dz_name::{Name, NameRef};
 use dz_record::Rr;
+use dz_runs::{
+    APEX, NEAR, Node, node_above, node_at_or_of, node_near, node_of, node_of_wildcard, of_type,
+};
 use dz_steps::Steps;
 use dz_zone::Version;
 use std::marker::Brand;

@@ -8,9 +8,7 @@ mod beside;
 mod chain;
 mod found;
 mod laws;
-mod runs;
 
 pub use chain::{Chain, Last, chase};
 pub use found::{Found, find, source, wildcard_of};
 pub use laws::few_comparisons;
-pub use runs::{Addresses, addresses_of, place_near, records_of, rrset_near, rrset_of};

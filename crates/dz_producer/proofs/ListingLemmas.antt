@@ -24,7 +24,7 @@ use Rattle.dz_settings.specs.Twice.{has_twice}
 use Rattle.dz_member.specs.declared.listing.Node.{Node}
 use Rattle.dz_record.specs.Record.{Record, same_record, target_of}
 use Rattle.dz_record.specs.Records.{distinct, in_order, insertion}
-use Rattle.dz_lookup.specs.Runs.{of_type}
+use Rattle.dz_runs.specs.Runs.{of_type}
 use Rattle.dz_zone.specs.Valid.{some_two, both_are}
 use Rattle.dz_zone.proofs.Ordered.{puts, alike, ascends_puts, puts_keep}
 use Rattle.dz_zone.proofs.Pairs.{ascends_filter}

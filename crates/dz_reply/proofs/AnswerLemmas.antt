@@ -43,6 +43,10 @@ pub length-entries : (name : List (List ℕ)) (rs : List Record) → length (ent
 unfolding entries
 length-entries name rs = length-map rs _
 
+pub entries_none : (name : List (List ℕ)) → entries name [] ≡ []
+unfolding entries
+entries_none name = refl
+
 -- the SOA
 pub soa_written : (q : List (List ℕ)) (zone : Zone) (soa : Record) (w w1 : Writing)
     → Some soa ≡ apex_soa zone → w1 ≡ also w (entry_octets q (entry zone.apex (negative_ttl soa) soa))

@@ -1,13 +1,14 @@
 -- Glue: what was found of each server, counted and written one after the other.
-use Rattle.std.proofs.Common.{◌≡◌, ℕ, ◌+◌, ◌%◌, ◌<◌, ◌≤◌, List, [], ◌∷◌, ◌++◌, length, take, drop, get_or, refl, sym}
+use Rattle.std.proofs.Common.{◌≡◌, ℕ, ◌+◌, ◌%◌, ◌<◌, ◌≤◌, List, [], ◌∷◌, ◌++◌, length, drop, get_or, refl, sym}
 use Rattle.std.proofs.Common.{◌∙◌, ap, arith, length-append, append_assoc, Some, None}
+use Rattle.std.specs.Prelude.{Option, IsSome, is_some, not, true}
 use Rattle.std.specs.List.{flat_map, AllByRecursion}
 use Rattle.std.proofs.lemmas.Grind.{flat_map-append}
-use Rattle.std.proofs.lemmas.List.{drop_more, drop_all, append-nil, take-append-drop}
+use Rattle.std.proofs.lemmas.List.{drop_more, drop_all, append-nil}
 use Rattle.dz_record.specs.Record.{Record}
 use Rattle.dz_zone.specs.Version.{Zone}
-use Rattle.dz_lookup.specs.Runs.{of_type, records_of}
-use Rattle.dz_lookup.specs.declared.runs.Addresses.{Addresses}
+use Rattle.dz_runs.specs.Runs.{of_type, records_of}
+use Rattle.dz_runs.specs.declared.runs.Addresses.{Addresses}
 use Rattle.dz_header.specs.Writing.{Writing, also}
 use Rattle.dz_reply.specs.Layout.{entries_octets, entries}
 use Rattle.dz_reply.specs.Answer.{own_entries, inner_target, addresses_of, glue_of}
@@ -53,6 +54,11 @@ pub shown_written : (q : List (List ℕ)) (a : Addresses) (w w1 w2 : Writing)
 unfolding shown
 shown_written q a w w1 w2 e f = both_written q _ _ w w1 w2 e f
 
+-- a writer that is over has no octets
+pub over_no : {X : Type 0} (octets : Option (List ℕ)) → not (is_some octets) ≡ true → IsSome octets → X
+over_no None over some = absurd (cc)
+over_no (Some xs) over some = absurd (cc)
+
 -- one by one
 module _ {X : Type 0} (f : X → List Record) where
   step_on : (xs : List X) (k : ℕ) (x : X) → k < length xs → x ≡ get_or xs k x
@@ -75,9 +81,6 @@ module _ {X : Type 0} (f : X → List Record) where
   pub joined_all : (xs : List X) (all : List Record) (k : ℕ) → length xs ≤ k
       → all ++ flat_map f (drop k xs) ≡ flat_map f xs → all ≡ flat_map f xs
   joined_all xs all k le so_far = sym (append-nil all) ∙ (ap (λ l. all ++ l) (sym (at_last xs k le)) ∙ so_far)
-
-  pub halves : (xs : List X) (n : ℕ) → flat_map f (take n xs) ++ flat_map f (drop n xs) ≡ flat_map f xs
-  halves xs n = sym (flat_map-append f (take n xs) (drop n xs)) ∙ ap (flat_map f) (take-append-drop n xs)
 
   pub counted : (xs : List X) (k count one : ℕ) (x : X) → k < length xs → x ≡ get_or xs k x
       → one ≡ length (f x) % 65536

@@ -10,7 +10,7 @@ use Rattle.dz_name.specs.Name.{IsWithin, is_within, wire_of}
 use Rattle.dz_name.proofs.PartLemmas.{within_suffix}
 use Rattle.std.proofs.lemmas.Bool.{cases_lt, false_from_ne_true}
 use Rattle.dz_name.specs.Numbers.{two, four}
-use Rattle.dz_record.specs.Record.{Record}
+use Rattle.dz_record.specs.Record.{Record, octets_behind_owner}
 use Rattle.dz_reply.specs.Layout.{owner_octets, pointer_to, entry_octets, entries_octets}
 use Rattle.std.proofs.lemmas.List.Folds.{flat_map-map}
 use Rattle.dz_reply.specs.Layout.{entries, entry, entry_ttl, least_ttl}
@@ -236,3 +236,13 @@ entry_written question owner ttl r w w1 w2 w3 w4 e1 e2 e3 e4 =
     let split : kind ++ (four ttl ++ size) ≡ two r.kind ++ (two 1 ++ (four ttl ++ size)) =
     append_assoc (two r.kind) (two 1) (four ttl ++ size) in
     steps ∙ sym joins ∙ ap (λ xs. also w (head ++ xs)) split
+
+-- .. all that follows its owner at once
+pub entry_at_once : (question owner : List (List ℕ)) (ttl : ℕ) (r : Record) (w w1 w2 : Writing)
+    → w1 ≡ also w (owner_octets question owner) → w2 ≡ also w1 (octets_behind_owner r) → ttl ≡ r.ttl
+    → w2 ≡ also w (entry_octets question (entry owner ttl r))
+unfolding entry_octets entry
+entry_at_once question owner ttl r w w1 w2 e1 e2 same =
+    rw same
+    (e2 ∙ ap (λ x. also x (octets_behind_owner r)) e1
+    ∙ sym (also_append w (owner_octets question owner) (octets_behind_owner r)))

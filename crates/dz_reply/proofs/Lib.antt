@@ -9,6 +9,9 @@ pub mod ReadBackSecure
 pub mod ReadBack
 pub mod GlueLemmas
 pub mod TrailLemmas
+pub mod TypeLemmas
+pub mod KindLemmas
+pub mod AdditionalLemmas
 pub mod SecureLemmas
 pub mod SignedLemmas
 pub mod AuthorityLemmas

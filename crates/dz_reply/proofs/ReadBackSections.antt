@@ -22,7 +22,7 @@ use Rattle.dz_zone.specs.Valid.{at_apex}
 use Rattle.dz_zone.specs.Version.{Zone, apex_soa}
 use Rattle.dz_lookup.specs.Found.{Found, here, alias, no_data, no_name, referral, rename, here_or, at_source, renaming}
 use Rattle.dz_lookup.specs.Found.{barrier, behind_barrier, source, cut_for, dname, found}
-use Rattle.dz_lookup.specs.Runs.{of_type, records_of}
+use Rattle.dz_runs.specs.Runs.{of_type, records_of}
 use Rattle.dz_lookup.specs.Chain.{Trail, Chased, Ending, ended, stopped, too_long, was_looked_up, next_name}
 use Rattle.dz_lookup.specs.Chain.{redirected, renamed, led_to, is_answered, onward, from_renamed, continuation}
 use Rattle.dz_lookup.specs.Chain.{chain_from, chain_of}

@@ -7,7 +7,7 @@ use Rattle.dz_name.specs.Name.{IsName, same_name, wire_of, wildcard_of}
 use Rattle.dz_record.specs.Record.{Record, same_record, IsRecord}
 use Rattle.dz_zone.specs.Version.{Zone}
 use Rattle.dz_lookup.specs.Found.{Found, here, alias, no_data, no_name, referral, rename, source, encloser}
-use Rattle.dz_lookup.specs.Runs.{of_type, records_of}
+use Rattle.dz_runs.specs.Runs.{of_type, records_of}
 use Rattle.dz_lookup.specs.Chain.{Trail, Ending, ended, stopped, too_long, chain_of}
 use Rattle.dz_lookup.specs.inner.Links.{behind}
 use Rattle.dz_secure.specs.Secure.{covers, signatures, nsec_of, owner_before, nsec_at, covering, own_or, no_data_proof}
@@ -107,7 +107,7 @@ renamer_held : (zone : List Record) (bare : Bool) (before : Trail) (r : Record) 
     → Each (renamer_set zone bare before r)
 renamer_held zone bare before r held is = elim (cases_Bool (list_any (λ a. same_record a.1 r) before)) [
   | inl t ↦ rw t tt
-  | inr f ↦ rw f (shown_as_held r.owner r.ttl r is.owner is.ttl is, beside_held zone bare r.owner r is.owner held)
+  | inr f ↦ rw f (shown_as_held r.owner r.ttl r is.owner is.ttl is, beside_held zone false r.owner r is.owner held)
 ]
 
 step_held : (zone : List Record) (bare : Bool) (before : Trail) (a : List (List ℕ) × Record) → Each zone

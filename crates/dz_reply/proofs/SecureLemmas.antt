@@ -54,6 +54,23 @@ laid_low tcp query s a b c w0 w1 w2 w3 ea eb ec e0 e1 e2 e3 =
     laid tcp query s (length s.answer) (length s.authority) (length s.additional) w0 w1 w2 w3 refl refl refl
     (e0 ∙ ap (also (empty (limit_of tcp query.edns))) low) e1 e2 e3
 
+-- .. where two of its counts are low
+pub laid_answers : (tcp : Bool) (query : Query) (s : Sections) (a b : ℕ) (w0 w1 w2 w3 : Writing)
+    → a ≡ length s.answer % 65536 → b ≡ length s.authority % 65536
+    → w0 ≡ also (empty (limit_of tcp query.edns))
+    (head_octets query s.code s.authoritative false a b (length s.additional + opt_count query.edns))
+    → w1 ≡ also w0 (entries_octets query.name s.answer) → w2 ≡ also w1 (entries_octets query.name s.authority)
+    → w3 ≡ also w2 (entries_octets query.name s.additional)
+    → w3 ≡ also (empty (limit_of tcp query.edns)) (front_octets query s)
+laid_answers tcp query s a b w0 w1 w2 w3 ea eb e0 e1 e2 e3 =
+    let low : head_octets query s.code s.authoritative false a b (length s.additional + opt_count query.edns)
+    ≡ head_octets query s.code s.authoritative false (length s.answer) (length s.authority)
+    (length s.additional + opt_count query.edns) =
+    rw (ea, eb) (heads_low query s.code s.authoritative false (length s.answer) (length s.authority)
+    (length s.additional + opt_count query.edns)) in
+    laid tcp query s (length s.answer) (length s.authority) (length s.additional) w0 w1 w2 w3 refl refl refl
+    (e0 ∙ ap (also (empty (limit_of tcp query.edns))) low) e1 e2 e3
+
 -- the records of the last name
 beside_is : (zone : List Record) (bare : Bool) (owner : List (List ℕ)) (r : Record) (rs : List Record)
     → beside zone bare owner r ≡ entries owner (answer_signatures zone bare (r ∷ rs))

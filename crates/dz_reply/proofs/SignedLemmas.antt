@@ -33,7 +33,7 @@ renamer_there zone bare before r h = rw h refl
 
 pub renamer_not_there : (zone : List Record) (bare : Bool) (before : Trail) (r : Record)
     → list_any (λ a. same_record a.1 r) before ≡ false
-    → renamer_set zone bare before r ≡ entry r.owner r.ttl r ∷ beside zone bare r.owner r
+    → renamer_set zone bare before r ≡ entry r.owner r.ttl r ∷ beside zone false r.owner r
 renamer_not_there zone bare before r h = rw h refl
 
 not_renamer : (r : Record) → (r.kind ≡ 39 → ⊥) → (r.kind == 39) ≡ false

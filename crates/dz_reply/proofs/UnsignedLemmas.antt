@@ -51,7 +51,7 @@ module _ (zone : Zone) (up : IsStrictlySortedBy record_order zone.records) (none
 
   renamer_is : (bare : Bool) (before : Trail) (r : Record)
       → renamer_set zone.records bare before r ≡ dname_entries before r
-  renamer_is bare before r = rw (nothing_beside bare r.owner r) refl
+  renamer_is bare before r = rw (nothing_beside false r.owner r) refl
 
   step_is : (bare : Bool) (before : Trail) (a : Name × Record)
       → secure_step zone.records bare before a ≡ step_entries before a

@@ -15,7 +15,7 @@ use Rattle.dz_record.specs.Record.{Record, soa_of, target_of, same_record}
 use Rattle.dz_request.specs.Frame.{Query, is_tcp, query_of, limit_of, head_octets, within_limit}
 use Rattle.dz_request.specs.declared.frame.Frame.{Frame}
 use Rattle.dz_zone.specs.Version.{Zone, apex_soa}
-use Rattle.dz_lookup.specs.Runs.{of_type, records_of}
+use Rattle.dz_runs.specs.Runs.{of_type, records_of}
 use Rattle.dz_lookup.specs.Found.{Found, here, alias, no_data, no_name, referral, rename}
 use Rattle.dz_lookup.specs.Chain.{Trail, Chased, Ending, ended, stopped, too_long, led_to, chain_of}
 use Rattle.dz_reply.specs.Layout.{entries_octets, entry, entries}

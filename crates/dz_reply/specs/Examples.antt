@@ -12,7 +12,7 @@ use Rattle.dz_name.specs.Reading.{name_at, name_from, element_at}
 use Rattle.dz_name.specs.declared.dns.TheConstants.{TYPE_A, TYPE_AAAA, TYPE_CNAME, TYPE_DNAME, TYPE_NS, TYPE_SOA}
 use Rattle.dz_record.specs.Record.{Record}
 use Rattle.dz_record.specs.Records.{in_order, insertion}
-use Rattle.dz_header.specs.Edns.{edns_of, opt_octets}
+use Rattle.dz_header.specs.Edns.{opt_octets}
 use Rattle.dz_header.specs.Flags.{flags_number}
 use Rattle.dz_header.specs.Header.{header_in, header_octets}
 use Rattle.dz_header.specs.Question.{question_at}

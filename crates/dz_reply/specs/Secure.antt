@@ -33,7 +33,7 @@ answer_set zone bare owner (r ∷ rs) = entries owner (r ∷ rs) ++ beside zone 
 -- a DNAME with its signatures, unless the chain has it already
 abbrev pub renamer_set : List Record → Bool → Trail → Record → List Record
 renamer_set zone bare before r =
-    if list_any (λ a. same_record a.1 r) before then [] else entry r.owner r.ttl r ∷ beside zone bare r.owner r
+    if list_any (λ a. same_record a.1 r) before then [] else entry r.owner r.ttl r ∷ beside zone false r.owner r
 
 -- a step of a chain: a CNAME and its signatures; a DNAME with its signatures, once, and the CNAME that is made of it
 unfoldable pub secure_step : List Record → Bool → Trail → Name × Record → List Record

@@ -4,7 +4,7 @@ use Rattle.dz_name.specs.Words.{Name, Kind, Octets}
 use Rattle.dz_name.specs.Name.{wire_of, labels_in, upward}
 use Rattle.dz_name.specs.Numbers.{two, four, number_of_four}
 use Rattle.dz_name.specs.declared.dns.TheConstants.{TYPE_A, TYPE_AAAA, TYPE_DS, TYPE_NS, TYPE_NSEC, TYPE_RRSIG}
-use Rattle.dz_name.specs.declared.dns.TheConstants.{TYPE_SOA}
+use Rattle.dz_name.specs.declared.dns.TheConstants.{TYPE_ANY, TYPE_CNAME, TYPE_DNAME, TYPE_SOA}
 use Rattle.dz_record.specs.Record.{Record}
 use Rattle.dz_record.specs.Records.{in_order, insertion}
 use Rattle.dz_zone.specs.Version.{Zone}
@@ -50,6 +50,14 @@ zone = record {
       ∷ sig (below (codes "www")) TYPE_NSEC
       ∷ rr (below (codes "sub")) TYPE_NS (wire_of (codes "ns" ∷ codes "other" ∷ []))
       ∷ rr (below (codes "sub")) TYPE_DS []
+      ∷ rr (below (codes "d")) TYPE_DNAME (wire_of (below (codes "www")))
+      ∷ sig (below (codes "d")) TYPE_DNAME
+      ∷ rr (below (codes "d")) TYPE_NSEC []
+      ∷ sig (below (codes "d")) TYPE_NSEC
+      ∷ rr (below (codes "plain")) TYPE_NS (wire_of (codes "ns" ∷ codes "other" ∷ []))
+      ∷ rr (below (codes "plain")) TYPE_NSEC []
+      ∷ sig (below (codes "plain")) TYPE_NSEC
+      ∷ rr (codes "x" ∷ below (codes "empty")) TYPE_A (192 ∷ 0 ∷ 2 ∷ 81 ∷ [])
       ∷ [];
 }
 
@@ -93,3 +101,30 @@ digest = refl
 pub digest_authoritative : (sections_for true zone (below (codes "sub")) TYPE_DS).authoritative ≡ true
 unfolding computed
 digest_authoritative = refl
+
+-- a DNAME that gives the name another one has its signatures whatever is asked for
+abbrev pub renamed_shown : List (Name × Kind)
+renamed_shown = (below (codes "d"), TYPE_DNAME) ∷ (below (codes "d"), TYPE_RRSIG)
+    ∷ (codes "x" ∷ below (codes "d"), TYPE_CNAME) ∷ []
+
+pub renamed_for_all_types : shown (sections_for true zone (codes "x" ∷ below (codes "d")) TYPE_ANY).answer
+    ≡ renamed_shown
+unfolding computed
+renamed_for_all_types = refl
+
+pub renamed_for_signatures : shown (sections_for true zone (codes "x" ∷ below (codes "d")) TYPE_RRSIG).answer
+    ≡ renamed_shown
+unfolding computed
+renamed_for_signatures = refl
+
+-- the NSEC of a cut without a DS says that there is none
+pub referred_unsigned : shown (sections_for true zone (codes "x" ∷ below (codes "plain")) TYPE_A).authority
+    ≡ (below (codes "plain"), TYPE_NS) ∷ (below (codes "plain"), TYPE_NSEC) ∷ (below (codes "plain"), TYPE_RRSIG) ∷ []
+unfolding computed
+referred_unsigned = refl
+
+-- no data at an empty non-terminal: the NSEC that covers it, which is that of the owner before it
+pub no_data_at_empty : shown (sections_for true zone (below (codes "empty")) TYPE_A).authority
+    ≡ (example, TYPE_SOA) ∷ (example, TYPE_RRSIG) ∷ (below (codes "d"), TYPE_NSEC) ∷ (below (codes "d"), TYPE_RRSIG) ∷ []
+unfolding computed
+no_data_at_empty = refl

@@ -4,20 +4,23 @@ ghost use Rattle.std.specs.Prelude.{◌≡◌, ◌+◌, ◌<◌, ◌∷◌, ◌+
 ghost use Rattle.dz_name.specs.Name.{is_within};
 ghost use Rattle.dz_header.specs.Code.{number_of};
 ghost use Rattle.dz_header.specs.Writing.{also};
+ghost use Rattle.dz_request.specs.Frame.{is_tcp, query_of, opening, with_additional};
 ghost use Rattle.dz_request.specs.Request.{IsWhole};
-ghost use Rattle.dz_lookup.specs.Found.{meaning};
+ghost use Rattle.dz_request.specs.declared.frame.Heading.{Heading};
+ghost use Rattle.dz_lookup.specs.Found.{meaning, found};
 ghost use Rattle.dz_lookup.specs.inner.Links.{behind};
-ghost use Rattle.dz_record.specs.Record.{Record};
-ghost use Rattle.dz_name.specs.Words.{Name, Kind};
+ghost use Rattle.dz_record.specs.Record.{Record, record_order};
+ghost use Rattle.dz_name.specs.Words.{Name, Kind, Octets};
 ghost use Rattle.std.specs.Prelude.{◌≤◌};
 ghost use Rattle.dz_reply.specs.Layout.{entries_octets};
 ghost use Rattle.dz_reply.specs.Answer.{Replies, dname_entries, step_entries, trail_entries, own_entries, soa_entries};
 ghost use Rattle.dz_reply.specs.Answer.{negative_ttl, only_trail, with_renamer, with_records, with_soa, with_servers};
-ghost use Rattle.dz_reply.specs.Answer.{at_end, sections_of};
+ghost use Rattle.dz_reply.specs.Answer.{at_end, glue, sections_of};
+ghost use Rattle.std.specs.List.Sorted.{IsNonDecreasingBy, IsStrictlySortedBy};
 ghost use Rattle.dz_reply.specs.Secure.{asks_dnssec, sections_for};
 
-use crate::glue::Glue;
-use crate::layout::{put_cname, put_entries, put_entry, put_own};
+use crate::glue::put_glue;
+use crate::layout::{put_answer, put_cname, put_entry, put_own};
 use crate::secure::{secure_end, secure_stopped, secure_too_long};
 use dz_header::{ResponseCode, Writer};
 use dz_lookup::{Chain, Found, Last, chase};
@@ -68,11 +71,12 @@ fn shows_dnssec(frame: &Frame<'_>, version: &Version) -> bool
     ensures asked { result ≡ true → asks_dnssec frame.now.asked.now.edns ≡ true }
     ensures plain { result ≡ false → (name : Name) (kind : Kind) → sections_of version.now name kind
         ≡ sections_for (asks_dnssec frame.now.asked.now.edns) version.now name kind }
+    ensures rises { IsStrictlySortedBy record_order version.now.records }
 {
-    if !asks_for_dnssec(frame) {
+    if !version.is_secure() {
         return false;
     }
-    version.is_secure()
+    asks_for_dnssec(frame)
 }
 
 /// Whether the request has the DO bit (RFC 3225).
@@ -89,15 +93,20 @@ fn asks_for_dnssec(frame: &Frame<'_>) -> bool
 fn reply_end(
     answer: &Answer<'_>,
     chain: &Chain<'_>,
-    found: &Found<'_>,
+    last: &Found<'_>,
     name: &Name,
     writer: &mut Writer,
 )
-    requires { IsWhole answer.now.frame.now.request.now answer.now.frame.now.asked.now.size }
+    requires whole { IsWhole answer.now.frame.now.request.now
+        answer.now.frame.now.asked.now.size }
+    requires found { meaning last.now
+        ≡ found answer.now.version.now.apex answer.now.version.now.records name.now
+        answer.now.frame.now.asked.now.question.kind }
+    requires rises { IsStrictlySortedBy record_order answer.now.version.now.records }
     ensures { Replies answer.now.frame.now
-        (at_end answer.now.version.now chain.now (meaning found.now) name.now) writer.new.writing }
+        (at_end answer.now.version.now chain.now (meaning last.now) name.now) writer.new.writing }
 {
-    match found {
+    match last {
         Found::Here(records) => reply_records(answer, chain, name, records, writer),
         Found::Alias(_) | Found::Rename(_) => reply_trail(answer, chain, writer),
         Found::NoData => reply_soa(answer, chain, ResponseCode::NoError, writer),
@@ -145,7 +154,9 @@ fn reply_records(
     records: &[Rr],
     writer: &mut Writer,
 )
-    requires { IsWhole answer.now.frame.now.request.now answer.now.frame.now.asked.now.size }
+    requires whole { IsWhole answer.now.frame.now.request.now
+        answer.now.frame.now.asked.now.size }
+    requires kinds { IsNonDecreasingBy (λ r. r.kind) records.now }
     ensures { Replies answer.now.frame.now
         (with_records chain.now name.now records.now) writer.new.writing }
 {
@@ -156,7 +167,7 @@ fn reply_records(
     };
     answer.frame.begin(writer, &heading);
     put_trail(writer, question, chain);
-    put_entries(writer, question, &name.as_ref(), records);
+    put_answer(writer, question, &name.as_ref(), records, &[]);
     answer.frame.finish(writer, ResponseCode::NoError, true);
 }
 
@@ -186,20 +197,34 @@ fn reply_referral(answer: &Answer<'_>, chain: &Chain<'_>, servers: &[Rr], writer
 {
     let question = &answer.frame.asked.question.name;
     let authoritative = chain.len() != 0;
-    let glue = Glue::of(answer.version, servers, chain);
     let heading = Heading {
         answer: count_trail(chain),
         authority: servers.len(),
-        additional: glue.count(),
         ..Heading::bare(ResponseCode::NoError, authoritative, false)
     };
     answer.frame.begin(writer, &heading);
     put_trail(writer, question, chain);
     put_own(writer, question, servers);
-    glue.put(writer, question);
+    put_additional(writer, answer, chain, servers);
     answer
         .frame
         .finish(writer, ResponseCode::NoError, authoritative);
+}
+
+/// Writes the glue of a referral as the additional section, and its count into the header. Once the reply exceeds its
+/// limit, nothing more is looked up.
+pub fn put_additional(writer: &mut Writer, answer: &Answer<'_>, chain: &Chain<'_>, servers: &[Rr])
+    ensures { let frame = answer.now.frame.now in
+        let query = query_of frame.request.now frame.asked.now in
+        let glue = glue answer.now.version.now servers.now in
+        (heading : Heading) (front : Octets)
+        → writer.old.writing ≡ also (opening (is_tcp frame.transport) query heading) front
+        → writer.new.writing ≡ also (opening (is_tcp frame.transport) query
+        (with_additional (length glue) heading)) (front ++ entries_octets query.name glue) }
+{
+    let question = &answer.frame.asked.question.name;
+    let count = put_glue(writer, question, answer.version, servers, chain);
+    answer.frame.count_additional(writer, count);
 }
 
 /// How many records a chain shows: at most two for each of its own.

@@ -1,6 +1,7 @@
 //! The records of a reply, one after the other.
 
-ghost use Rattle.std.specs.Prelude.{◌≡◌, ◌≢◌, ◌≤◌, ◌∷◌, ◌++◌, [], length, drop};
+ghost use Rattle.std.specs.Prelude.{◌≡◌, ◌≢◌, ◌≤◌, ◌<◌, ◌*◌, ◌∷◌, ◌++◌, [], length, drop, true, slice_index_or};
+ghost use Rattle.std.specs.List.Sorted.{IsNonDecreasingBy};
 ghost use Rattle.dz_header.specs.Writing.{also};
 ghost use Rattle.dz_name.specs.Words.{Name};
 ghost use Rattle.dz_name.specs.Numbers.{two};
@@ -9,6 +10,9 @@ ghost use Rattle.dz_name.specs.Name.{wire_of};
 ghost use Rattle.dz_reply.specs.Answer.{own_entries};
 ghost use Rattle.dz_reply.specs.Layout.{pointer_to, owner_octets, entry_octets, entries_octets, least_ttl, entry_ttl};
 ghost use Rattle.dz_reply.specs.Layout.{entry, entries};
+ghost use Rattle.dz_header.specs.Writing.{left, over};
+ghost use Rattle.dz_record.specs.Record.{Record, octets_behind_owner};
+ghost use Rattle.dz_runs.specs.Runs.{of_type};
 
 use dz_header::Writer;
 use dz_index::labels_apart;
@@ -16,6 +20,7 @@ use dz_name::dns::{CLASS_IN, HEADER_OCTETS, TYPE_CNAME, TYPE_RRSIG};
 use dz_name::numbers::{four, two};
 use dz_name::{Name, NameRef};
 use dz_record::Rr;
+use dz_runs::of_type;
 
 /// The two top bits of a pointer (RFC 1035 section 4.1.4).
 pub(crate) const POINTER: u16 = 0xc000;
@@ -25,6 +30,10 @@ const ROOT_OCTETS: usize = 1;
 
 /// The longest TTL in seconds (RFC 2181 section 8).
 pub(crate) const LONGEST_TTL: u32 = 0x7fff_ffff;
+
+/// The least octets of a record in a message: an owner of one octet, type, class, TTL and length of RDATA (RFC 1035
+/// section 4.1.3).
+pub(crate) const ENTRY_OCTETS: usize = 11;
 
 /// An owner as a reply has it: octets of its wire form, and the pointer after them, unless they are all of it.
 #[derive(Clone, Copy)]
@@ -110,9 +119,20 @@ fn put_entry_under(writer: &mut Writer, shown: &Shown<'_>, ttl: u32, rr: &Rr)
         ≡ also writer.old.writing (entry_octets question (entry owner ttl rr.now)) }
 {
     put_shown(writer, shown);
+    if ttl == rr.ttl() {
+        writer.put(behind_owner(rr));
+        return;
+    }
     writer.put(rr.kind_and_class());
     writer.put(&four(ttl));
     writer.put(rr.sized_rdata());
+}
+
+/// What follows the owner of a record: type, class, TTL, length of RDATA, RDATA.
+fn behind_owner(rr: &Rr) -> &[u8]
+    ensures { result.now ≡ octets_behind_owner rr.now }
+{
+    rr.octets().split_at(rr.owner_ref().wire().len()).1
 }
 
 /// Writes a CNAME that is in no zone: from a name to another, with a TTL in seconds (RFC 6672 section 3.1).
@@ -134,12 +154,64 @@ pub fn put_cname(writer: &mut Writer, question: &Name, owner: &NameRef, ttl: u32
 }
 
 /// Writes records under one owner. Those of a type have their least TTL, and an RRSIG has its own (RFC 2181 section
-/// 5.2, RFC 4035 section 2.2). Records of a type that are side by side cost one pass more over all of them.
+/// 5.2, RFC 4035 section 2.2). Each time the type changes, the least TTL costs one pass more over all of them.
 pub fn put_entries(writer: &mut Writer, question: &Name, owner: &NameRef, records: &[Rr])
     ensures { writer.new.writing
         ≡ also writer.old.writing (entries_octets question.now (entries owner.now records.now)) }
 {
     put_entries_under(writer, &shown_owner(question, owner), records);
+}
+
+/// Writes the records of the last name of an answer, in the order of type, and RRSIG records, under one owner. The least
+/// TTL of a type costs one pass over the records of this type.
+pub fn put_answer(
+    writer: &mut Writer,
+    question: &Name,
+    owner: &NameRef,
+    records: &[Rr],
+    signed: &[Rr],
+)
+    requires { IsNonDecreasingBy (λ r. r.kind) records.now }
+    ensures { writer.new.writing
+        ≡ also writer.old.writing (entries_octets question.now
+        (entries owner.now records.now ++ entries owner.now signed.now)) }
+{
+    let shown = shown_owner(question, owner);
+    put_types_under(writer, &shown, records);
+    put_entries_under(writer, &shown, signed);
+}
+
+/// Writes records in the order of type under an owner whose form in the reply is known.
+fn put_types_under(writer: &mut Writer, shown: &Shown<'_>, records: &[Rr])
+    requires { IsNonDecreasingBy (λ r. r.kind) records.now }
+    ensures { (question owner : Name) → owner_shown shown.now ≡ owner_octets question owner
+        → writer.new.writing
+        ≡ also writer.old.writing (entries_octets question (entries owner records.now)) }
+{
+    if is_one_type(records) || is_too_many(writer, records) {
+        put_entries_under(writer, shown, records);
+        return;
+    }
+    let mut begin = 0;
+    'types: while begin < records.len() {
+        if writer.is_over() {
+            return;
+        }
+        let run = run_from(records, begin);
+        put_entries_under(writer, shown, run);
+        begin += run.len();
+    }
+}
+
+/// Of records in the order of type those of the type of one, from it on.
+fn run_from(records: &[Rr], begin: usize) -> &[Rr]
+    requires within { begin < length records.now }
+    requires kinds { IsNonDecreasingBy (λ r. r.kind) records.now }
+    ensures { (d : Record) → result.now
+        ≡ of_type (slice_index_or records.now begin d).kind (drop begin records.now) }
+{
+    let rest = records.split_at(begin).1;
+    of_type(rest, records[begin].kind())
 }
 
 /// Writes records and their RRSIG records under one owner.
@@ -165,6 +237,10 @@ fn put_entries_under(writer: &mut Writer, shown: &Shown<'_>, records: &[Rr])
         → writer.new.writing
         ≡ also writer.old.writing (entries_octets question (entries owner records.now)) }
 {
+    if is_too_many(writer, records) {
+        writer.overflow();
+        return;
+    }
     let mut kind = TYPE_RRSIG;
     let mut ttl = 0;
     'records: for rr in records {
@@ -175,6 +251,22 @@ fn put_entries_under(writer: &mut Writer, shown: &Shown<'_>, records: &[Rr])
         kind = rr.kind();
         put_entry_under(writer, shown, ttl, rr);
     }
+}
+
+/// Whether the first record and the last are of one type, as all are then.
+fn is_one_type(records: &[Rr]) -> bool {
+    match records {
+        [] => true,
+        [first, .., last] => first.kind() == last.kind(),
+        [_] => true,
+    }
+}
+
+/// Whether so many records can't fit, whatever they are.
+fn is_too_many(writer: &Writer, records: &[Rr]) -> bool
+    ensures { result ≡ true → left writer.now.writing < ENTRY_OCTETS * length records.now }
+{
+    writer.left() / ENTRY_OCTETS < records.len()
 }
 
 /// Writes an RRset under the name of its owner.

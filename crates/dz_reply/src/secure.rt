@@ -1,6 +1,8 @@
 //! The answer of a zone with its records of DNSSEC (RFC 4035 section 3.1).
 
 ghost use Rattle.std.specs.Prelude.{◌≡◌, ◌++◌, ◌+◌, ◌%◌, ◌<◌, [], length};
+ghost use Rattle.std.specs.List.Sorted.{IsNonDecreasingBy, IsStrictlySortedBy};
+ghost use Rattle.dz_record.specs.Record.{record_order};
 ghost use Rattle.dz_name.specs.Words.{Name};
 ghost use Rattle.dz_header.specs.Code.{number_of};
 ghost use Rattle.dz_header.specs.Writing.{also};
@@ -13,12 +15,11 @@ ghost use Rattle.dz_secure.specs.Secure.{signatures};
 ghost use Rattle.dz_reply.specs.inner.Signed.{answer_signatures};
 ghost use Rattle.dz_reply.specs.Secure.{is_bare, signed_soa, secure_of_ending, here_with, soa_with, servers_with};
 
-use crate::answer::{Answer, put_soa};
+use crate::answer::{Answer, put_additional, put_soa};
 use crate::authority::Authority;
 use crate::counted::signatures;
 use crate::evidence::{alone, authority_of, authority_stopped};
-use crate::glue::Glue;
-use crate::layout::{put_both, put_own};
+use crate::layout::{put_answer, put_own};
 use crate::signed::{
     Signing, count_secure_renamer, count_secure_trail, put_secure_renamer, put_secure_trail,
 };
@@ -107,6 +108,7 @@ pub fn secure_end<'a>(
     requires found { meaning last.now
         ≡ found answer.now.version.now.apex answer.now.version.now.records name.now
         answer.now.frame.now.asked.now.question.kind }
+    requires rises { IsStrictlySortedBy record_order answer.now.version.now.records }
     ensures { Replies answer.now.frame.now
         (secure_of_ending answer.now.version.now answer.now.frame.now.asked.now.question.kind
         chain.now (ended (meaning last.now) name.now)
@@ -138,7 +140,9 @@ fn secure_records(
     authority: &Authority<'_>,
     writer: &mut Writer,
 )
-    requires { IsWhole answer.now.frame.now.request.now answer.now.frame.now.asked.now.size }
+    requires whole { IsWhole answer.now.frame.now.request.now
+        answer.now.frame.now.asked.now.size }
+    requires kinds { IsNonDecreasingBy (λ r. r.kind) records.now }
     ensures { Replies answer.now.frame.now
         (here_with answer.now.version.now answer.now.frame.now.asked.now.question.kind
         chain.now name.now records.now authority.now) writer.new.writing }
@@ -162,7 +166,7 @@ fn secure_records(
     };
     answer.frame.begin(writer, &heading);
     put_secure_trail(writer, &signing, chain);
-    put_answer_set(writer, &question.name, name, records, signed);
+    put_answer(writer, &question.name, &name.as_ref(), records, signed);
     authority.write(writer, &question.name);
     answer.frame.finish(writer, ResponseCode::NoError, true);
 }
@@ -175,7 +179,9 @@ fn secure_alone(
     records: &[Rr],
     writer: &mut Writer,
 )
-    requires { IsWhole answer.now.frame.now.request.now answer.now.frame.now.asked.now.size }
+    requires whole { IsWhole answer.now.frame.now.request.now
+        answer.now.frame.now.asked.now.size }
+    requires kinds { IsNonDecreasingBy (λ r. r.kind) records.now }
     ensures { Replies answer.now.frame.now
         (here_with answer.now.version.now answer.now.frame.now.asked.now.question.kind
         chain.now name.now records.now []) writer.new.writing }
@@ -196,7 +202,7 @@ fn secure_alone(
     };
     answer.frame.begin(writer, &heading);
     put_secure_trail(writer, &signing, chain);
-    put_answer_set(writer, &question.name, name, records, signed);
+    put_answer(writer, &question.name, &name.as_ref(), records, signed);
     answer.frame.finish(writer, ResponseCode::NoError, true);
 }
 
@@ -258,17 +264,15 @@ fn secure_servers(
         near: chain.near(),
     };
     let authoritative = chain.len() != 0;
-    let glue = Glue::of(version, servers, chain);
     let heading = Heading {
         answer: count_secure_trail(&signing, chain),
         authority: authority.count(),
-        additional: glue.count(),
         ..Heading::bare(ResponseCode::NoError, authoritative, false)
     };
     answer.frame.begin(writer, &heading);
     put_secure_trail(writer, &signing, chain);
     authority.write(writer, &question.name);
-    glue.put(writer, &question.name);
+    put_additional(writer, answer, chain, servers);
     answer
         .frame
         .finish(writer, ResponseCode::NoError, authoritative);
@@ -301,15 +305,6 @@ fn answer_signatures<'a>(signing: &Signing<'a>, records: &[Rr]) -> &'a [Rr]
             }
         }
     }
-}
-
-/// Writes the records of the last name and their RRSIG records, under that name.
-fn put_answer_set(writer: &mut Writer, question: &Name, name: &Name, records: &[Rr], signed: &[Rr])
-    ensures { writer.new.writing
-        ≡ also writer.old.writing (entries_octets question.now
-        (entries name.now records.now ++ entries name.now signed.now)) }
-{
-    put_both(writer, question, &name.as_ref(), records, signed);
 }
 
 /// Writes the SOA of a negative answer and its RRSIG records.

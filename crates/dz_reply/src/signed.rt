@@ -76,7 +76,11 @@ pub fn put_secure_renamer(
     if !chain.has_among(upto, rr) {
         let owner = rr.owner_ref();
         put_entry(writer, signing.question, &owner, rr.ttl(), rr);
-        put_beside(writer, signing, &owner, rr);
+        let signed = Signing {
+            bare: false,
+            ..*signing
+        };
+        put_beside(writer, &signed, &owner, rr);
     }
 }
 
@@ -91,7 +95,11 @@ pub fn count_secure_renamer(signing: &Signing<'_>, chain: &Chain<'_>, upto: usiz
     if chain.has_among(upto, rr) {
         0
     } else {
-        (1 + count_beside(signing, rr)) % COUNTS
+        let signed = Signing {
+            bare: false,
+            ..*signing
+        };
+        (1 + count_beside(&signed, rr)) % COUNTS
     }
 }
 

@@ -6,14 +6,16 @@ use Rattle.std.proofs.lemmas.Bool.Decides.{nat_tests, leb_tells}
 use Rattle.dz_name.specs.Numbers.{two}
 use Rattle.dz_header.specs.Edns.{opt_count, opt_octets}
 use Rattle.dz_header.specs.Header.{header_octets}
-use Rattle.dz_header.specs.Writing.{Writing, also, octets_with, empty, writing_of}
+use Rattle.dz_header.specs.Writing.{Writing, also, octets_with, empty, writing_of, changed, with_changed}
+use Rattle.std.specs.Option.{ForSome}
+use Rattle.std.proofs.Common.{append_assoc}
 use Rattle.dz_header.specs.declared.edns.Edns.{Edns}
 use Rattle.dz_header.specs.declared.header.Header.{Header}
 use Rattle.dz_header.proofs.WriterLemmas.{also_append}
 use Rattle.dz_header.specs.Code.{number_of}
 use Rattle.dz_request.specs.declared.frame.Heading.{Heading}
 use Rattle.dz_request.specs.Frame.{Query, limit_of, reply_flags, head_octets, opening, cut_octets, within_limit}
-use Rattle.dz_request.specs.Frame.{bare_octets, curt_octets}
+use Rattle.dz_request.specs.Frame.{bare_octets, curt_octets, heading_octets, with_additional}
 
 pub two_low : (count more : ℕ) → more ≤ 1 → two ((count % 65536 + more) % 65536) ≡ two (count + more)
 unfolding two
@@ -166,3 +168,67 @@ pub bare_within : (tcp : Bool) (query : Query) (code : ℕ)
     → within_limit tcp query code false (bare_octets query code) ≡ within_limit tcp query code false
     (head_octets query code false false 0 0 (0 + opt_count query.edns) ++ opt_octets code query.edns)
 bare_within tcp query code = ap (within_limit tcp query code false) (sym (bare_is query code))
+
+-- another count of the last section
+recounted : (id flags a b c d e : ℕ) (rest : List ℕ)
+    → changed 10 (two e) (header_octets (record { id = id; flags = flags; counts = a ∷ b ∷ c ∷ d ∷ [] }) ++ rest)
+    ≡ header_octets (record { id = id; flags = flags; counts = a ∷ b ∷ c ∷ e ∷ [] }) ++ rest
+unfolding header_octets two changed
+recounted id flags a b c d e rest = refl
+
+recounted_head : (query : Query) (heading : Heading) (count : ℕ) (rest : List ℕ)
+    → changed 10 (two (count + opt_count query.edns)) (heading_octets query heading ++ rest)
+    ≡ heading_octets query (with_additional count heading) ++ rest
+unfolding head_octets
+recounted_head query heading count rest =
+    let flags : ℕ = reply_flags query.flags (number_of heading.code) heading.authoritative heading.truncated in
+    let header : ℕ → List ℕ = λ n. header_octets (record {
+      id = query.id;
+      flags = flags;
+      counts = 1 ∷ heading.answer ∷ heading.authority ∷ n ∷ [];
+    }) in
+    let old : ℕ = heading.additional + opt_count query.edns in
+    let new : ℕ = count + opt_count query.edns in
+    ap (changed 10 (two new)) (append_assoc (header old) query.echo rest)
+    ∙ recounted query.id flags 1 heading.answer heading.authority old new (query.echo ++ rest)
+    ∙ sym (append_assoc (header new) query.echo rest)
+
+-- a header whose last count is replaced is that of the heading with this count
+pub recounted_so : (tcp : Bool) (query : Query) (heading : Heading) (count : ℕ) (rest pair : List ℕ) (w w1 : Writing)
+    → (ForSome w.octets (λ octets. 12 ≤ length octets) → w1 ≡ with_changed 10 pair w)
+    → pair ≡ two (count + opt_count query.edns) → w ≡ also (opening tcp query heading) rest
+    → w1 ≡ also (opening tcp query (with_additional count heading)) rest
+recounted_so tcp query heading count rest pair w w1 changes is old =
+    let limit : ℕ = limit_of tcp query.edns in
+    let before : List ℕ = heading_octets query heading ++ rest in
+    let after : List ℕ = heading_octets query (with_additional count heading) ++ rest in
+    let size : length before ≡ 12 + length query.echo + length rest = omega (
+      arith,
+      length-append (heading_octets query heading) rest,
+      length_head query (number_of heading.code) heading.authoritative heading.truncated heading.answer
+          heading.authority (heading.additional + opt_count query.edns),
+    ) in
+    let same : length after ≡ length before = omega (
+      arith,
+      size,
+      length-append (heading_octets query (with_additional count heading)) rest,
+      length_head query (number_of heading.code) heading.authoritative heading.truncated heading.answer
+          heading.authority (count + opt_count query.edns),
+    ) in
+    let was : w ≡ record { limit = limit; octets = if nat_le (length before) limit then Some before else None } =
+    old ∙ sym (also_append (empty limit) (heading_octets query heading) rest) ∙ alone limit before in
+    let will : also (opening tcp query (with_additional count heading)) rest
+    ≡ record { limit = limit; octets = if nat_le (length before) limit then Some after else None } =
+    sym (also_append (empty limit) (heading_octets query (with_additional count heading)) rest)
+    ∙ alone limit after ∙ rw same refl in
+    elim (leb_tells (length before) limit) [
+      | inl v ↦
+          let some : w ≡ writing_of limit before = rw v.0 at was in
+          let long : ForSome w.octets (λ octets. 12 ≤ length octets) =
+          λ octets e. let f : before ≡ octets = cc in rw (← f) (omega (arith, size)) in
+          changes long ∙ ap (with_changed 10 pair) some
+          ∙ ap (writing_of limit) (rw is (recounted_head query heading count rest)) ∙ sym (rw v.0 at will)
+      | inr v ↦
+          let none : w ≡ record { limit = limit; octets = None } = rw v.0 at was in
+          changes (λ octets e. absurd (cc)) ∙ ap (with_changed 10 pair) none ∙ sym (rw v.0 at will)
+    ]

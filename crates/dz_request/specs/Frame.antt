@@ -75,6 +75,17 @@ limit_of false (Some edns) = min EDNS_OCTETS (max UDP_OCTETS edns.size)
 abbrev pub opening : Bool → Query → Heading → Writing
 opening tcp query heading = also (empty (limit_of tcp query.edns)) (heading_octets query heading)
 
+-- the heading with another count of the records of the additional section
+abbrev pub with_additional : ℕ → Heading → Heading
+with_additional count heading = record {
+  code = heading.code;
+  authoritative = heading.authoritative;
+  truncated = heading.truncated;
+  answer = heading.answer;
+  authority = heading.authority;
+  additional = count;
+}
+
 -- the reply where it exceeds its limit: header, question and OPT, with TC set (RFC 2181 section 9)
 unfoldable pub cut_octets : Query → ℕ → Bool → Octets
 cut_octets query code authoritative =

@@ -8,14 +8,19 @@ ghost use Rattle.dz_header.specs.Writing.{also, empty, writing_of};
 ghost use Rattle.dz_name.specs.Numbers.{two};
 ghost use Rattle.dz_name.specs.Words.{Octets};
 ghost use Rattle.dz_request.specs.Frame.{is_tcp, query_of, reply_flags, opening, limit_of, reply_writing, bare_octets};
-ghost use Rattle.dz_request.specs.Frame.{curt_octets, IsEnd};
+ghost use Rattle.dz_request.specs.Frame.{curt_octets, with_additional, IsEnd};
 ghost use Rattle.dz_request.specs.Request.{IsWhole};
+ghost use Rattle.dz_request.specs.declared.frame.Heading.{Heading};
 
 use crate::request::Asked;
 use dz_header::{
     Edns, Flags, Header, ResponseCode, Transport, Writer, opt_count, put_opt, write_header,
 };
 use dz_name::dns::{EDNS_OCTETS, HEADER_OCTETS, MESSAGE_OCTETS, UDP_OCTETS};
+use dz_name::numbers::two;
+
+/// The offset of ARCOUNT, the count of the additional section, in octets (RFC 1035 section 4.1.1).
+const ARCOUNT: usize = 10;
 
 /// What the header of a reply says: response code, AA, TC, and how many records each section has, not counting the OPT
 /// record (RFC 1035 section 4.1.1).
@@ -73,6 +78,19 @@ impl Frame<'_> {
         let header = reply_header(&self.asked.header, heading, opt_count(self.asked.edns));
         put_header(writer, &header);
         writer.put(question_in(self.request, self.asked.size));
+    }
+
+    /// Sets how many records the additional section has, not counting the OPT record, in a reply whose header and
+    /// question are written. What follows them stays.
+    pub fn count_additional(&self, writer: &mut Writer, count: usize)
+        ensures { (heading : Heading) (rest : Octets)
+            → writer.old.writing ≡ also (opening (is_tcp self.now.transport)
+            (query_of self.now.request.now self.now.asked.now) heading) rest
+            → writer.new.writing ≡ also (opening (is_tcp self.now.transport)
+            (query_of self.now.request.now self.now.asked.now)
+            (with_additional count heading)) rest }
+    {
+        writer.replace(ARCOUNT, &two(low(count, opt_count(self.asked.edns))));
     }
 
     /// Ends a reply: writes the OPT record, where the request has one. A reply that exceeds its limit is cut to header,

@@ -12,9 +12,9 @@ use Rattle.dz_name.specs.Words.{Name}
 use Rattle.dz_name.specs.Name.{canonical_order}
 use Rattle.dz_record.specs.Record.{Record, record_order}
 use Rattle.dz_zone.specs.Version.{IsLastNsec}
-use Rattle.dz_lookup.specs.inner.Places.{from_owner, IsBegin}
-use Rattle.dz_lookup.proofs.InOrder.{in_order_stays}
-use Rattle.dz_lookup.proofs.RunLemmas.{filter_none}
+use Rattle.dz_runs.specs.Node.{from_owner, IsBegin}
+use Rattle.dz_runs.proofs.InOrder.{in_order_stays}
+use Rattle.dz_runs.proofs.RunLemmas.{filter_none}
 use Rattle.dz_secure.specs.Secure.{last_owner, owner_before}
 
 -- the NSEC records before a name

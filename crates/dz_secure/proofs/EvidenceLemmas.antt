@@ -10,9 +10,9 @@ use Rattle.dz_name.specs.Name.{same_name, wildcard_of}
 use Rattle.dz_name.specs.Order.{same_decides}
 use Rattle.dz_record.specs.Record.{Record, record_order}
 use Rattle.dz_zone.specs.Version.{Zone, is_secure, is_of_dnssec}
-use Rattle.dz_lookup.specs.Runs.{of_type, records_of}
+use Rattle.dz_runs.specs.Runs.{of_type, records_of}
 use Rattle.dz_lookup.specs.Found.{Found, here, alias, no_data, no_name, referral, rename, source, encloser}
-use Rattle.dz_lookup.proofs.InOrder.{no_run}
+use Rattle.dz_runs.proofs.InOrder.{no_run}
 use Rattle.dz_secure.specs.Secure.{owner_before, nsec_at, nsec_of, covering, own_or, no_data_proof, no_name_proof}
 use Rattle.dz_secure.specs.Secure.{referral_proof, proof}
 use Rattle.dz_secure.proofs.SignatureLemmas.{none_owned}

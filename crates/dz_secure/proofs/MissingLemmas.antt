@@ -4,7 +4,7 @@ use Rattle.std.specs.Prelude.{◌==◌, nat_lt, length, if◌then◌else◌}
 use Rattle.std.proofs.lemmas.Bool.{cases_Bool}
 use Rattle.dz_name.specs.Words.{Name}
 use Rattle.dz_record.specs.Record.{Record}
-use Rattle.dz_lookup.specs.Runs.{exists, of_type, records_of}
+use Rattle.dz_runs.specs.Runs.{exists, of_type, records_of}
 use Rattle.dz_lookup.specs.Found.{Found, no_name, referral, here_or, at_source, source, renaming, barrier}
 use Rattle.dz_lookup.specs.Found.{behind_barrier, cut_for, dname, found}
 

@@ -21,9 +21,9 @@ use Rattle.dz_name.specs.Numbers.{two}
 use Rattle.dz_name.specs.Order.{canonical_total, same_decides, label_total, same_label_ties}
 use Rattle.dz_record.specs.Record.{Record, record_order}
 use Rattle.dz_zone.specs.Version.{Zone, is_secure, is_of_dnssec}
-use Rattle.dz_lookup.specs.Runs.{of_type, records_of, owns}
-use Rattle.dz_lookup.proofs.InOrder.{records_of_is, no_run}
-use Rattle.dz_lookup.proofs.RunLemmas.{run_is}
+use Rattle.dz_runs.specs.Runs.{of_type, records_of, owns}
+use Rattle.dz_runs.proofs.InOrder.{records_of_is, no_run}
+use Rattle.dz_runs.proofs.RunLemmas.{run_is}
 use Rattle.dz_secure.specs.Secure.{covers, signatures}
 use Rattle.dz_secure.specs.inner.Searchable.{AreSearchable}
 

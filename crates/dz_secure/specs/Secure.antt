@@ -8,7 +8,7 @@ use Rattle.dz_name.specs.Numbers.{two}
 use Rattle.dz_name.specs.declared.dns.TheConstants.{TYPE_DS, TYPE_NSEC, TYPE_RRSIG}
 use Rattle.dz_record.specs.Record.{Record}
 use Rattle.dz_record.specs.Records.{in_order}
-use Rattle.dz_lookup.specs.Runs.{of_type, records_of}
+use Rattle.dz_runs.specs.Runs.{of_type, records_of}
 use Rattle.dz_lookup.specs.Found.{Found, here, alias, no_data, no_name, referral, rename, source, encloser}
 
 -- the type that an RRSIG covers is in the first two octets of its RDATA (RFC 4034 section 3.1.1)

@@ -3,16 +3,17 @@
 ghost use Rattle.std.specs.Prelude.{◌≡◌, ◌-◌, ◌≤◌, [], length, option_map, false, Some};
 ghost use Rattle.dz_name.specs.Words.{Name};
 ghost use Rattle.dz_name.specs.Name.{wildcard_of};
-ghost use Rattle.dz_lookup.specs.Counted.{TakesSearches};
-ghost use Rattle.dz_lookup.specs.Runs.{of_type, records_of, exists, IsPlaceOf};
+ghost use Rattle.dz_runs.specs.Counted.{TakesSearches};
+ghost use Rattle.dz_runs.specs.Runs.{of_type, records_of, exists, IsPlaceOf};
 ghost use Rattle.dz_lookup.specs.Found.{meaning, found, source, encloser};
 ghost use Rattle.dz_secure.specs.Secure.{covering, nsec_of, own_or, no_data_proof, no_name_proof, referral_proof};
 ghost use Rattle.dz_secure.specs.Secure.{proof};
 
-use dz_lookup::{Found, place_near, rrset_near, source, wildcard_of};
+use dz_lookup::{Found, source, wildcard_of};
 use dz_name::dns::{TYPE_DS, TYPE_NSEC};
 use dz_name::{Name, NameRef};
 use dz_record::Rr;
+use dz_runs::{place_near, rrset_near};
 use dz_steps::Steps;
 use dz_zone::Version;
 use std::sync::ledger::Ledger;

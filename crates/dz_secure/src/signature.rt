@@ -3,15 +3,15 @@
 ghost use Rattle.std.specs.Prelude.{◌≡◌, ◌-◌, ◌≤◌, length, take, drop, filter};
 ghost use Rattle.dz_name.specs.Name.{label_order};
 ghost use Rattle.dz_name.specs.Numbers.{two};
-ghost use Rattle.dz_lookup.specs.Counted.{TakesSearches};
+ghost use Rattle.dz_runs.specs.Counted.{TakesSearches};
 ghost use Rattle.dz_secure.specs.Secure.{covers, signatures};
 ghost use Rattle.dz_secure.specs.inner.Searchable.{AreSearchable};
 
-use dz_lookup::rrset_near;
 use dz_name::NameRef;
 use dz_name::dns::TYPE_RRSIG;
 use dz_name::numbers::two;
 use dz_record::Rr;
+use dz_runs::rrset_near;
 use dz_steps::Steps;
 use dz_zone::Version;
 use std::cmp::Ordering;

@@ -1,42 +1,14 @@
--- Inner: the places of records in a zone that is kept in order.
-use Rattle.std.specs.Prelude.{◌≡◌, ℕ, ◌≤◌, nat_le, List, true, false, length, drop, Option, Some, None, slice_get}
+-- Inner: what the code finds of a name and of those above it.
+use Rattle.std.specs.Prelude.{◌≡◌, ℕ, ◌≤◌, nat_le, List, length, drop, Option, Some, None, slice_get}
 use Rattle.std.specs.Prelude.{if◌then◌else◌}
-use Rattle.std.specs.List.Sorted.{IsNonDecreasingBy}
 use Rattle.dz_name.specs.declared.dns.TheConstants.{TYPE_DNAME}
-use Rattle.dz_lookup.specs.Runs.{of_type, records_of, exists}
-use Rattle.std.specs.Ordering.{nat_cmp, ordering_then, is_lt, is_le}
-use Rattle.std.specs.List.Sorted.{IsPartitionPoint}
-use Rattle.std.specs.declared.cmp.Ordering.{Ordering}
-use Rattle.dz_name.specs.Words.{Name, Kind}
-use Rattle.dz_name.specs.Name.{canonical_order}
+use Rattle.dz_name.specs.Words.{Name}
 use Rattle.dz_record.specs.Record.{Record}
-
--- where a record comes in relation to an owner
-abbrev pub from_owner : Name → Record → Ordering
-from_owner name r = canonical_order r.owner name
-
--- where a record comes in relation to an owner and a type
-abbrev pub from_key : Name → Kind → Record → Ordering
-from_key name kind r = ordering_then (canonical_order r.owner name) (nat_cmp r.kind kind)
-
--- the records before a place come before what is looked for, and no other does
-abbrev pub IsBegin : (Record → Ordering) → List Record → ℕ → Type 0
-IsBegin seen zone i = IsPartitionPoint (λ r. is_lt (seen r) ≡ true) (λ r. is_lt (seen r) ≡ false) zone i
-
--- the records before a place come before what is looked for or are it, and no other does
-abbrev pub IsEnd : (Record → Ordering) → List Record → ℕ → Type 0
-IsEnd seen zone i = IsPartitionPoint (λ r. is_le (seen r) ≡ true) (λ r. is_le (seen r) ≡ false) zone i
+use Rattle.dz_runs.specs.Runs.{of_type, records_of, exists}
 
 -- the names above a name exist from the one on that lacks so many of its first labels
 abbrev pub IsMissing : List Record → Name → ℕ → Type 0
 IsMissing zone name missing = (skip : ℕ) → skip ≤ length name → exists zone (drop skip name) ≡ nat_le missing skip
-
--- the records of an owner, in order, and the place where they begin or would begin
-pub record IsNodeOf (zone : List Record) (name : Name) (place : ℕ) (records : List Record) : Type 0 where
-  pub within : place ≤ length zone
-  pub point : IsBegin (from_owner name) zone place
-  pub records_are : records ≡ records_of zone name
-  pub kinds : IsNonDecreasingBy (λ r. r.kind) records
 
 -- the name, where it exists
 abbrev pub if_exists : List Record → Name → Option Name

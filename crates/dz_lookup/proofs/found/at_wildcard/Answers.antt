@@ -1,5 +1,5 @@
 use Rattle.std.proofs.Common.{◌∙◌, ap}
-use Rattle.dz_lookup.specs.Runs.{records_of}
+use Rattle.dz_runs.specs.Runs.{records_of}
 use Rattle.dz_lookup.proofs.FoundLemmas.{node_answers}
 use Rattle.dz_lookup.proofs.Within.{exists_all}
 use Rattle.dz_lookup.proofs.found.at_wildcard.Goals as goal

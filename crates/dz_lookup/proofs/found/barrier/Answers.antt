@@ -1,7 +1,7 @@
 use Rattle.std.proofs.Common.{arith, ◌≡◌, ◌∙◌, sym, ap, length}
 use Rattle.std.specs.Prelude.{Some}
 use Rattle.dz_zone.proofs.WithinLemmas.{owners_within}
-use Rattle.dz_lookup.specs.Runs.{of_type, records_of}
+use Rattle.dz_runs.specs.Runs.{of_type, records_of}
 use Rattle.dz_lookup.proofs.FoundLemmas.{has_renamer, renaming_is}
 use Rattle.dz_lookup.proofs.Barriers.{no_barrier, no_barrier_at_apex, renamed_by_apex}
 use Rattle.dz_lookup.proofs.found.barrier.Goals as goal

@@ -1,7 +1,7 @@
 use Rattle.std.proofs.Common.{arith, ◌≡◌, ◌∙◌, sym, ap, drop, false, true, ◌+◌, ◌-◌, inl, inr}
 use Rattle.std.specs.Prelude.{Some, None}
 use Rattle.dz_zone.proofs.WithinLemmas.{owners_within}
-use Rattle.dz_lookup.specs.Runs.{owns, of_type, records_of}
+use Rattle.dz_runs.specs.Runs.{owns, of_type, records_of}
 use Rattle.dz_lookup.specs.Found.{referral}
 use Rattle.dz_lookup.specs.inner.Places.{renamer_at}
 use Rattle.dz_lookup.proofs.Walk.{above_missing}

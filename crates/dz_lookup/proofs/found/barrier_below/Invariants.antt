@@ -1,5 +1,5 @@
 use Rattle.std.proofs.Common.{◌<◌, ◌≤◌, ◌-◌, length}
-use Rattle.dz_lookup.specs.Counted.{TakesSearches}
+use Rattle.dz_runs.specs.Counted.{TakesSearches}
 use Rattle.dz_lookup.proofs.Barriers.{IsClear}
 use Rattle.dz_lookup.proofs.found.barrier_below.Given as goal
 

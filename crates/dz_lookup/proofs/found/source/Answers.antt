@@ -1,5 +1,5 @@
 use Rattle.std.proofs.Common.{arith, ◌≡◌, true, false}
-use Rattle.dz_lookup.specs.Runs.{exists}
+use Rattle.dz_runs.specs.Runs.{exists}
 use Rattle.dz_lookup.proofs.FoundLemmas.{source_is}
 use Rattle.dz_lookup.proofs.Within.{exists_all, exists_not}
 use Rattle.dz_lookup.proofs.found.source.Goals as goal

@@ -1,8 +1,9 @@
 use Rattle.std.proofs.Common.{◌≡◌, ◌+◌, length, refl, arith, length-append}
+use Rattle.std.proofs.lemmas.List.{append-nil}
 use Rattle.dz_request.specs.Frame.{query_of, is_tcp}
 use Rattle.dz_reply.specs.Layout.{entries}
 use Rattle.dz_reply.specs.Answer.{trail_entries, with_records}
-use Rattle.dz_reply.proofs.AnswerLemmas.{laid, front_octets, ended_so, both_written, none_written, length-entries}
+use Rattle.dz_reply.proofs.AnswerLemmas.{laid, front_octets, ended_so, both_written, none_written, length-entries, entries_none}
 use Rattle.dz_reply.proofs.answer.reply_records.Goals as goal
 
 pub returns : goal.returns
@@ -23,4 +24,4 @@ returns c =
     (laid (is_tcp frame.transport) query s
     (c.count_trail.result + length c.args.records.now) 0 0 _ _ _ _ count refl refl
     (rw c.bare.ensures at c.begin.ensures) (both_written query.name trail records _ _ _ c.put_trail.ensures
-    (rw c.as_ref.ensures at c.put_entries.ensures)) (none_written query.name _) (none_written query.name _)))
+    (rw (c.as_ref.ensures, entries_none c.args.name.now, append-nil records) at c.put_answer.ensures)) (none_written query.name _) (none_written query.name _)))

@@ -12,6 +12,11 @@ secure_end-requires-clause-found c =
     ends_found c.args.version.now.apex c.args.version.now.records c.args.frame.now.asked.now.question.name
     c.args.frame.now.asked.now.question.kind _ c.in-Found.name c.in-Found.ensures.ending
 
+pub reply_end-requires-clause-found : goal.reply_end-requires-clause-found
+reply_end-requires-clause-found c =
+    ends_found c.args.version.now.apex c.args.version.now.records c.args.frame.now.asked.now.question.name
+    c.args.frame.now.asked.now.question.kind _ c.in-Found-last.name c.in-Found-last.ensures.ending
+
 pub returns-in-Stopped : goal.returns-in-Stopped
 returns-in-Stopped c =
     let frame = c.args.frame.now in

@@ -1,6 +1,12 @@
 use Rattle.std.proofs.Common.{arith, sym, ◌∙◌, refl}
 use Rattle.dz_reply.proofs.LayoutLemmas.{also_more, also_done, also_full, all_entries, entry_in, entry_least}
+use Rattle.dz_reply.proofs.TypeLemmas.{too_many}
 use Rattle.dz_reply.proofs.layout.put_entries_under.Goals as goal
+
+pub returns-then-is_too_many : goal.returns-then-is_too_many
+returns-then-is_too_many c q o h =
+    too_many q o c.args.records.now c.args.writer.now.writing _
+    (c.is_too_many.ensures c.if-is_too_many.true) c.overflow.ensures.writing
 
 pub records-init : goal.records-init
 records-init c = record { least = λ e. absurd (e refl); octets = λ q o h. refl }

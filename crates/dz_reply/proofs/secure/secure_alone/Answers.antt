@@ -33,6 +33,6 @@ returns c =
     (laid_low tcp query s _ 0 0 _ _ _ _ count refl refl
     (rw c.bare.ensures at c.begin.ensures)
     (both_written query.name trail set _ _ _ (rw c.is_bare.ensures at c.put_secure_trail.ensures)
-    (c.put_answer_set.ensures ∙ ap (λ rs. also c.put_secure_trail.new.writer.writing
+    (rw c.as_ref.ensures at c.put_answer.ensures ∙ ap (λ rs. also c.put_secure_trail.new.writer.writing
     (entries_octets query.name rs)) (set_is zone.records bare name c.args.records.now sigs signed)))
     (none_written query.name _) (none_written query.name _)))

@@ -4,8 +4,22 @@ use Rattle.dz_request.specs.Frame.{query_of, is_tcp, limit_of}
 use Rattle.dz_lookup.specs.Found.{meaning}
 use Rattle.dz_reply.specs.Answer.{octets_of, at_end}
 use Rattle.dz_reply.specs.Secure.{secure_of_ending}
+use Rattle.dz_reply.proofs.KindLemmas.{found_by_kind}
 use Rattle.dz_reply.proofs.SecureLemmas.{ends_alone, ends_empty, ends_nowhere, ends_at_cut}
 use Rattle.dz_reply.proofs.secure.secure_end.Goals as goal
+
+pub secure_alone-requires-clause-kinds : goal.secure_alone-requires-clause-kinds
+secure_alone-requires-clause-kinds c =
+    let zone = c.args.answer.now.version.now in
+    let is = rw c.in-Some.is at c.alone.ensures in
+    found_by_kind zone.apex zone.records c.args.name.now c.args.answer.now.frame.now.asked.now.question.kind
+    (meaning c.args.last.now) c.in-Some.records.now c.requires.rises c.requires.found is.0
+
+pub secure_records-requires-clause-kinds : goal.secure_records-requires-clause-kinds
+secure_records-requires-clause-kinds c =
+    let zone = c.args.answer.now.version.now in
+    found_by_kind zone.apex zone.records c.args.name.now c.args.answer.now.frame.now.asked.now.question.kind
+    (meaning c.args.last.now) c.in-Here.records.now c.requires.rises c.requires.found (ap meaning c.in-Here.is)
 
 pub returns-in-NoData : goal.returns-in-NoData
 returns-in-NoData c =

@@ -26,7 +26,7 @@ returns c =
     let one : c.count_secure_trail.result ≡ length trail % 65536 =
     rw c.is_bare.ensures at c.count_secure_trail.ensures.value in
     let two : c.count_secure_renamer.result ≡ length set % 65536 =
-    rw (c.is_bare.ensures, all) at c.count_secure_renamer.ensures.value in
+    rw all at c.count_secure_renamer.ensures.value in
     let count : (c.count_secure_trail.result + c.count_secure_renamer.result) % 65536 ≡ length s.answer % 65536 =
     omega (arith, one, two, length-append trail set) in
     ended_so tcp query s _ (c.finish.ensures (front_octets query s)
@@ -34,5 +34,5 @@ returns c =
     (rw (c.signed-authority.ensures, c.authority_stopped.ensures) at c.count.ensures.value) refl
     (rw c.bare.ensures at c.begin.ensures)
     (both_written query.name trail set _ _ _ (rw c.is_bare.ensures at c.put_secure_trail.ensures)
-    (rw (c.is_bare.ensures, all) at c.put_secure_renamer.ensures))
+    (rw all at c.put_secure_renamer.ensures))
     (rw (c.signed-authority.ensures, c.authority_stopped.ensures) at c.write.ensures) (none_written query.name _)))

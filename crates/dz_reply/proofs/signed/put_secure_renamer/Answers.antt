@@ -1,3 +1,4 @@
+use Rattle.std.specs.Prelude.{false}
 use Rattle.std.proofs.Common.{sym, ◌∙◌, ap, take}
 use Rattle.dz_header.specs.Writing.{also}
 use Rattle.dz_reply.specs.Layout.{entries_octets, entry}
@@ -10,7 +11,7 @@ pub returns-then-not-has_among : goal.returns-then-not-has_among
 returns-then-not-has_among c =
     let r = c.args.rr.now in
     cons_written c.args.signing.now.question.now (entry r.owner r.ttl r)
-    (beside c.args.signing.now.version.now.records c.args.signing.now.bare r.owner r) c.args.writer.now.writing _ _
+    (beside c.args.signing.now.version.now.records false r.owner r) c.args.writer.now.writing _ _
     (rw (c.owner_ref-owner.ensures, c.ttl.ensures) at c.put_entry.ensures)
     (rw c.owner_ref-owner.ensures at c.put_beside.ensures)
     ∙ ap (λ rs. also c.args.writer.now.writing (entries_octets c.args.signing.now.question.now rs))

@@ -1,6 +1,6 @@
 use Rattle.std.proofs.Common.{arith, ◌-◌, ◌∙◌, sym}
 use Rattle.dz_lookup.proofs.CountedLemmas.{searches_add, searches_more}
-use Rattle.dz_lookup.specs.Runs.{of_type, records_of}
+use Rattle.dz_runs.specs.Runs.{of_type, records_of}
 use Rattle.dz_secure.specs.Secure.{nsec_of}
 use Rattle.dz_secure.proofs.EvidenceLemmas.{own_gone, own_there}
 use Rattle.dz_secure.proofs.evidence.at_cut.Goals as goal

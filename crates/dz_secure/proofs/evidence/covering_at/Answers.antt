@@ -1,6 +1,6 @@
 use Rattle.std.proofs.Common.{◌≡◌, ◌∙◌, sym, ap, get_or}
 use Rattle.dz_record.specs.Record.{Record}
-use Rattle.dz_lookup.specs.Runs.{of_type, records_of}
+use Rattle.dz_runs.specs.Runs.{of_type, records_of}
 use Rattle.dz_secure.specs.Secure.{nsec_at}
 use Rattle.dz_secure.proofs.CoveringLemmas.{none_owner, last_one}
 use Rattle.dz_secure.proofs.evidence.covering_at.Goals as goal

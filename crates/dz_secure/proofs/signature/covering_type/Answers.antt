@@ -4,7 +4,7 @@ use Rattle.std.proofs.lemmas.Fn.{always_returns_same}
 use Rattle.dz_name.specs.Name.{label_order}
 use Rattle.dz_name.specs.Numbers.{two}
 use Rattle.dz_record.specs.Record.{Record}
-use Rattle.dz_lookup.proofs.RunLemmas.{points_rise, partitioned_lt, partitioned_le}
+use Rattle.dz_runs.proofs.RunLemmas.{points_rise, partitioned_lt, partitioned_le}
 use Rattle.dz_secure.proofs.SignatureLemmas.{covers_run}
 use Rattle.dz_secure.proofs.signature.covering_type.Goals as goal
 

@@ -1,4 +1,0 @@
-use Rattle.dz_lookup.proofs.runs.node_above.Given as goal
-
-abbrev pub ghosts-counted_near : goal.ghosts-counted_near
-ghosts-counted_near g a = record { name = a.blank.name; parts = a.blank.parts }

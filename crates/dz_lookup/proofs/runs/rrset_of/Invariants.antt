@@ -1,4 +1,0 @@
-use Rattle.dz_lookup.proofs.runs.rrset_of.Given as goal
-
-abbrev pub ghosts-counted_rrset : goal.ghosts-counted_rrset
-ghosts-counted_rrset a = record { name = a.blank.name; parts = a.blank.parts }

@@ -1,0 +1,4 @@
+pub mod InOrder
+pub mod NodeLemmas
+pub mod ParentLemmas
+pub mod RunLemmas
