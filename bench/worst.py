@@ -3,7 +3,7 @@
 
     worst.py [--catzd PROGRAM] [--before PROGRAM] [--queries 20] [--small]
 
-A zone has 250,000 addresses of one name, another a delegation to 125,000 name servers with an address each, a third a name
+A zone has 240,000 addresses of one name, another a delegation to 120,000 name servers with an address each, a third a name
 with 60,000 types, and a fourth a chain of 16 aliases and a delegation to 40 servers without addresses. They are taken and
 asked through `replay`, with an OPT record of 1,232 octets. Of what the process takes for so many queries that for as many
 REFUSED ones of the same length is taken away. Writing the hex of a longer reply is left. Over TCP the octets of the reply are
@@ -22,7 +22,7 @@ CATALOG, PRIMARY = "catalog.test.", "192.0.2.1"
 ANY = 255
 SIZE = 1232
 TYPES = 60_000
-MANY = 250_000
+MANY = 240_000
 POINTED = b"\xc0\x0c"  # the question's name
 APART = 16_000  # octets of records in a message, so that pointers to the question reach
 
@@ -73,8 +73,8 @@ def chains(many):
 
 # What is asked, the records, the name and the type.
 KINDS = (
-    ("250,000 addresses of a name", addresses, "a.", wire.A),
-    ("a delegation to 125,000 servers", cut, "x.cut.", wire.A),
+    ("240,000 addresses of a name", addresses, "a.", wire.A),
+    ("a delegation to 120,000 servers", cut, "x.cut.", wire.A),
     ("ANY of a name of 60,000 types", types, "t.", ANY),
     ("a chain of 16 aliases", chains, "c0.", wire.A),
     ("a delegation to 40 servers without addresses", chains, "x.cut.", wire.A),

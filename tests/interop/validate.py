@@ -126,7 +126,7 @@ def with_one_time(records):
 
 def without_times(records):
     """Records without their TTLs."""
-    return tuple(" ".join(field for at, field in enumerate(one.split()) if at != 1) for one in records)
+    return tuple(sorted(" ".join(field for at, field in enumerate(one.split()) if at != 1) for one in records))
 
 
 def delv(folder, name, kind):
