@@ -8,7 +8,7 @@
 #   make deb         makes out/catzd_VERSION_ARCHITECTURE.deb of what was built, a Debian package; builds nothing (dpkg-deb)
 #   make check-man   compares the man pages with the program's definitions
 #   make docs        makes docs/DEFINITIONS.md from the comments of the definitions
-#   make check-docs  finds in the repository what the documents link to and name
+#   make check-docs  finds in the repository what the documents link to and name, and compares the stored run with its theorems
 #   make bench       measures catzd and the servers that are installed (python3)
 #   make interop     compares replies with those of the servers that are installed (python3)
 #   make downstream  has the servers that are installed take zones from catzd (python3)
@@ -100,6 +100,7 @@ docs:
 
 check-docs:
 	$(PYTHON) tests/docs/check.py
+	$(PYTHON) tests/stored/compare.py
 
 bench:
 	$(PYTHON) bench/measure.py
