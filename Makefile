@@ -1,6 +1,7 @@
 # catzd: build, check, install. `make` needs a Rattle kit (`rt` in PATH); the rest needs what its line says.
 #
 #   make             proves and builds the program with `rt`, which repeats only what changed
+#   make demo        shows the program beside a primary with a catalog; compiles it without proofs if it wasn't built (python3)
 #   make check       the gate, `rt ci`: every proof, wrong bodies, tests, stored runs
 #   make install     installs what was built; builds nothing, and leaves an existing configuration alone
 #   make uninstall   removes what install put there, except the configuration
@@ -46,6 +47,9 @@ SCRIPTS = zonefile.py
 
 all:
 	cd crates/catzd && $(RT) run -- rehearse 10
+
+demo:
+	$(PYTHON) contrib/demo.py
 
 check:
 	$(RT) ci
@@ -129,4 +133,4 @@ check-limits:
 check-memory:
 	$(PYTHON) tests/memory/refused.py
 
-.PHONY: all check install uninstall dist deb check-man docs check-docs bench interop downstream validate producer signed kept check-limits check-memory
+.PHONY: all check install uninstall dist deb check-man docs check-docs bench interop downstream validate producer signed kept check-limits demo check-memory
